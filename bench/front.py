@@ -7,7 +7,7 @@ The parts are decisions, memory and slow; without any, all run. In each round ea
 128 clients, one server right after the other; the medians of the rounds are printed, and the ratios are medians of the ratios of
 each round. Clients keep their connections, but `rbac serve` closes each after its answer. The office is that of bench/lines.py,
 and the files are below FOLDER (default: /dev/shm, so a sync costs nothing). It needs Debian's packages nginx-light, slapd,
-ldap-utils, libldap-dev and gcc besides those of `bin/setup cluster`. bench/README.md has the figures.
+ldap-utils, libldap-dev and gcc besides those of `bin/setup`. bench/README.md has the figures.
 """
 
 import argparse

@@ -1,8 +1,10 @@
 /* An office of roles in this process: the library librbac.
  *
  * An office holds users, roles, permissions and sessions, as ANSI INCITS 359-2012 defines them. It lies in memory, and
- * no other process sees it. It answers the lines of docs/API.md exactly as `rbac replay --memory` does, and rbac_check
- * decides about access without a line. docs/EMBEDDING.md says when to use it, and what is proved about it.
+ * no other process sees it. It answers the lines of docs/API.md as `rbac replay --memory` does, but for two sorts: each line is
+ * answered, also one without anything but blanks, which a replay skips, and one of more than 65,536 bytes, which ends a replay.
+ * Both are refused with 34 BadRequest. rbac_check decides about access without a line. docs/EMBEDDING.md says when to use it,
+ * and what is proved about it.
  *
  * What a caller has to guarantee, since nothing checks it:
  *

@@ -1,73 +1,155 @@
-"""What tests need besides Python: how to see whether it is there, and the Debian packages that bring it. bin/test installs these."""
+"""What tests use besides Python: whether it is there, and the Debian packages that bring it, all of which tests/packages lists.
+
+A check says what it needs by a mark, `@pytest.mark.needs("go", "root")`, or amid its work by `skip`. A program that is missing
+when a check runs it is such a need too. A right has no package: nothing installs it.
+"""
 
 import os
 import shutil
 import subprocess
+import sys
+import sysconfig
+from collections.abc import Callable
 from functools import lru_cache
 from importlib.util import find_spec
 from pathlib import Path
+from typing import NamedTuple, NoReturn
 
+TOP = Path(__file__).resolve().parent.parent
 GOCODE = Path("/usr/share/gocode/src")
 
+# What bin/arm64 builds, if somebody runs it.
+PROGRAM_FOR_ARM64 = os.path.abspath(os.environ.get("RBAC_PROGRAM_ARM64", TOP / "out/arm64/rbac"))
 
-def program(name):
+
+class Need(NamedTuple):
+    """How to see whether it is there, and the packages that bring it."""
+
+    is_there: Callable[[], bool]
+    packages: str = ""
+
+
+def program(name: str) -> Callable[[], bool]:
     return lambda: shutil.which(name) is not None
 
 
-def folder(path):
-    return lambda: (GOCODE / path).is_dir()
+def library_of_go(path: str) -> Callable[[], bool]:
+    return (GOCODE / path).is_dir
+
+
+def module(name: str) -> Callable[[], bool]:
+    return lambda: find_spec(name) is not None
+
+
+def is_root() -> bool:
+    return os.geteuid() == 0
+
+
+def can_run(*words: str) -> bool:
+    return shutil.which(words[0]) is not None and subprocess.run(words, capture_output=True, check=False).returncode == 0
 
 
 @lru_cache
-def can_mount():
-    words = ["unshare", "--mount", "mount", "-t", "tmpfs", "tmpfs", "/mnt"]
-    return bool(shutil.which("unshare")) and subprocess.run(words, capture_output=True, check=False).returncode == 0
+def can_mount() -> bool:
+    """Whether this process may mount a file system that nobody else sees."""
+    return can_run("unshare", "--mount", "mount", "-t", "tmpfs", "tmpfs", "/mnt")
 
 
-def python_headers():
-    import sysconfig
+# The programs, by the package that brings each.
+PROGRAMS = {
+    "golang-go": "go", "gcc": "gcc cc", "g++": "g++ c++", "sqlite3": "sqlite3", "curl": "curl", "git": "git", "graphviz": "dot",
+    "etcd-server": "etcd", "etcd-client": "etcdctl",
+    "nodejs": "node", "node-typescript": "tsc", "default-jdk-headless": "javac", "maven": "mvn", "cargo": "cargo", "rustc": "rustc",
+    "pkgconf": "pkg-config", "black": "black", "mypy": "mypy", "clang-format": "clang-format", "valgrind": "valgrind",
+    "gcc-aarch64-linux-gnu": "aarch64-linux-gnu-gcc", "qemu-user-static": "qemu-aarch64-static",
+    "chromium": "chromium", "chromium-driver": "chromedriver", "poppler-utils": "pdftotext",
+    "openssl": "openssl", "strace": "strace", "psmisc": "fuser", "util-linux": "setpriv unshare findmnt", "mount": "mount", "iproute2": "ip",
+    "nginx-light": "nginx", "haproxy": "haproxy", "logrotate": "logrotate", "rsync": "rsync", "restic": "restic",
+    "minisign": "minisign", "btrfs-progs": "mkfs.btrfs", "e2fsprogs": "mkfs.ext4 chattr", "procps": "pgrep", "man-db": "man mandb apropos",
+    "groff": "groff", "mandoc": "mandoc", "systemd": "systemd-analyze", "systemd-container": "systemd-nspawn",
+    "dpkg-dev": "dpkg-buildpackage", "debhelper": "dh dh_installsysusers", "lintian": "lintian", "fish": "fish", "zsh": "zsh",
+    "binutils": "readelf strip", "buildah": "buildah", "podman": "podman", "bubblewrap": "bwrap",
+}  # fmt: skip
 
-    return Path(sysconfig.get_paths()["include"], "Python.h").is_file()
+NEEDS = {name: Need(program(name), package) for package, names in PROGRAMS.items() for name in names.split()} | {
+    "sqlite-go": Need(library_of_go("github.com/mattn/go-sqlite3"), "golang-github-mattn-go-sqlite3-dev libc6-dev"),
+    "crypto-go": Need(library_of_go("golang.org/x/crypto/sha3"), "golang-golang-x-crypto-dev"),
+    "jose-go": Need(library_of_go("gopkg.in/square/go-jose.v2/jwt"), "golang-gopkg-square-go-jose.v2-dev"),
+    "etcd-go": Need(
+        lambda: all(map(Path.is_dir, (GOCODE / "go.etcd.io/etcd/clientv3", GOCODE / "go.uber.org/zap", GOCODE / "golang.org/x/sync"))),
+        "golang-etcd-server-dev golang-go.uber-zap-dev golang-golang-x-sync-dev",
+    ),
+    "junit": Need(Path("/usr/share/java/junit-jupiter-api.jar").exists, "junit5"),
+    "python-headers": Need(lambda: Path(sysconfig.get_paths()["include"], "Python.h").is_file(), "python3-dev"),
+    "pip": Need(
+        lambda: can_run(sys.executable, "-c", "import setuptools, ensurepip, pip, venv, wheel"),
+        "python3-pip python3-venv python3-setuptools python3-wheel",
+    ),
+    "libc-of-arm64": Need(Path("/usr/aarch64-linux-gnu/include/stdio.h").exists, "libc6-dev-arm64-cross"),
+    "jsonschema": Need(module("jsonschema"), "python3-jsonschema"),
+    "openapi-specification": Need(Path("/usr/share/openapi-specification").is_dir, "openapi-specification python3-jsonschema"),
+    "OpenAPI::Client": Need(lambda: can_run("perl", "-MOpenAPI::Client", "-e", "1"), "libopenapi-client-perl"),
+    "selenium": Need(module("selenium"), "python3-selenium"),
+    # Rights, and what no package brings.
+    "root": Need(is_root),
+    "mounts": Need(can_mount),
+    "layers": Need(can_mount),
+    "boots": Need(can_mount),
+    "containers": Need(lambda: True),
+    # Files of an image belong to other users.
+    "users of images": Need(lambda: is_root() or can_run("buildah", "unshare", "true")),
+    "unchangeable files": Need(lambda: True),
+    "units of etcd": Need(Path("/usr/lib/systemd/system/etcd.service").exists, "etcd-server"),
+    "history": Need(lambda: True),
+    "program for arm64": Need(Path(PROGRAM_FOR_ARM64).is_file),
+    "library for arm64": Need(lambda: os.path.isfile(os.environ.get("RBAC_ARCHIVE_ARM64", ""))),
+}  # fmt: skip
+
+# What begins the reason of a skip that names a need.
+REASON = "needs "
 
 
-# Name: whether it is there, and the packages. A right has none: nothing installs it.
-NEEDS = {
-    "go": (program("go"), "golang-go"),
-    "sqlite-go": (folder("github.com/mattn/go-sqlite3"), "golang-github-mattn-go-sqlite3-dev libsqlite3-dev gcc libc6-dev"),
-    "crypto-go": (folder("golang.org/x/crypto/sha3"), "golang-golang-x-crypto-dev"),
-    "jose-go": (folder("gopkg.in/square/go-jose.v2/jwt"), "golang-gopkg-square-go-jose.v2-dev"),
-    "etcd-go": (folder("go.etcd.io/etcd/clientv3"), "golang-etcd-server-dev golang-go.uber-zap-dev golang-golang-x-sync-dev"),
-    "etcd": (program("etcd"), "etcd-server"),
-    "etcdctl": (program("etcdctl"), "etcd-client"),
-    "gcc": (program("gcc"), "gcc libc6-dev"),
-    "sqlite3": (program("sqlite3"), "sqlite3"),
-    "curl": (program("curl"), "curl"),
-    "node": (program("node"), "nodejs"),
-    "npm": (program("npm"), "npm"),
-    "tsc": (program("tsc"), "node-typescript"),
-    "javac": (program("javac"), "default-jdk-headless"),
-    "mvn": (program("mvn"), "maven"),
-    "junit": (Path("/usr/share/java/junit-jupiter-api.jar").exists, "junit5"),
-    "cargo": (program("cargo"), "cargo rustc"),
-    "rustc": (program("rustc"), "rustc"),
-    "python-headers": (python_headers, "python3-dev"),
-    "valgrind": (program("valgrind"), "valgrind"),
-    "chromium": (program("chromium"), "chromium"),
-    "chromedriver": (program("chromedriver"), "chromium-driver"),
-    "selenium": (lambda: find_spec("selenium") is not None, "python3-selenium"),
-    "pdftotext": (program("pdftotext"), "poppler-utils"),
-    "fish": (program("fish"), "fish"),
-    "zsh": (program("zsh"), "zsh"),
-    "mount": (can_mount, ""),
-    "root": (lambda: os.geteuid() == 0, ""),
-}
+@lru_cache
+def is_there(name: str) -> bool:
+    if name not in NEEDS:
+        raise ValueError(f"tests/needs.py doesn't know {name}")
+    return NEEDS[name].is_there()
 
 
-def lacking(names):
+def lacking(names) -> list[str]:
     """Those that are not there."""
-    return [name for name in names if not NEEDS[name][0]()]
+    return [name for name in names if not is_there(name)]
 
 
-if __name__ == "__main__":
-    # bin/test installs these.
-    print(*sorted({package for name in lacking(NEEDS) for package in NEEDS[name][1].split()}))
+def reason_of(names, why: str = "") -> str:
+    """The reason of a skip for want of these."""
+    return REASON + ", ".join(names) + (f": {why}" if why else "")
+
+
+def named_in(reason: str) -> list[str]:
+    """The needs that the reason of a skip names."""
+    return reason.removeprefix(REASON).partition(":")[0].split(", ") if reason.startswith(REASON) else []
+
+
+def avoidable(reason: str) -> str:
+    """How a skip for this reason can be avoided; nothing if it is for want of a right."""
+    names = named_in(reason)
+    if not names or not NEEDS.keys() >= set(names):
+        return "tests/needs.py knows no such reason"
+    packages = sorted({package for name in names for package in NEEDS[name].packages.split()})
+    return f"apt-get install {' '.join(packages)}" if packages else ""
+
+
+def skip(need: str, why: str = "") -> NoReturn:
+    """Skips the check that runs, for want of something."""
+    import pytest
+
+    if need not in NEEDS:
+        raise ValueError(f"tests/needs.py doesn't know {need}")
+    pytest.skip(reason_of([need], why))
+
+
+def skip_without(*names: str) -> None:
+    """Skips the check that runs unless all of these are there."""
+    for name in lacking(names):
+        skip(name)

@@ -4,9 +4,32 @@
 # then the same one again. Two are of `role_wire`: lines are replayed and a request is served on an office in memory.
 # They are in the crate `refused_tests`.
 
-# The built tests of the crate, which `rt ci` leaves there, are the program.
-RBAC_PROGRAM=$(dirname "$0")/../crates/refused_tests/out/refused_tests_tests
-. "$(dirname "$0")/common"
+set -u
+tests=$(cd "$(dirname "$0")" && pwd) || exit 1
+# The built tests of the crate, which `rt ci` leaves there.
+program=$tests/../crates/refused_tests/out/refused_tests_tests
+work=$(mktemp -d) || exit 1
+trap 'rm -rf "$work"' EXIT
+trap 'exit 1' HUP INT TERM
+passed=0
+failed=0
+
+pass() {
+    passed=$((passed + 1))
+}
+
+# fail WHAT: counts a failure, and prints what failed.
+fail() {
+    failed=$((failed + 1))
+    echo "FAILED: $1"
+}
+
+# finish: prints the count as the last line, and ends with a status that is not 0 if anything failed.
+finish() {
+    echo "$passed passed, $failed failed"
+    [ "$failed" -eq 0 ]
+    exit
+}
 
 # More allocations than a test makes.
 most=100000
@@ -50,6 +73,7 @@ refuse_each() {
     fi
 }
 
+[ -x "$program" ] || { fail "there is no program $program"; finish; }
 make_shim
 # The commands, and what is shown of the state between them, make about 800 allocations.
 refuse_each commands::refused_memory_changes_nothing 700

@@ -1,4 +1,4 @@
-# Completions of rbac for bash. tests/package.py compares them with the sources of the command line.
+# Completions of rbac for bash. tests/commands compares them with the sources of the command line.
 
 _rbac() {
     local word=${COMP_WORDS[COMP_CWORD]} before=${COMP_WORDS[COMP_CWORD - 1]} given=

@@ -1,4 +1,4 @@
-# Completions of rbac for fish. tests/package.py compares them with the sources of the command line.
+# Completions of rbac for fish. tests/commands compares them with the sources of the command line.
 
 complete -c rbac -n __fish_use_subcommand -f
 complete -c rbac -n __fish_use_subcommand -a init -d 'Create an empty office'

@@ -11,19 +11,24 @@ import os
 import re
 from collections import Counter
 
+import pytest
+
 from machine.replaying import Replay
 from machine.state import State
-from program.bench import TESTS, Done
+from program.bench import TESTS, Done, beside
 from program.offices import STORE, Office
 from program.web import reply
-from stopped.running import beside
 from stopped.serving import replies_of, reply_of, request_of
 from stopped.shim import Shim
 from stopped.stories import LINES, REFUSED, judge_office, lay, replay_story, small_office, story_named
 
 STORIES = ["init", "replay", "import", "export", "report", "check", "migrate"]
 
-ROWS = sorted(path for path in (TESTS / "rows").rglob("*.jsonl") if path.parent.name != "version-1")
+ROWS = [
+    str(path.relative_to(TESTS))
+    for path in sorted((TESTS / "rows").rglob("*.jsonl"))
+    if path.parent.name != "version-1"
+]
 
 # How many parts share the allocations of a subcommand or a server. The most allocations that all parts try, and the most
 # of a row: over an office in memory, and over one in a file of those by which it is opened, which are the same for each
@@ -48,6 +53,35 @@ STOP = re.compile(rb"rbac: stop (Memory|Store) after (\d+)\n")
 
 # What else a server prints if one of its allocations failed.
 SERVER_LINES = [b"rbac: cannot listen\n", b"rbac: cannot accept\n", b"rbac: closed\n"]
+
+
+def most_of(bench, kind):
+    """The most allocations that are tried of one kind."""
+    return (MORE_TRIED if bench.is_long else TRIED)[kind]
+
+
+def size_of(row):
+    """The bytes of a row."""
+    return (TESTS / row).stat().st_size
+
+
+def long_rows(rows):
+    """These rows as parameters, the longer ones for `--long` only."""
+    for row in rows:
+        yield pytest.param(row, marks=[pytest.mark.long] if size_of(row) > LONG_ROW else [])
+
+
+def rows_over_file():
+    """The rows that are replayed to their ends: all without a file for another status."""
+    yield from long_rows(row for row in ROWS if not (TESTS / row).with_suffix(".status").exists())
+
+
+def rows_in_memory():
+    """The rows, each as one check, or several of those of which each allocation is tried."""
+    for param in long_rows(ROWS):
+        parts = PARTS if param.values[0] in WHOLE_ROWS else 1
+        for part in range(parts):
+            yield pytest.param(param.values[0], part, parts, marks=param.marks)
 
 
 class Refuser(Shim):
@@ -137,10 +171,12 @@ def end_of(done):
     return re.sub(r" after \d+", "", done.err.decode().strip()) or "status 0"
 
 
-def refuse_subcommand(bench, name, part, most):
+@pytest.mark.parametrize("part", range(PARTS))
+@pytest.mark.parametrize("name", STORIES)
+def check_refuse_subcommand(bench, name, part):
     """Refuses a part of the allocations of a subcommand over a small office."""
     content, story = story_named(bench, name, beside(bench, "records.csv"))
-    return refuse_over_file(bench, name, content, story, lambda count: tried(count, most, part, PARTS))
+    return refuse_over_file(bench, name, content, story, lambda count: tried(count, most_of(bench, "subcommand"), part, PARTS))
 
 
 def allocations_of_opening(bench, content):
@@ -154,14 +190,15 @@ def allocations_of_opening(bench, content):
     return number_of_allocations(is_of_opening)
 
 
-def refuse_row_over_file(bench, row, of_opening, most):
+@pytest.mark.parametrize("row", rows_over_file())
+def check_refuse_row_over_file(bench, row):
     """Refuses allocations of a replay of a row over a new office in a file: of those that open it, and of later ones."""
     office, model, lines = Office(bench, "office"), Replay(), []
     for line in re.findall(rb"[^\n]*\n|[^\n]+", (TESTS / row).read_bytes()):
         if list(model.answers(line)):
             lines.append(line)
-    if model.stop is not None:
-        return {"rows that stop": 1}
+    is_short = size_of(row) <= LONG_ROW
+    of_opening, most = (most_of(bench, "opening"), most_of(bench, "file")) if is_short else (0, OF_LONG_ROW)
     with open(office.path, "rb") as file:
         content = file.read()
     opening = allocations_of_opening(bench, content)
@@ -174,10 +211,12 @@ def refuse_row_over_file(bench, row, of_opening, most):
     return counts
 
 
-def refuse_row_in_memory(bench, row, most, part=0, parts=1):
+@pytest.mark.parametrize("row, part, parts", rows_in_memory())
+def check_refuse_row_in_memory(bench, row, part, parts):
     """Refuses a part of the allocations of a replay of a row over an office in memory."""
     refuser, model, counts, noticed = Refuser(bench), Replay(), Counter(), 0
     given = (TESTS / row).read_bytes()
+    most = MOST if row in WHOLE_ROWS else most_of(bench, "memory") if size_of(row) <= LONG_ROW else OF_LONG_ROW
     whole = Done(b"".join(model.answers(given)), model.message(), 1 if model.stop else 0)
 
     def run(number):
@@ -216,7 +255,8 @@ def judge_server(bench, what, wanted, replies, done):
     return places
 
 
-def refuse_server(bench, part, most):
+@pytest.mark.parametrize("part", range(PARTS))
+def check_refuse_server(bench, part):
     """Serves one request with one allocation failing, for a part of the allocations that the server makes."""
     content, state = small_office(bench)
     story = replay_story(state, LINES[:1])
@@ -231,7 +271,7 @@ def refuse_server(bench, part, most):
         return path, *found
 
     count = number_of_allocations(lambda number: run(number) and refuser.report is not None)
-    for number in tried(count, most, part, PARTS):
+    for number in tried(count, most_of(bench, "subcommand"), part, PARTS):
         path, replies, done = run(number)
         what = f"serve, allocation {number} of {count} refused"
         bench.same(f"{what}: it was asked for", refuser.report, "")
@@ -241,21 +281,3 @@ def refuse_server(bench, part, most):
         judge_office(bench, what, story, path, places)
         counts["allocations refused to a server"] += 1
     return counts
-
-
-def jobs(is_long):
-    """Each subcommand, each row over both kinds of offices, and a server."""
-    most = MORE_TRIED if is_long else TRIED
-    found = [(refuse_subcommand, name, part, most["subcommand"]) for name in STORIES for part in range(PARTS)]
-    found += [(refuse_server, part, most["subcommand"]) for part in range(PARTS)]
-    for path in ROWS:
-        row, size = str(path.relative_to(TESTS)), path.stat().st_size
-        if row in WHOLE_ROWS:
-            found += [(refuse_row_in_memory, row, MOST, part, PARTS) for part in range(PARTS)]
-        elif size <= LONG_ROW:
-            found += [(refuse_row_in_memory, row, most["memory"])]
-        if size <= LONG_ROW:
-            found += [(refuse_row_over_file, row, most["opening"], most["file"])]
-        elif is_long:
-            found += [(refuse_row_in_memory, row, OF_LONG_ROW), (refuse_row_over_file, row, 0, OF_LONG_ROW)]
-    return found

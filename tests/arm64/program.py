@@ -4,21 +4,16 @@ import os
 import subprocess
 from pathlib import Path
 
+import pytest
+
+from needs import PROGRAM_FOR_ARM64
 from program.bench import PROGRAM
 
-from . import QEMU, has_qemu
+from . import QEMU
 
 TOP = Path(__file__).resolve().parent.parent.parent
-FOR_ARM64 = os.path.abspath(os.environ.get("RBAC_PROGRAM_ARM64", TOP / "out/arm64/rbac"))
+FOR_ARM64 = PROGRAM_FOR_ARM64
 ROWS = ["examples/first", "examples/bank"]
-
-
-def is_there():
-    """Returns whether the program can be run; otherwise it says that it is left out."""
-    if os.path.isfile(FOR_ARM64) and has_qemu():
-        return True
-    print("left out: the program for arm64, since bin/arm64 has not built it or qemu-user-static is not installed")
-    return False
 
 
 def ran(words, given=b""):
@@ -60,10 +55,9 @@ def packages(bench):
     bench.judge("the program", [] if packed.stdout == Path(FOR_ARM64).read_bytes() else ["it differs"])
 
 
+@pytest.mark.needs("program for arm64", "qemu-aarch64-static")
 def check_program(bench):
     """Rows in memory, an office in a file, and the package."""
-    if not is_there():
-        return
     rows(bench)
     file(bench)
     if os.path.isfile(f"{os.path.dirname(FOR_ARM64)}/manifest"):

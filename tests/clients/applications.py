@@ -14,8 +14,10 @@ from program.bench import SECONDS, TESTS
 from program.offices import Office
 from program.web import HOST
 
+import pytest
+
 from .client import PATIENT, office_at, outcome, rbac
-from .driving import JAVA, KEYS, go_environment, installed
+from .driving import FRONT, JAVA, KEYS, NAMES, go_environment
 
 # The example in Go is built on the disk: a file system in memory may forbid running programs.
 ON_DISK = True
@@ -151,7 +153,9 @@ def visits(bench, app, office):
     bench.same("after the logouts", [app.visit("/vault", one)[0] for one in (ann, again, erin)], [401, 401, 403])
 
 
-def an_application(bench, name):
+@pytest.mark.needs(*FRONT)
+@pytest.mark.parametrize("name", [one for one in NAMES if one.values[0] in APPS])
+def check_an_application(bench, name):
     """An application over the front, with a token and TLS; and what it shows if the office doesn't answer any more."""
     office = Office(bench)
     office.replay(BANK)
@@ -171,8 +175,3 @@ def an_application(bench, name):
             front.kill()
             bench.same("after the front has ended", app.visit("/vault", ann)[0], 503)
     bench.same("what `check` prints", bench.run(["check", office.path]).out, b"good\n")
-
-
-JOBS = []
-if shutil.which("go") and shutil.which("openssl"):
-    JOBS = [(an_application, name) for name in installed() if name in APPS]

@@ -1,15 +1,17 @@
 """The clients as packages: what bin/clients writes, their form, what compilers and checkers find, and how they are installed."""
 
+import json
 import os
 import re
 import shutil
 import subprocess
-import sys
 from pathlib import Path
 
 from program.bench import TESTS
 from program.offices import small_office
 from program.web import HOST, Server
+
+import pytest
 
 from .driving import DRIVERS, ROOT, go_environment
 
@@ -108,15 +110,7 @@ def run(*words, cwd=None, env=None, seconds=600):
     return done.returncode, done.stdout
 
 
-def without(program, what):
-    """Whether a program is missing. Then a line says what isn't checked."""
-    if shutil.which(program):
-        return False
-    print(f"skipped: {what}, since there is no {program}")
-    return True
-
-
-def written(bench):
+def check_written(bench):
     """bin/clients would change nothing, and the versions of the packages are that of the program."""
     bench.same("bin/clients --check", run(ROOT / "bin/clients", "--check"), (0, ""))
     bench.same("bin/clients with another argument", run(ROOT / "bin/clients", "--all")[0], 2)
@@ -124,30 +118,36 @@ def written(bench):
     for name, pattern in VERSIONS.items():
         found = re.findall(pattern, (ROOT / name).read_text(encoding="utf-8"), re.M)
         bench.same(f"the version in {name}", found, [version])
+    for folder in PACKAGES:
+        bench.same(f"the licence of {folder}", (ROOT / folder / "LICENSE").read_bytes(), (ROOT / "LICENSE").read_bytes())
+        bench.same(f"the page of {folder}", (ROOT / folder / "README.md").is_file(), True)
 
+
+# The folders that are packages of their own, with a licence and a page.
+PACKAGES = ["clients/python", "clients/javascript", "clients/java", "clients/go/rbacclient", "clients/rust/rbac_office"]
 
 VERSIONS = {
     "clients/python/pyproject.toml": r'^version = "(.*)"$',
+    "clients/python/rbac_client/__init__.py": r'^__version__ = "(.*)"$',
+    "clients/rust/rbac_office/Cargo.toml": r'^version = "(.*)"$',
     "clients/javascript/package.json": r'^  "version": "(.*)",$',
     "clients/java/pom.xml": r"^  <version>(.*)</version>$",
 }
 
 
-def python_form(bench):
+@pytest.mark.needs("mypy", "black")
+def check_python_form(bench):
     """mypy finds nothing with --strict, and black changes nothing."""
-    if not without("mypy", "the types of the client in Python"):
-        for words in (["rbac_client"], [ROOT / "bin/clients"]):
-            found = run("mypy", "--strict", "--cache-dir", bench.path("types"), *words, cwd=PYTHON)
-            bench.same("what mypy finds", (found[0], found[1].partition(":")[0]), (0, "Success"))
-    if not without("black", "the form of the client in Python"):
-        sources = [PYTHON / "rbac_client", ROOT / "bin/clients", TESTS / "clients", ROOT / "examples/web/app.py"]
-        bench.same("what black would change", run("black", "-q", "--check", "-l", WIDTH, *sources), (0, ""))
+    for words in (["rbac_client"], [ROOT / "bin/clients"]):
+        found = run("mypy", "--strict", "--cache-dir", bench.path("types"), *words, cwd=PYTHON)
+        bench.same("what mypy finds", (found[0], found[1].partition(":")[0]), (0, "Success"))
+    sources = [PYTHON / "rbac_client", PYTHON / "tests", ROOT / "bin/clients", TESTS / "clients", ROOT / "examples/web/app.py"]
+    bench.same("what black would change", run("black", "-q", "--check", "-l", WIDTH, *sources), (0, ""))
 
 
-def go_form(bench):
+@pytest.mark.needs("go")
+def check_go_form(bench):
     """gofmt changes nothing, and `go vet` finds nothing in the client, its driver and its example."""
-    if without("go", "the form of the client in Go"):
-        return
     for folder in (GO, DRIVERS / "go", ROOT / "examples/web/go", ROOT / "bench/clients/go"):
         bench.same(f"what gofmt would change in {folder.name}", run("gofmt", "-l", ".", cwd=folder), (0, ""))
         bench.same(f"what go vet finds in {folder.name}", run("go", "vet", "./...", cwd=folder, env=go_environment()), (0, ""))
@@ -164,12 +164,10 @@ def asked(bench, what, *command, **more):
         bench.same(what, (status, said.splitlines(keepends=True)[-1:]), (0, [PRINTED]))
 
 
-def python_installed(bench):
+@pytest.mark.needs("mypy", "pip")
+def check_python_installed(bench):
     """pip installs the client into a new environment, without a network, and its types come with it."""
-    python = next((one for one in (sys.executable, "/usr/bin/python3") if can_install(one)), None)
-    if python is None:
-        print("skipped: the installation of the client in Python: pip, venv, setuptools or wheel is missing")
-        return
+    python = "/usr/bin/python3"
     folder = bench.folder.parent
     shutil.copytree(PYTHON, folder / "source", ignore=shutil.ignore_patterns("build", "*.egg-info", "__pycache__"))
     done = run(python, "-m", "venv", "--system-site-packages", "new", cwd=folder)
@@ -180,20 +178,13 @@ def python_installed(bench):
     (folder / "asking.py").write_text(ASKING["python"], encoding="utf-8")
     clean = {name: value for name, value in os.environ.items() if name != "PYTHONPATH"}
     asked(bench, "the installed client in Python", own, "asking.py", cwd=folder, env=clean)
-    if not without("mypy", "the types of the installed client"):
-        found = run("mypy", "--strict", "--python-executable", own, "--cache-dir", "types", "asking.py", cwd=folder, env=clean)
-        bench.same("what mypy finds in a program that uses it", (found[0], found[1].partition(":")[0]), (0, "Success"))
+    found = run("mypy", "--strict", "--python-executable", own, "--cache-dir", "types", "asking.py", cwd=folder, env=clean)
+    bench.same("what mypy finds in a program that uses it", (found[0], found[1].partition(":")[0]), (0, "Success"))
 
 
-def can_install(python):
-    """Whether a Python has what an installation needs."""
-    return bool(shutil.which(python)) and run(python, "-c", "import setuptools, ensurepip, pip, venv, wheel")[0] == 0
-
-
-def go_installed(bench):
+@pytest.mark.needs("go")
+def check_go_installed(bench):
     """A new module gets the client by a replace, without a network."""
-    if without("go", "the installation of the client in Go"):
-        return
     folder = bench.folder.parent / "app"
     folder.mkdir()
     (folder / "main.go").write_text(ASKING["go"], encoding="utf-8")
@@ -209,10 +200,9 @@ def go_installed(bench):
     asked(bench, "the installed client in Go", folder / "asking")
 
 
-def typescript_form(bench):
+@pytest.mark.needs("tsc")
+def check_typescript_form(bench):
     """tsc finds nothing with --strict, and would write the declarations that are there: those that index.d.ts leads to."""
-    if without("tsc", "the types of the client for Node"):
-        return
     bench.same("what tsc finds", run("tsc", "-p", NODE, "--outDir", bench.path("types")), (0, ""))
     written = {path.name: path.read_text(encoding="utf-8") for path in (bench.folder / "types").iterdir()}
     present = {path.name: path.read_text(encoding="utf-8") for path in (NODE / "types").iterdir()}
@@ -225,10 +215,12 @@ def typescript_form(bench):
     bench.same("the declarations", present, {name: written[name] for name in reached})
 
 
-def javascript_form(bench):
+def check_javascript_form(bench):
     """The sources in JavaScript have the form that the rest has, since Debian has no formatter that reads them."""
     sources = [
         *(NODE / "src").glob("*.js"),
+        *(NODE / "test").glob("*.js"),
+        *(NODE / "testing").glob("*.js"),
         ROOT / "examples/web/app.mjs",
         DRIVERS / "driver.mjs",
         ROOT / "bench/clients/decide.mjs",
@@ -265,11 +257,10 @@ def faults_of_form(text):
             before = indent
 
 
-def java_form(bench):
+@pytest.mark.needs("clang-format")
+def check_java_form(bench):
     """clang-format changes nothing in the sources in Java that were written by hand."""
-    if without("clang-format", "the form of the sources in Java"):
-        return
-    sources = [*(JAVA / "src/main/java/rbac/client").glob("*.java"), ROOT / "examples/web/App.java"]
+    sources = [*(JAVA / "src").rglob("*.java"), ROOT / "examples/web/App.java"]
     sources += [DRIVERS / "Driver.java", ROOT / "bench/clients/Decide.java"]
     sources = [source for source in sources if source.name != "Functions.java"]
     style = f"--style=file:{JAVA}/.clang-format"
@@ -277,39 +268,43 @@ def java_form(bench):
     bench.same("what clang-format would change", (found[0], found[1][:500]), (0, ""))
 
 
-def node_installed(bench):
-    """npm packs the client, and installs it into a new folder without a network. TypeScript finds its types there."""
-    if without("npm", "the installation of the client for Node"):
-        return
+# What npm puts into a package besides the files that package.json names.
+ALWAYS = ("package.json", "README.md", "LICENSE")
+
+
+@pytest.mark.needs("node", "tsc")
+def check_node_installed(bench):
+    """The files that package.json names are enough, in a folder as npm installs them. TypeScript finds the types there."""
     folder = bench.folder.parent / "app"
-    folder.mkdir()
-    environment = {**os.environ, "npm_config_cache": bench.path("cache"), "npm_config_offline": "true"}
-    environment |= {"npm_config_audit": "false", "npm_config_fund": "false", "npm_config_update_notifier": "false"}
-    status, said = run("npm", "pack", "--silent", NODE, cwd=folder, env=environment)
-    bench.same("npm pack", status, 0)
+    own = folder / "node_modules/rbac-client"
+    own.mkdir(parents=True)
+    about = json.loads((NODE / "package.json").read_text(encoding="utf-8"))
+    for name in (*ALWAYS, *about["files"]):
+        source = NODE / name
+        (shutil.copytree if source.is_dir() else shutil.copy)(source, own / name)
+    bench.same("what it depends on", [key for key in about if key.lower().endswith("dependencies")], [])
     (folder / "package.json").write_text('{"name": "app", "private": true, "type": "module"}', encoding="utf-8")
-    bench.same("npm install", run("npm", "install", "--silent", folder / said.split()[-1], cwd=folder, env=environment)[0], 0)
     (folder / "asking.ts").write_text(ASKING["typescript"], encoding="utf-8")
-    if without("tsc", "the types of the installed client"):
-        return
     words = ["--strict", "--module", "node16", "--moduleResolution", "node16", "--target", "es2022", "--lib", "es2022"]
     bench.same("what tsc finds in a program that uses it", run("tsc", *words, "asking.ts", cwd=folder), (0, ""))
     asked(bench, "the installed client for Node", "node", "asking.js", cwd=folder)
 
 
-def java_installed(bench):
-    """Maven builds and installs the client from Debian's repository, without a network, and javac finds it there."""
-    if without("mvn", "the installation of the client in Java") or without("javac", "the client in Java"):
-        return
-    if not (MAVEN / "org/apache/maven/plugins/maven-jar-plugin").is_dir():
-        print("skipped: the installation of the client in Java: Debian's plugins of Maven are missing")
-        return
+def maven(folder, *words):
+    """Runs Maven in a folder beside a repository that has what Debian has, without a network."""
+    if not (folder.parent / "repository").exists():
+        shutil.copytree(MAVEN, folder.parent / "repository", symlinks=False, copy_function=os.symlink)
+        settings = f"<settings><localRepository>{folder.parent}/repository</localRepository><offline>true</offline></settings>"
+        (folder.parent / "settings.xml").write_text(settings, encoding="utf-8")
+    return run("mvn", "-o", "-q", "-B", "-s", "../settings.xml", *words, cwd=folder)
+
+
+@pytest.mark.needs("mvn", "javac", "junit")
+def check_java_installed(bench):
+    """Maven builds and installs the client from Debian's repository, and javac finds it there. Its tests are run by tests/native."""
     folder = bench.folder.parent
     shutil.copytree(JAVA, folder / "source", ignore=shutil.ignore_patterns("target"))
-    shutil.copytree(MAVEN, folder / "repository", symlinks=False, copy_function=os.symlink)
-    settings = f"<settings><localRepository>{folder}/repository</localRepository><offline>true</offline></settings>"
-    (folder / "settings.xml").write_text(settings, encoding="utf-8")
-    status, said = run("mvn", "-o", "-q", "-B", "-s", "../settings.xml", "-Dmaven.test.skip=true", "install", cwd=folder / "source")
+    status, said = maven(folder / "source", "-Dmaven.test.skip=true", "install")
     bench.judge("mvn install", [] if status == 0 else [said[-2000:]])
     version = (ROOT / "VERSION").read_text(encoding="utf-8").strip()
     own = folder / f"repository/rbac/rbac-client/{version}/rbac-client-{version}.jar"
@@ -317,17 +312,3 @@ def java_installed(bench):
     words = ["javac", "-Xlint:all", "-Werror", "--release", "11", "-cp", own, "Asking.java"]
     bench.same("what javac finds in a program that uses it", run(*words, cwd=folder), (0, ""))
     asked(bench, "the installed client in Java", "java", "-cp", f"{own}:.", "Asking", cwd=folder)
-
-
-JOBS = [
-    (written,),
-    (python_form,),
-    (go_form,),
-    (typescript_form,),
-    (javascript_form,),
-    (java_form,),
-    (python_installed,),
-    (go_installed,),
-    (node_installed,),
-    (java_installed,),
-]

@@ -16,13 +16,15 @@ Each line of a driver's input is an object with the key `do`, and each line of i
 
 import json
 import os
-import shutil
 import subprocess
 import sys
 from pathlib import Path
 
+import pytest
+
 from machine.commands import COMMANDS
 from machine.questions import QUESTIONS
+from needs import lacking
 from program.bench import SECONDS, TESTS
 
 ROOT = TESTS.parent
@@ -56,28 +58,26 @@ def build_java(folder):
 # Java, without what a short run doesn't need. Its log has a line for each message.
 JAVA = ["java", "-XX:TieredStopAtLevel=1", "-XX:+UseSerialGC", "-Djava.util.logging.SimpleFormatter.format=%5$s%n"]
 
-# What each client needs, what builds its driver into a folder, and what starts it.
+# What each client needs, if not Python alone, what builds its driver into a folder, and what starts it.
 CLIENTS = {
-    "python": ("python3", None, lambda folder: [sys.executable, DRIVERS / "driver.py", "sync"]),
-    "asyncio": ("python3", None, lambda folder: [sys.executable, DRIVERS / "driver.py", "async"]),
+    "python": (None, None, lambda folder: [sys.executable, DRIVERS / "driver.py", "sync"]),
+    "asyncio": (None, None, lambda folder: [sys.executable, DRIVERS / "driver.py", "async"]),
     "go": ("go", build_go, lambda folder: [f"{folder}/go-driver", json.dumps(KEYS)]),
     "node": ("node", None, lambda folder: ["node", DRIVERS / "driver.mjs", json.dumps(KEYS)]),
     "java": ("javac", build_java, lambda folder: [*JAVA, "-cp", f"{folder}/java", "Driver", json.dumps(KEYS)]),
 }
 
 
-def installed():
-    """The clients whose languages are installed."""
-    return [name for name, (program, _, _) in CLIENTS.items() if shutil.which(program)]
+# The clients as parameters, and what a check of the front needs.
+NAMES = [pytest.param(name, marks=pytest.mark.needs(*filter(None, [need]))) for name, (need, _, _) in CLIENTS.items()]
+FRONT = ("go", "gcc", "sqlite-go", "crypto-go")
 
 
 def build(folder):
-    """Builds the drivers into a folder, and prints a line for each client that can't be tested here."""
+    """Builds the drivers into a folder, if their languages are there."""
     os.environ[BUILT] = str(folder)
-    for name, (program, builder, _) in CLIENTS.items():
-        if not shutil.which(program):
-            print(f"skipped: the client in {name}, since there is no {program}")
-        elif builder:
+    for need, builder, _ in CLIENTS.values():
+        if builder and not lacking([need]):
             builder(folder)
 
 

@@ -37,7 +37,7 @@ def later(seconds, call, *given):
     timer.start()
 
 
-def classes_of_errors(bench):
+def check_classes_of_errors(bench):
     """Each error is of the class `Error`, states whether a command may have been done, and can be pickled."""
     refused = rbac.Refused(24, "StaticSeparation", {"set": "pay"})
     errors = {rbac.Unanswered: True, rbac.Unreachable: False, rbac.Unexpected: True}
@@ -51,14 +51,14 @@ def classes_of_errors(bench):
     bench.same("the refusals after which a command may be done", codes, {41, 60, 61})
 
 
-def no_server(bench):
+def check_no_server(bench):
     """If nobody listens, nothing is done and no access is allowed."""
     client = office_at(free_port())
     of_class(bench, "a decision", lambda: client.check_access(*CHECK), rbac.Unreachable, False)
     of_class(bench, "a command", lambda: client.add_user("eve"), rbac.Unreachable, False)
 
 
-def busy_server(bench):
+def check_busy_server(bench):
     """A server that another client holds up executes the command of a client that has left, and then the next one."""
     office = small_office(bench)
     with Server(bench, office.path, 6) as server:
@@ -76,7 +76,7 @@ def busy_server(bench):
     office.compare_with_model()
 
 
-def killed_server(bench):
+def check_killed_server(bench):
     """A server that is killed before it answers leaves the call unanswered, and the next one without a server."""
     office = small_office(bench)
     with Server(bench, office.path, 2) as server:
@@ -88,7 +88,7 @@ def killed_server(bench):
         of_class(bench, "a decision after it", lambda: client.check_access(*CHECK), rbac.Unreachable, False)
 
 
-def full_store(bench):
+def check_full_store(bench):
     """If the store fails, a server answers 41 Store and a child nothing. Both end, and the command may have been done."""
     path, port = small_office(bench).path, free_port()
     # The office has fewer bytes, and the log needs more, whether the shell counts blocks of 512 bytes or of 1,024.
@@ -107,7 +107,7 @@ def full_store(bench):
         of_class(bench, "a decision by lines after it", lambda: client.check_access(*CHECK), rbac.Unreachable, False)
 
 
-def stopped_child(bench):
+def check_stopped_child(bench):
     """A child that does not answer in time is killed, so that no later call gets its answer."""
     office = small_office(bench)
     with lines_of(office.path) as client:
@@ -122,7 +122,7 @@ def stopped_child(bench):
     office.compare_with_model()
 
 
-def killed_child(bench):
+def check_killed_child(bench):
     """A child that is killed during a call leaves it unanswered. One that has ended before a call can't be reached."""
     path = small_office(bench).path
     with lines_of(path) as client:
@@ -140,7 +140,7 @@ def killed_child(bench):
         of_class(bench, "a decision after the end", lambda: client.check_access(*CHECK), rbac.Unreachable, False)
 
 
-def no_office(bench):
+def check_no_office(bench):
     """A child that can't open its office answers nothing."""
     quiet = ["sh", "-c", 'exec "$@" 2> /dev/null', "sh", PROGRAM]
     with rbac.Lines([*quiet, "replay", bench.path("nothing")], PATIENT) as client:
@@ -162,7 +162,7 @@ def raised_by_start():
     return None
 
 
-def unsendable(bench):
+def check_unsendable(bench):
     """What can't be sent raises ValueError before anything is sent, and the client still works."""
     office = small_office(bench)
     with lines_of(office.path) as client:
@@ -186,7 +186,7 @@ def unsendable(bench):
     office.compare_with_model()
 
 
-def refusals(bench):
+def check_refusals(bench):
     """Refusals with a further key, and names of unusual characters, are those of the plain model."""
     office = small_office(bench)
     names = ['a"b\\c', "é\u2028\ufeff\x85", "\U0001f600 x", " ", "/", "\x7f", "a\nb", "n" * 64, "n" * 65, "é" * 33]
@@ -216,7 +216,7 @@ def refusals(bench):
     office.compare_with_model()
 
 
-def shared_by_threads(bench):
+def check_shared_by_threads(bench):
     """Threads that share a client each get their own answers."""
     path = small_office(bench).path
     users = {f"user {number}": f"role {number}" for number in range(8)}
@@ -245,7 +245,7 @@ def shared_by_threads(bench):
         server.ends()
 
 
-def shared_by_processes(bench):
+def check_shared_by_processes(bench):
     """A forked process can't use the child of its parent process, which can still use it."""
     with lines_of(small_office(bench).path) as client:
         bench.same("a decision before", raised(client.check_access, *CHECK), True)
@@ -254,19 +254,3 @@ def shared_by_processes(bench):
             os._exit(0 if raised(client.check_access, *CHECK) == "Unreachable" else 1)
         bench.same("what the forked process gets", os.waitpid(process, 0)[1], 0)
         bench.same("a decision after", raised(client.check_access, *CHECK), True)
-
-
-JOBS = [
-    (full_store,),
-    (busy_server,),
-    (stopped_child,),
-    (killed_server,),
-    (killed_child,),
-    (shared_by_threads,),
-    (shared_by_processes,),
-    (refusals,),
-    (unsendable,),
-    (no_office,),
-    (no_server,),
-    (classes_of_errors,),
-]

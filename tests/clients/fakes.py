@@ -1,13 +1,13 @@
 """Servers that send chosen answers, and wrong answers."""
 
-import gzip
+import json
 import socket
 import ssl
 import struct
 import threading
 import time
 
-from program.bench import SECONDS
+from program.bench import SECONDS, TESTS
 from program.web import HOST, connect, read_all, reply
 
 
@@ -150,112 +150,12 @@ def slowly(answer, seconds):
     return [piece for byte in answer for piece in (bytes([byte]), seconds)]
 
 
-# Bodies that are not the one that allows.
-BODIES = [
-    b"",
-    b"true",
-    b"{}",
-    b'{"ok":true}',
-    b'{"value":true}',
-    b'{"ok":true,"value":"true"}',
-    b'{"ok":true,"value":1}',
-    b'{"ok":true,"value":[true]}',
-    b'{"ok":true,"value":{"value":true}}',
-    b'{"ok":true,"value":null}',
-    b'{"ok":1,"value":true}',
-    b'{"ok":"true","value":true}',
-    b'{"ok":false,"value":true}',
-    b'{"OK":true,"VALUE":true}',
-    b'{"ok":true,"value":TRUE}',
-    b'{"ok":true,"value":true,"value":true}',
-    b'{"ok":true,"value":false,"value":true}',
-    b'{"ok":true,"value":true,"x":true}',
-    b'{"code":26,"error":"NoSession","ok":true,"value":true}',
-    b'{"value":true,"ok":true}',
-    b'{"ok":true, "value":true}',
-    b'{"\\u006fk":true,"value":true}',
-    b'[{"ok":true,"value":true}]',
-    b'{"ok":true,"value":true}{"ok":true,"value":true}',
-    b' {"ok":true,"value":true}',
-    b'{"ok":true,"value":true} ',
-    b'{"ok":true,"value":true}\n',
-    b'{"ok":true,"value":true}\r\n',
-    b'{"ok":true,"value":true}\0',
-    b'\0{"ok":true,"value":true}',
-    b'\xef\xbb\xbf{"ok":true,"value":true}',
-    b'{"ok":true,"value":true}\xff',
-    '{"ok":true,"value":true}'.encode("utf-16"),
-    b'{"ok":true,"value":true',
-    b"[" * 30_000,
-    b"1" * 5_000,
-    b'{"code":26,"error":"NoSession"}',
-    b'<html>{"ok":true,"value":true}</html>',
-    b'{"ok":true,"value":true}' + b" " * 5_000_000,
-]
+def shared(name):
+    """A file of what all clients have to do alike: their own tests read it too."""
+    return json.loads((TESTS.parent / "clients/conformance" / name).read_text(encoding="utf-8"))
 
-# Statuses that do not allow, whatever the body is. Some are not HTTP statuses. 2000 is left out: a Java library reads it as 200.
-STATUSES = ["201 A", "202 A", "203 A", "204 A", "206 A", "300 A", "304 A", "400 A", "404 A", "409 A", "418 A", "500 A"]
-STATUSES += ["599 A", "999 A", "20 A", "0200 A", "-200 A", "OK"]
 
-# Statuses of proxies, with a page instead of a refusal.
-PAGES = {
-    401: "unauthenticated",
-    403: "forbidden",
-    429: "unavailable",
-    502: "unavailable",
-    503: "unavailable",
-    504: "unavailable",
-}
-
-# Refusals that a decision can get, with their statuses and reasons.
-REFUSALS = [
-    (409, 26, "NoSession", "ended_session"),
-    (409, 6, "NoObject", "unknown_name"),
-    (409, 33, "NoOperation", "unknown_name"),
-    (400, 1, "BadName", "invalid_request"),
-    (400, 34, "BadRequest", "invalid_request"),
-    (404, 35, "UnknownFunction", "invalid_request"),
-    (405, 34, "BadRequest", "invalid_request"),
-    (411, 34, "BadRequest", "invalid_request"),
-    (413, 34, "BadRequest", "invalid_request"),
-    (431, 34, "BadRequest", "invalid_request"),
-    (501, 34, "BadRequest", "invalid_request"),
-    (401, 62, "Unauthorized", "unauthenticated"),
-    (403, 63, "Forbidden", "forbidden"),
-    (403, 65, "ForeignOrigin", "forbidden"),
-    (421, 66, "ForeignHost", "forbidden"),
-    (429, 64, "TooManyRequests", "unavailable"),
-    (500, 41, "Store", "unavailable"),
-    (500, 42, "Closed", "unavailable"),
-    (503, 40, "Memory", "unavailable"),
-    (503, 60, "Unavailable", "unavailable"),
-    (503, 61, "Diverged", "unavailable"),
-    # No answer to this question, or with a status that isn't that of the code.
-    (409, 3, "UserExists", "unexpected"),
-    (409, 34, "BadRequest", "unexpected"),
-    (400, 26, "NoSession", "unexpected"),
-    (200, 26, "NoSession", "unexpected"),
-    (404, 26, "NoSession", "unexpected"),
-    (500, 26, "NoSession", "unexpected"),
-    (403, 26, "NoSession", "forbidden"),
-]
-
-# Texts that are no refusals, with the status of one.
-NO_REFUSALS = [
-    b'{"code":26}',
-    b'{"code":"26","error":"NoSession"}',
-    b'{"code":26.0,"error":"NoSession"}',
-    b'{"code":026,"error":"NoSession"}',
-    b'{"code":26,"error":null}',
-    b'{"code":26,"error":"NoSession","why":"so"}',
-    b'{"code":26,"error":"NoSession","kind":"user","set":"a"}',
-    b'{"error":"NoSession","code":26}',
-    b'{"code":26, "error":"NoSession"}',
-    b'{"code":26,"error":"NoSession"}\n',
-    b'{"code":26,"error":"NoSession","ok":true}',
-    b'{"code":26,"error":"No\\u0053ession"}',
-    b'{"code":26,"error":"NoSession"',
-]
+CONFORMANCE = shared("wrong_answers.json")
 
 
 def answered(status, body, *fields):
@@ -264,26 +164,11 @@ def answered(status, body, *fields):
     return "".join(line + "\r\n" for line in [*lines, ""]).encode() + body
 
 
-def redirects(port):
-    """Answers that redirect the client to another path of the same server, which has the right answer."""
-    for status in (301, 302, 303, 307, 308):
-        yield f"status {status}", answered(status, ALLOWED, f"Location: http://{HOST}:{port}/right")
-
-
-def unequal_lengths():
-    """Answers whose head doesn't state the length of the body in one way, or states another one."""
-    field = b"Content-Length: 24\r\n"
-    chunks = b"18\r\n" + ALLOWED + b"\r\n0\r\n\r\n"
-    yield "no length", RIGHT.replace(field, b""), "unexpected"
-    yield "two lengths", RIGHT.replace(field, field + b"Content-Length: 25\r\n"), "unexpected"
-    yield "a length with letters", RIGHT.replace(field, b"Content-Length: two\r\n"), "unexpected"
-    yield "pieces", RIGHT.replace(field, b"Transfer-Encoding: chunked\r\n")[: -len(ALLOWED)] + chunks, "unexpected"
-    yield "a body that is longer than its length", lengthened(ALLOWED, 23), "unexpected"
-    yield "a body that is shorter than its length", lengthened(ALLOWED, 25), "unanswered"
-    yield "a truncated body", RIGHT[:-1], "unanswered"
-    yield "a truncated head", RIGHT.partition(b"\r\n\r\n")[0], "unanswered"
-    packed = gzip.compress(ALLOWED)
-    yield "a packed body", answered(200, packed, "Content-Encoding: gzip"), "unexpected"
+def pieces_of(answer, port):
+    """The pieces of an answer of the file: texts, in which each character is a byte, and how often some come."""
+    for piece in answer:
+        text, times = (piece, 1) if isinstance(piece, str) else piece
+        yield text.replace("{port}", str(port)).encode("latin-1") * times
 
 
 def wrong_answers(port):
@@ -291,20 +176,18 @@ def wrong_answers(port):
 
     `port` is that of the sending server.
     """
-    named = {f"body {body[:60]!r} of {len(body)}": (reply(200, body), "unexpected") for body in BODIES}
-    named |= {f"status {status}": (with_status(status), "unexpected") for status in STATUSES}
-    named |= {f"a page with {status}": (answered(status, b"<html></html>"), reason) for status, reason in PAGES.items()}
-    for status, code, name, reason in REFUSALS:
-        named[f"{status} with {code}"] = answered(status, b'{"code":%d,"error":"%s"}' % (code, name.encode())), reason
-    named |= {f"409 with {body!r}": (answered(409, body), "unexpected") for body in NO_REFUSALS}
-    named |= {name: (answer, "unexpected") for name, answer in redirects(port)}
-    named |= {name: (answer, reason) for name, answer, reason in unequal_lengths()}
-    named["no answer"] = b"", "unanswered"
-    named["a reset"] = RESET, "unanswered"
-    named["no HTTP"] = ALLOWED + b"\r\n\r\n", "unexpected"
-    named["a gigabyte"] = [lengthened(b"", 1_000_000_000), *[b" " * 1_000_000] * 8], "unexpected"
-    named["a head without an end"] = [b"HTTP/1.1 200 OK\r\n", *[b"X: %s\r\n" % (b"y" * 1_000)] * 1_000], "unexpected"
-    return named
+    return {
+        case["name"]: (RESET if case.get("reset") else list(pieces_of(case["answer"], port)), case["reason"])
+        for case in CONFORMANCE["cases"]
+    }
+
+
+# Bodies that are not the one that allows.
+BODIES = [
+    b"".join(pieces_of(case["answer"], 0)).partition(b"\r\n\r\n")[2]
+    for case in CONFORMANCE["cases"]
+    if "body of" in case["name"]
+]
 
 
 def slow_answers():

@@ -8,6 +8,8 @@ from pathlib import Path
 from front.identities import secured
 from machine.commands import COMMANDS
 from machine.drawing import TAKING, Draws
+import pytest
+
 from pages import markdown
 from pages.api import all_pairs
 from pages.openapi import operations
@@ -15,7 +17,7 @@ from program.offices import Office
 from program.web import HOST, Server
 
 from .client import PAGE, PATIENT
-from .driving import BUILT, KEYS, Driven, installed
+from .driving import BUILT, FRONT, KEYS, NAMES, Driven
 
 # A seed by which every refusal comes soon, and how many commands are drawn before the refusals that are missing are aimed at.
 SEED, MOST, AT_RANDOM = 1, 3_000, 200
@@ -102,7 +104,8 @@ def asks(bench, driver, model):
         bench.same(f"{function} {arguments}", driver.answer(function, **arguments), answer)
 
 
-def over_serve(bench, name):
+@pytest.mark.parametrize("name", NAMES)
+def check_over_serve(bench, name):
     """By `rbac serve`. At the end the office is that of the model."""
     office = Office(bench)
     with Server(bench, office.path, 100_000) as server, Driven(bench, name, timeout=PATIENT) as driver:
@@ -112,7 +115,9 @@ def over_serve(bench, name):
     office.compare_with_model()
 
 
-def over_the_front(bench, name):
+@pytest.mark.needs(*FRONT)
+@pytest.mark.parametrize("name", NAMES)
+def check_over_the_front(bench, name):
     """By the front, with a token. At the end the office is that of the model."""
     office = Office(bench)
     with secured(bench, rights=RIGHTS) as front, Driven(bench, name, timeout=PATIENT) as driver:
@@ -147,7 +152,8 @@ def repeated(bench, driver, request, first, refused):
         bench.same(f"the inheritance of {function} {request}", edge, '{"code":14,"error":"EdgeExists"}')
 
 
-def page_repeated(bench, name):
+@pytest.mark.parametrize("name", ["python"])
+def check_page_repeated(bench, name):
     """Each request of docs/API.md is answered as the page says, even if each command before it was sent twice."""
     refused, done = repetitions(), set()
     bench.same("the commands of the table", sorted(refused), sorted(COMMANDS))
@@ -168,8 +174,3 @@ def page_repeated(bench, name):
                 repeated(bench, driver, {"fn": function, **arguments}, first, refused[function])
                 done.add(function)
     bench.same("commands that were not repeated", set(COMMANDS) - done, set())
-
-
-JOBS = [(over_serve, name) for name in installed()] + [(page_repeated, "python")]
-if shutil.which("go"):
-    JOBS += [(over_the_front, name) for name in installed()]

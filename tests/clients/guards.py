@@ -9,7 +9,10 @@ from front.program import Front
 from program.offices import small_office
 from program.web import HOST, Server, free_port
 
+import pytest
+
 from .client import PATIENT, office_at, rbac
+from .driving import FRONT
 
 from rbac_client.middleware import AsgiGuard, NotAllowed, WsgiGuard, needs  # noqa: E402  client.py finds it
 
@@ -36,7 +39,7 @@ async def asgi(guard, kind, path, session):
     return sent[0].get("status") or sent[0]["type"]
 
 
-def over_asgi(bench):
+def check_over_asgi(bench):
     """A guard of ASGI passes what the session may do, and refuses the rest with its status; also websockets."""
 
     async def ask_all(port):
@@ -55,7 +58,7 @@ def over_asgi(bench):
         asyncio.run(ask_all(server.port))
 
 
-def over_wsgi(bench):
+def check_over_wsgi(bench):
     """The same by WSGI, and by a decorator."""
     with Server(bench, small_office(bench).path, 1_000) as server:
         office = office_at(server.port)
@@ -102,7 +105,8 @@ def users_of(client):
     return users
 
 
-def shared_connections(bench):
+@pytest.mark.needs(*FRONT)
+def check_shared_connections(bench):
     """Threads, tasks, and processes after a fork share a client with kept connections: each gets its own answers."""
     small_office(bench)
     with Front(bench) as front:
@@ -139,8 +143,3 @@ async def asked_by_tasks(port, users):
             return user, {tuple(await client.authorized_roles(user)) for _ in range(50)}
 
         return dict(await asyncio.gather(*map(asks, users)))
-
-
-JOBS = [(over_asgi,), (over_wsgi,)]
-if shutil.which("go"):
-    JOBS += [(shared_connections,)]

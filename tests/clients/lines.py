@@ -21,7 +21,7 @@ def child(bench, *answers, wait=0):
     return contextlib.closing(rbac.Lines(["sh", "-c", script], PATIENT))
 
 
-def wrong_by_lines(bench):
+def check_wrong_by_lines(bench):
     """Wrong answers as lines, and truncated lines."""
     right = ALLOWED + b"\n"
     lines = [body for body in [*BODIES, *changed_bytes()] if body != ALLOWED and b"\n" not in body]
@@ -41,7 +41,7 @@ def wrong_by_lines(bench):
                 bench.same(f"a decision after {name}", raised(client.check_access, *CHECK), "Unreachable")
 
 
-def late_lines(bench):
+def check_late_lines(bench):
     """A late answer is not accepted as that of the next line, and what arrives before a line is no answer."""
     right = ALLOWED + b"\n"
     with child(bench, right, right, wait=2 * HASTY) as client:
@@ -54,6 +54,3 @@ def late_lines(bench):
         select.select([client._connection], [], [], PATIENT)
         bench.same("a decision that was answered before", raised(client.check_access, *CHECK), UNEXPECTED)
         bench.same("a decision after it", raised(client.check_access, *CHECK), "Unreachable")
-
-
-JOBS = [(wrong_by_lines,), (late_lines,)]

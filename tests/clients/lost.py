@@ -8,14 +8,19 @@ import threading
 from machine.drawing import Draws
 from program.bench import SECONDS
 from program.offices import Office, read_rows, small_office
-from program.web import HOST, Server, connect, read_all
+from program.web import HOST, Server, connect, free_port, read_all
+
+import pytest
 
 from .client import PATIENT
-from .driving import Driven, installed
-from .fakes import LOST, PASSED_ON, Fake, answered, read_request
+from .driving import NAMES, Driven
+from .fakes import LOST, PASSED_ON, Fake, answered, read_request, shared
 from .functions import repetitions
 
 COMMANDS, LOGINS, PAUSE = 1_000, 100, 0.001
+
+# How often a command is sent to a server that dies, if a busy machine is too slow to send it.
+ATTEMPTS = 10
 
 # What refuses each command the second time, according to the page.
 AGAIN = repetitions()
@@ -103,7 +108,8 @@ def judged(bench, what, function, outcome, expected):
         bench.same(f"{what}: counts", counts[0], counts[1])
 
 
-def many_commands(bench, name):
+@pytest.mark.parametrize("name", NAMES)
+def check_many_commands(bench, name):
     """A thousand random commands. If one may have been done, it is repeated as the page says, and the office is as it says."""
     seed = random.randrange(1 << 30)
     print(f"{name}: the seed of the lost answers is {seed}", flush=True)
@@ -146,7 +152,8 @@ def follows(function, again, expected):
     return "ok" in again or str(again["code"]) == AGAIN[function].split()[0]
 
 
-def many_logins(bench, name):
+@pytest.mark.parametrize("name", NAMES)
+def check_many_logins(bench, name):
     """Each login has exactly one session in the end, and each logout ends one, although answers are lost."""
     office = small_office(bench)
     before = sessions(office.path)
@@ -176,7 +183,8 @@ def sessions(path):
     return {row[1] for row in read_rows(path)["pair_row"] if row[0] == 7}
 
 
-def one_login(bench, name):
+@pytest.mark.parametrize("name", NAMES)
+def check_one_login(bench, name):
     """A login whose answer is lost has one session; one that is refused has none."""
     office = small_office(bench)
     with Server(bench, office.path, 100) as server, Driven(bench, name, timeout=PATIENT, pause=PAUSE) as driver:
@@ -197,4 +205,45 @@ def one_login(bench, name):
     bench.same("the number of sessions", len(sessions(office.path)), 1 + 4)
 
 
-JOBS = [(test, name) for name in installed() for test in (many_commands, many_logins, one_login)]
+class Dying:
+    """A server that reads one request, and is gone without an answer: its connection and its port are closed."""
+
+    def __init__(self):
+        self.listener = socket.create_server((HOST, 0))
+        self.address = f"http://{HOST}:{self.listener.getsockname()[1]}"
+        self.requests = []
+        self.thread = threading.Thread(target=self.serve, daemon=True)
+        self.thread.start()
+
+    def serve(self):
+        client, _ = self.listener.accept()
+        with client:
+            request = read_request(client, threading.Event())
+            self.listener.close()
+            if request:
+                self.requests.append(request)
+
+
+# Commands that may be repeated, and some that may not.
+DIED = [(case["function"], case["arguments"]) for case in shared("lost_commands.json")]
+
+
+@pytest.mark.parametrize("name", NAMES)
+def check_server_that_dies(bench, name):
+    """A command that was sent is unanswered, and may have been done, if the server dies while doing it and there is none afterwards."""
+    with Driven(bench, name, timeout=1.0, pause=0.01) as driver:
+        for function, arguments in DIED:
+            for others in ([], [f"http://{HOST}:{free_port()}"]):
+                for _ in range(ATTEMPTS):
+                    server = Dying()
+                    driver.open(server.address, *others)
+                    outcome = driver.call(function, **arguments)
+                    if server.requests:  # Otherwise the client was too slow to send anything.
+                        break
+                what = f"{function} with {len(others)} further addresses"
+                bench.same(what, (outcome.get("reason"), outcome.get("may_be_done")), ("unanswered", True))
+                bench.same(f"{what}: its requests", len(server.requests), 1)
+        driver.open(f"http://{HOST}:{free_port()}")
+        for function, arguments in DIED:
+            outcome = driver.call(function, **arguments)
+            bench.same(f"{function} without a server", (outcome["reason"], outcome["may_be_done"]), ("unreachable", False))

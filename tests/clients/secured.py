@@ -12,8 +12,10 @@ from front.program import Front
 from program.offices import small_office
 from program.web import HOST
 
+import pytest
+
 from .client import HASTY, PATIENT
-from .driving import WITH_SOCKETS, Driven, installed
+from .driving import FRONT, NAMES, WITH_SOCKETS, Driven
 from .fakes import RIGHT, Fake
 
 # Who may ask what: an application that decides and one that doesn't, by tokens, by a certificate and by a socket.
@@ -48,7 +50,9 @@ def decided(driver, **names):
     return again(lambda: driver.check(**names))
 
 
-def over_tls(bench, name):
+@pytest.mark.needs(*FRONT)
+@pytest.mark.parametrize("name", NAMES)
+def check_over_tls(bench, name):
     """Tokens and certificates of clients over TLS: each caller may do what it may, and what is refused has its reason."""
     small_office(bench)
     openssl(bench, CERTIFICATES)
@@ -76,7 +80,9 @@ def over_tls(bench, name):
         bench.same("the token in the log", [token for token in ("another", "secret") if token in driver.said()], [])
 
 
-def over_a_socket(bench, name):
+@pytest.mark.needs(*FRONT)
+@pytest.mark.parametrize("name", [one for one in NAMES if one.values[0] in WITH_SOCKETS])
+def check_over_a_socket(bench, name):
     """A front at a socket knows the user of the process that asks."""
     small_office(bench)
     path = bench.path("socket")
@@ -114,7 +120,8 @@ def certificates(bench):
     }
 
 
-def wrong_servers(bench, name):
+@pytest.mark.parametrize("name", NAMES)
+def check_wrong_servers(bench, name):
     """A server with a wrong certificate gets no question, and neither does one without TLS. The reason says so."""
     wrong = certificates(bench)
     own = {"ca": bench.path("ca.crt"), "token": "secret"}
@@ -172,12 +179,3 @@ class Talking:
                 client.sendall(self.said)
             except OSError:
                 return
-
-
-JOBS = []
-if shutil.which("openssl"):
-    JOBS = [(wrong_servers, name) for name in installed()]
-    if shutil.which("go"):
-        JOBS += [(over_tls, name) for name in installed()]
-if shutil.which("go"):
-    JOBS += [(over_a_socket, name) for name in installed() if name in WITH_SOCKETS]

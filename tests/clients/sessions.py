@@ -8,8 +8,10 @@ from program.bench import TESTS
 from program.offices import Office, small_office
 from program.web import HOST, Server
 
+import pytest
+
 from .client import PATIENT
-from .driving import Driven, installed
+from .driving import FRONT, NAMES, Driven
 from .fakes import Fake, answered
 
 BANK = (TESTS.parent / "examples/bank.jsonl").read_bytes().splitlines(keepends=True)
@@ -28,7 +30,8 @@ def ask(driver, operation):
     return found["reason"], found["name"]
 
 
-def a_demotion(bench, name):
+@pytest.mark.parametrize("name", NAMES)
+def check_a_demotion(bench, name):
     """A demotion ends a session. It stays ended, or is made again with the roles that are left, under a new name."""
     with Server(bench, small_office(bench).path, 10_000) as server, Driven(bench, name, timeout=PATIENT) as driver:
         driver.open(f"http://{HOST}:{server.port}")
@@ -47,7 +50,8 @@ def a_demotion(bench, name):
         bench.same("sessions that are left", driver.answer("sessionRoles", session=after), '{"code":26,"error":"NoSession"}')
 
 
-def ended_for_good(bench, name):
+@pytest.mark.parametrize("name", NAMES)
+def check_ended_for_good(bench, name):
     """A session that was closed isn't made again, and neither is that of a user who is locked or gone."""
     with Server(bench, small_office(bench).path, 10_000) as server, Driven(bench, name, timeout=PATIENT) as driver:
         driver.open(f"http://{HOST}:{server.port}")
@@ -69,7 +73,8 @@ def ended_for_good(bench, name):
         bench.same("names of twenty logins", len(names), 20)
 
 
-def missing_names(bench, name):
+@pytest.mark.parametrize("name", NAMES)
+def check_missing_names(bench, name):
     """A name that is missing isn't another name: nothing is allowed, not even if something has the name of nothing."""
     with Server(bench, small_office(bench).path, 10_000) as server, Driven(bench, name, timeout=PATIENT) as driver:
         driver.open(f"http://{HOST}:{server.port}")
@@ -83,7 +88,9 @@ def missing_names(bench, name):
             bench.same(f"the names {names}", driver.check(*names), "invalid_request")
 
 
-def opened_by_the_front(bench, name):
+@pytest.mark.needs(*FRONT)
+@pytest.mark.parametrize("name", NAMES)
+def check_opened_by_the_front(bench, name):
     """The front chooses the name and the roles that fit together, and says what it has left out and why."""
     Office(bench).replay(BANK)
     with Front(bench) as front, Driven(bench, name, timeout=PATIENT) as driver:
@@ -157,7 +164,8 @@ NO_SESSIONS = [
 ]
 
 
-def wrong_sessions(bench, name):
+@pytest.mark.parametrize("name", NAMES)
+def check_wrong_sessions(bench, name):
     """A wrong answer to a request for a session is an error, after which there is no session, and none is made in another way."""
     with Driven(bench, name, timeout=PATIENT) as driver:
         for status, body in [(200, SESSION), (200, LEFT)]:
@@ -177,8 +185,3 @@ def wrong_sessions(bench, name):
                 outcome = driver.do("login", user="ann", roles=["boss"], renews=False)
                 found = outcome.get("reason"), outcome.get("may_be_done"), len(fake.requests)
                 bench.same(f"{status} {body!r}", found, ("unexpected", True, 1))
-
-
-JOBS = [(test, name) for name in installed() for test in (a_demotion, ended_for_good, missing_names, wrong_sessions)]
-if shutil.which("go"):
-    JOBS += [(opened_by_the_front, name) for name in installed()]

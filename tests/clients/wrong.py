@@ -1,18 +1,20 @@
 """Wrong answers to each client: none of them allows, and each is denied with the reason that docs/INTEGRATING.md has for it."""
 
+import re
 import time
 
 from program.bench import SECONDS
 from program.web import HOST, free_port, reply
 
+import pytest
+
 from .client import HASTY, PATIENT
-from .driving import WITH_SOCKETS, Driven, installed
-from .fakes import ALLOWED, DENIED, RIGHT, Fake, Kept, answered, slow_answers, with_status, wrong_answers
-
-NAMES = b'{"ok":true,"value":["a"]}'
+from .driving import NAMES, WITH_SOCKETS, Driven
+from .fakes import ALLOWED, DENIED, RIGHT, Fake, Kept, answered, shared, slow_answers, with_status, wrong_answers
 
 
-def wrong_answers_deny(bench, name):
+@pytest.mark.parametrize("name", NAMES)
+def check_wrong_answers_deny(bench, name):
     """Wrong answers of all sorts, between two right ones. Each costs one request: a client neither repeats nor follows it."""
     with Fake([]) as fake, Driven(bench, name, timeout=PATIENT) as driver:
         wrong = wrong_answers(fake.port)
@@ -29,11 +31,14 @@ def wrong_answers_deny(bench, name):
             wanted[reason] = wanted.get(reason, 0) + 1
         bench.same("the counts", driver.do("counts"), wanted)
         said = driver.said().splitlines()
-        bench.same("the number of lines in the log", len(said), len(wrong))
-        bench.same("sessions in the log", [line for line in said if "s1" in line], [])
+        told = len(said) + sum(map(int, re.findall(r"\(and (\d+) more since the last line\)$", driver.said(), re.M)))
+        bench.same("decisions that the log tells of", 0 < len(said) <= told <= len(wrong), True)
+        bench.same("sessions in the log", [line for line in said if re.search(r"\bs1\b", line)], [])
+        bench.same("what is no line of printable ASCII", [line for line in said if not re.fullmatch("[ -~]{1,400}", line)], [])
 
 
-def slow_answers_deny(bench, name):
+@pytest.mark.parametrize("name", NAMES)
+def check_slow_answers_deny(bench, name):
     """Answers that don't come in time are denied when the time is over, and not much later."""
     with Driven(bench, name, timeout=PATIENT) as driver:
         for what, answer in {"the right answer": RIGHT, **slow_answers()}.items():
@@ -61,7 +66,8 @@ def changed_bytes():
             yield ALLOWED[:place] + bytes([byte]) + ALLOWED[place:]
 
 
-def bytes_deny(bench, name):
+@pytest.mark.parametrize("name", NAMES)
+def check_bytes_deny(bench, name):
     """A body in which one byte differs doesn't allow, and neither does an answer that is truncated at any byte."""
     bodies = [body for body in changed_bytes() if body != ALLOWED]
     answers = [(f"the body {body}", reply(200, body), ["unexpected"]) for body in bodies]
@@ -75,7 +81,8 @@ def bytes_deny(bench, name):
             bench.same(f"{what}: {reason}", reason in reasons, True)
 
 
-def kept_connections(bench, name):
+@pytest.mark.parametrize("name", NAMES)
+def check_kept_connections(bench, name):
     """A kept connection is used again, carries no answer over to the next question, and may be closed at any time."""
     answers = [Kept(RIGHT)] * 3 + [b"", RIGHT]
     answers += [Kept(RIGHT + RIGHT), DENIED, Kept(RIGHT, 0.2, RIGHT), DENIED, Kept(RIGHT), RIGHT]
@@ -92,7 +99,26 @@ def kept_connections(bench, name):
         bench.same("the next question after it", driver.check(), "denied")
 
 
-def several_addresses(bench, name):
+@pytest.mark.parametrize("name", NAMES)
+def check_connections_after_wrong_answers(bench, name):
+    """A question's connection is kept after an answer of the server, and closed after another one, whatever comes on it later."""
+    for case in shared("connections.json"):
+        what, answer = case["name"], case["answer"].encode()
+        with Fake([Kept(answer), Kept(DENIED), Kept(RIGHT)]) as fake, Driven(bench, name, timeout=PATIENT) as driver:
+            driver.open(fake.address)
+            bench.same(what, driver.check(), case["reason"])
+            bench.same(f"the next question after {what}", [driver.check(), driver.check()], ["denied", "allowed"])
+            bench.same(f"connections after {what}", len(fake.threads) - 1, 1 if case["keeps"] else 2)
+    # The late second answer to a question isn't that to the next one.
+    with Fake([Kept(answered(502, b"<html></html>"), 0.1, RIGHT), DENIED]) as fake, Driven(
+        bench, name, timeout=PATIENT
+    ) as driver:
+        driver.open(fake.address)
+        bench.same("a page, and an answer later", [driver.check(), driver.check()], ["unavailable", "denied"])
+
+
+@pytest.mark.parametrize("name", NAMES)
+def check_several_addresses(bench, name):
     """A question goes to the next address if one has no answer, and begins there the next time. A refusal is an answer."""
     dead = f"http://{HOST}:{free_port()}"
     refused = reply(409, b'{"code":26,"error":"NoSession"}')
@@ -120,7 +146,8 @@ def several_addresses(bench, name):
         bench.same("none that can be reached", driver.check(), "unreachable")
 
 
-def addresses_are_read(bench, name):
+@pytest.mark.parametrize("name", NAMES)
+def check_addresses_are_read(bench, name):
     """A text that is no address is refused when the client is made."""
     with Driven(bench, name) as driver:
         for text in ["", "localhost", "http://", "ftp://a", "http://a/b", "http://a?b", "http://u:p@a", "unix:", "http://a:b"]:
@@ -128,7 +155,8 @@ def addresses_are_read(bench, name):
         bench.same("no address", "refused" in driver.open(), True)
 
 
-def commands_are_strict(bench, name):
+@pytest.mark.parametrize("name", NAMES)
+def check_commands_are_strict(bench, name):
     """A command is done only by its own answer, and refused only by a refusal; its answer may be lost otherwise."""
     done, wrong = b'{"ok":true}', ("unexpected", True)
     bodies = [
@@ -163,7 +191,8 @@ def commands_are_strict(bench, name):
         bench.same("no server", (outcome["reason"], outcome["may_be_done"]), ("unreachable", False))
 
 
-def commands_are_repeated(bench, name):
+@pytest.mark.parametrize("name", NAMES)
+def check_commands_are_repeated(bench, name):
     """A command that may be repeated is sent again until it is answered, unless the client was told not to."""
     done, had_been = reply(200, b'{"ok":true}'), reply(409, b'{"code":10,"error":"AlreadyAssigned"}')
     given = {"user": "ann", "role": "boss"}
@@ -187,7 +216,8 @@ def commands_are_repeated(bench, name):
             bench.same("requests that weren't sent", fake.answers, [done])
 
 
-def values_are_strict(bench, name):
+@pytest.mark.parametrize("name", NAMES)
+def check_values_are_strict(bench, name):
     """A value of another type than that of the question is no answer to it."""
     counts = b'{"already":0,"assigned":1,"refused":[{"code":2,"record":3}]}'
     values = [
@@ -229,17 +259,3 @@ def values_are_strict(bench, name):
             for place, value in enumerate(values):
                 outcome = driver.call(function, **given.get(function, {"role": "a"}))
                 bench.same(f"{function} answered by {value}", "value" in outcome, place in good)
-
-
-TESTS = [
-    wrong_answers_deny,
-    slow_answers_deny,
-    bytes_deny,
-    kept_connections,
-    several_addresses,
-    addresses_are_read,
-    commands_are_strict,
-    commands_are_repeated,
-    values_are_strict,
-]
-JOBS = [(test, name) for name in installed() for test in TESTS]

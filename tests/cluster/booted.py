@@ -1,14 +1,15 @@
 """The unit of the node under a systemd that is booted on a layer above the files of this machine, with one member of etcd."""
 
-from pathlib import Path
+import pytest
 
-from deploy.common import has, is_root
 from deploy.installed import BOOTED, on_layer
+from needs import skip
 from pages import markdown
+from program.bench import TESTS
 
 from .running import build
 
-# As bin/setup and bin/node would leave it. No unit may wait for a network that does not exist.
+# As apt-get and bin/node would leave it. No unit may wait for a network that does not exist.
 BEFORE = """
 set -e
 NAME=a ME=127.0.0.1 PEERS=a=http://127.0.0.1:2380 ETCD=http://127.0.0.1:2379
@@ -59,19 +60,17 @@ Result=success
 """
 
 
+@pytest.mark.needs("root", "boots", "systemd-nspawn", "curl", "pgrep", "units of etcd")
 def check_unit(bench):
     """The commands of the page make a node that systemd runs: it is started again, and ends with status 0."""
-    needed = ["unshare", "mount", "systemd-nspawn", "useradd", "systemctl", "curl", "pgrep"]
-    if not (is_root() and has(*needed)):
-        return
-    if not Path("/lib/systemd/system/etcd.service").exists():
-        print("left out: the unit of the node under systemd, since there is no unit of etcd", flush=True)
-        return
     installing, starting = markdown.blocks(markdown.page("CLUSTER.md"), "text")
-    bench.same("what the test does in its own way", [line.split()[0] for line in installing[:2]], ["bin/setup", "bin/node"])
-    script = "\n".join([BEFORE, *installing[2:], *starting, ASKING])
+    built = next(number for number, line in enumerate(installing) if line.startswith("bin/node --build"))
+    own_way = " ".join(installing[:built]).replace("\\", "").split()
+    bench.same("what the test does in its own way", own_way[:2], ["apt-get", "install"])
+    listed = (TESTS / "packages").read_text(encoding="utf-8").split()
+    bench.same("packages that the tests don't install", [name for name in own_way[2:] if name not in listed], [])
+    script = "\n".join([BEFORE, *installing[built + 1 :], *starting, ASKING])
     done = on_layer(bench, BOOTED, script, build(bench.shared))
     if not done:
-        print("left out: systemd, which can't be booted here", flush=True)
-        return
+        skip("boots")
     bench.same("what the node does", done.out.decode(), SAID)

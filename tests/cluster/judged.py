@@ -1,10 +1,11 @@
 """Clients ask all nodes at once while machines fail, and all that was answered is judged."""
 
-import random
 import shutil
 import signal
 import threading
 import time
+
+import pytest
 
 from .faults import OFTEN, Faults
 from .histories import Client
@@ -16,12 +17,12 @@ from .records import faults_of as recorded_wrongly
 from .rights import faults_of as refused_wrongly
 from .rights import options, token
 from .rows import offices, rows_of, snapshots_of, sorted_rows
-from .running import build, build_wrong
+from .running import build
 
 CLIENTS = 9
 
-# How often a cluster is judged, after how many faults, and the seconds between them.
-SHORT, LONG = (1, 80, 0.4), (10, 100, 0.6)
+# How often a cluster is judged, after how many faults, and the seconds between them; with `--gate`, and with `--long`.
+SHORT, GATE, LONG = (1, 40, 0.4), (1, 80, 0.4), (10, 100, 0.6)
 
 # The commands from one snapshot to the next. What came after the last snapshot but one is kept, so the recorder, which may have to
 # wait for a member that is paused, has the time of as many commands to read an entry. The second trim deletes the first entries.
@@ -73,20 +74,19 @@ class Trial:
         return faults + recorded_wrongly(self.cluster, judge)
 
 
-def check_faults(bench):
+@pytest.mark.seeds()
+def check_faults(bench, seed):
     """Nothing is lost, done twice, or answered from an old state, while machines are killed, paused and cut off."""
     node = build(bench.shared)
-    rounds, count, between = LONG if bench.is_long else SHORT
+    rounds, count, between = LONG if bench.is_long else GATE if bench.is_gate else SHORT
     for number in range(rounds):
         folder = bench.folder / str(number)
         folder.mkdir()
-        judge_faults(bench, folder, node, count, between)
+        judge_faults(bench, folder, node, count, between, seed + number)
         shutil.rmtree(folder)
 
 
-def judge_faults(bench, folder, node, count, between):
-    seed = random.randrange(10**6)
-    print(f"seed {seed}")
+def judge_faults(bench, folder, node, count, between, seed):
     with Cluster(folder, node, every=EVERY, more=options(folder, CLIENTS)) as cluster:
         trial, faults = Trial(cluster, seed), Faults(cluster, seed)
         time.sleep(2)
@@ -104,45 +104,14 @@ def judge_faults(bench, folder, node, count, between):
         bench.judge("as many kills and pauses as wanted", [] if kills >= 0.75 * count else [f"only {kills}"])
 
 
-# Wrong nodes, each by an edit of the sources, and the faults of machines that reveal it.
+# By its fault: what reveals it.
 WRONG = {
-    # It appends under another name again.
-    "twice": ([Faults.pause_member], "ledger/ledger.go", "return t.If(clientv3.Compare", """defer func() { key += "x" }()
-return t.If(clientv3.Compare"""),
-    # It answers questions from its own state at once.
-    "stale": ([Faults.pause_node], "node/requests.go", "n.touch(b.Calls)\n", """if b.Kind == api.Question {
-b.Kind = api.Local
+    "AppendsTwice": [Faults.pause_member],
+    "AnswersByItself": [Faults.pause_node],
+    "AnswersBeforeLog": [Faults.pause_member],
+    "TakesAnswersForNew": [Faults.pause_replay],
+    "OutlivesReplay": [Faults.kill_busy_replay],
 }
-n.touch(b.Calls)
-"""),
-    # It answers before the log has the command.
-    "early": ([Faults.pause_member], "node/requests.go", "r := &request{within.Done(), b, make(chan reply, 1)}", """
-r := &request{ctx.Done(), b, make(chan reply, 1)}
-if b.Kind == api.Command {
-n.asked[b.Kind] <- r
-texts := make([][]byte, len(b.Calls))
-for i := range texts {
-texts[i] = []byte(`{"ok":true}`)
-}
-return api.Answers{Texts: texts, Point: api.Point{Revision: n.applied.Load().revision + 1}}, nil
-}"""),
-    # It takes an answer to be as new as its question was.
-    "aged": ([Faults.pause_replay], "node/node.go", """		for i, call := range q.batch.Calls {
-			i := i
-			n.ask(call, func(text []byte) {
-				if texts[i] = text; i == len(texts)-1 {
-					at := api.Point{Revision: revision, Newest: n.newest(), Policy""", """		newest, posed := n.newest(), time.Now()
-		for i, call := range q.batch.Calls {
-			i := i
-			n.ask(call, func(text []byte) {
-				if texts[i] = text; i == len(texts)-1 {
-					at := api.Point{Revision: revision, Newest: newest.Add(time.Since(posed)), Policy"""),
-    # It keeps running after its replay has ended.
-    "endless": ([Faults.kill_busy_replay], "node/node.go", """if err := n.replay.Close(); err != nil {
-				return err
-			}
-			return errReplayEnded""", "n.replay, n.err = n.open()"),
-}  # fmt: skip
 
 
 def faults_of(folder, node, kinds, seed):
@@ -156,12 +125,11 @@ def faults_of(folder, node, kinds, seed):
         return [fault for fault in trial.judge(10) if not fault.startswith("not in 10 seconds")]
 
 
-def check_wrong_nodes(bench):
-    """Each wrong node is caught, and by answers alone. It may show its fault at the second or third try only."""
-    for wrong, (kinds, *edit) in WRONG.items():
-        folder = bench.folder / wrong
-        folder.mkdir()
-        node = build_wrong(folder, *edit)
-        found = next((it for it in (faults_of(folder / str(seed), node, kinds, seed) for seed in (1, 2, 3)) if it), [])
-        print(f"the node that is wrong by {wrong!r}: {len(found)} faults, such as {found[0][:300] if found else None}")
-        bench.judge(f"the node that is wrong by {wrong!r} is caught", [] if found else ["no fault was found"])
+@pytest.mark.gate
+@pytest.mark.parametrize("wrong", WRONG)
+def check_wrong_nodes(bench, faulty, wrong):
+    """The wrong node is caught, and by answers alone. It may show its fault at the second or third try only."""
+    node = faulty(wrong)
+    found = next((it for it in (faults_of(bench.folder / str(seed), node, WRONG[wrong], seed) for seed in (1, 2, 3)) if it), [])
+    print(f"{len(found)} faults, such as {found[0][:300] if found else None}")
+    bench.judge("it is caught", [] if found else ["no fault was found"])

@@ -1,37 +1,25 @@
-"""Checks the sources of rbac-node with the tools of Go: their format, what `go vet` finds, and their own tests."""
+"""The unit of rbac-node, as systemd-analyze sees it."""
 
-import os
-import shutil
 import subprocess
 
-from program.bench import PROGRAM, TESTS
+import pytest
+
+from program.bench import TESTS
 
 from .running import build
 
-ROOT, LOAD = TESTS.parent / "node", "../bench/load"
-ENVIRONMENT = {
-    **os.environ, "GO111MODULE": "off", "GOFLAGS": "-tags=etcd,jose", "GOPATH": f"{ROOT}:/usr/share/gocode", "RBAC_PROGRAM": PROGRAM,
-}  # fmt: skip
 
-
-def go(*words):
-    """Returns what a command prints, and its status."""
-    done = subprocess.run(words, cwd=ROOT, env=ENVIRONMENT, capture_output=True, text=True, timeout=600, check=False)
+def analyze(*words):
+    """Returns what systemd-analyze prints, and its status."""
+    done = subprocess.run(["systemd-analyze", *words], capture_output=True, text=True, check=False)
     return done.stdout + done.stderr, done.returncode
 
 
-def check_form(bench):
-    bench.same("what gofmt would change", go("gofmt", "-l", LOAD), ("", 0))
-    bench.same("what go vet finds", go("go", "vet", LOAD), ("", 0))
-
-
+@pytest.mark.needs("systemd-analyze")
 def check_unit(bench):
     """systemd-analyze finds no fault in the unit, and calls its exposure low."""
-    if not shutil.which("systemd-analyze"):
-        print("left out: systemd-analyze is not installed")
-        return
     unit = (TESTS.parent / "deploy/rbac-node.service").read_text(encoding="utf-8")
     path = bench.write("rbac-node.service", unit.replace("/usr/local/bin/rbac-node", build(bench.shared)).encode())
-    bench.same("what verify prints", go("systemd-analyze", "verify", path), ("", 0))
-    said, status = go("systemd-analyze", "security", "--offline=true", "--no-pager", "--threshold=20", path)
+    bench.same("what verify prints", analyze("verify", path), ("", 0))
+    said, status = analyze("security", "--offline=true", "--no-pager", "--threshold=20", path)
     bench.judge("its exposure is low", [] if status == 0 else [said[-300:]])

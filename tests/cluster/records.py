@@ -10,6 +10,8 @@ import time
 from contextlib import closing
 from pathlib import Path
 
+import pytest
+
 from front.identities import bearer, rules, tokens
 from front.recorded import Entry, Model, digest, files_with, link
 from program.bench import PROGRAM
@@ -180,13 +182,12 @@ def same_head(cluster):
     return len(heads) == 1 and cluster.ready() and len({cluster.status(i)["commands"] for i in range(MACHINES)}) == 1
 
 
-def check_records(bench, node=None):
+@pytest.mark.seeds()
+def check_records(bench, seed, node=None):
     """All nodes have the same record, with callers and reasons, whatever is killed. It is known from where one begins."""
     bench.write("callers.jsonl", rules({f"token:{name}": [(one, "office") for one in ALLOWED] for name in CALLERS}).encode())
     bench.write("tokens", tokens(**CALLERS).encode())
     words = ("--callers", bench.path("callers.jsonl"), "--tokens", bench.path("tokens"), "--etcd-open")
-    seed = random.randrange(10**6)
-    print(f"seed {seed}")
     with Cluster(bench.folder, node or build(bench.shared), every=EVERY, more=words) as cluster:
         asker = Asker(cluster, seed)
         cluster.until(lambda: raised_at(cluster), "the log says who asks")

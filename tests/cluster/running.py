@@ -1,14 +1,14 @@
-"""Builds rbac-node, also with an edit of its sources."""
+"""Builds rbac-node, also with a fault."""
 
 import os
-import shutil
+import re
 import subprocess
 import sys
 
 from program.bench import TESTS
 
-# The variable that names the built node.
-NODE = "RBAC_NODE"
+# The variables that name the built node, and the fault of a node that can have one.
+NODE, FAULT = "RBAC_NODE", "RBAC_NODE_FAULT"
 
 
 def build(folder, root=None):
@@ -21,13 +21,14 @@ def build(folder, root=None):
     return path
 
 
-def build_wrong(folder, file, old, new):
-    """Builds rbac-node with an edit of its sources into a folder, and returns its path."""
-    for part in ("bin", "node"):
-        shutil.copytree(TESTS.parent / part, folder / part)
-    source = folder / "node/src/rbac-node" / file
-    text = source.read_text(encoding="utf-8")
-    if text.count(old) != 1:
-        raise ValueError(f"{file} has {text.count(old)} times {old}")
-    source.write_text(text.replace(old, new), encoding="utf-8")
-    return build(folder, folder)
+def build_faulty(folder):
+    """Builds rbac-node with the tag by which it can have a fault into a folder. The variable FAULT then names one."""
+    done = subprocess.run([TESTS.parent / "bin/node", "--features"], capture_output=True, text=True, check=True)
+    settings = {**os.environ, "NODE_FEATURES": f"{done.stdout.strip()},faults"}
+    subprocess.run([TESTS.parent / "bin/node", "--build", folder / "rbac-node"], env=settings, check=True, stdout=sys.stderr)
+
+
+def fault_of(name):
+    """How the variable names a fault of the sources."""
+    text = (TESTS.parent / "node/src/rbac-node/faults/nodes.go").read_text(encoding="utf-8")
+    return re.findall(rf'^\t{name} = "(.+)"$', text, re.M)[0]

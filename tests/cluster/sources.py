@@ -69,7 +69,7 @@ def check_limits(bench):
         ("member.Snapshots[1].Revision", "the commands after the last snapshot but one"),
         ('"timeout", 10*time.Second', "mostly within 10 seconds"),
         ("maxReadyAge = 3 * time.Second", "`rbac_node_age_seconds` | it is above 3"),
-        ('60, "Unavailable"', '503 with `{"code":60,"error":"Unavailable"}`'),
-        ('61, "Diverged"', '503 with `{"code":61,"error":"Diverged"}`'),
+        ('Code: 60, Name: "Unavailable"', '503 with `{"code":60,"error":"Unavailable"}`'),
+        ('Code: 61, Name: "Diverged"', '503 with `{"code":61,"error":"Diverged"}`'),
     ]:
         bench.same(f"{source} and {text}", (source in sources, text in page), (True, True))

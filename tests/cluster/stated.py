@@ -1,10 +1,11 @@
 """What no function answers, over etcd: the checks of the front of one machine, with each request at any node."""
 
 import json
-import random
 import signal
 import threading
 import time
+
+import pytest
 
 from front.batches import batch, judge_decisions, judge_limits, judge_lines, judge_order, judge_others
 from front.explained import forget
@@ -53,10 +54,9 @@ def request_text(line):
     return json.dumps(line, separators=(",", ":"))
 
 
-def check_lists(bench):
+@pytest.mark.seeds()
+def check_lists(bench, seed):
     """After random commands at any node the lists of each node are what SQL reads from its rows."""
-    seed = random.randrange(1_000_000_000)
-    print(f"the seed of the offices for lists over etcd is {seed}")
     with Cluster(bench.folder, build(bench.shared), every=150, timeout=PATIENT) as cluster:
         front = Nodes(cluster)
         ended = {}
@@ -157,11 +157,12 @@ def check_old_nodes(bench):
         bench.same("a condition then", given[:2], (200, '{"ok":true}'))
 
 
-def check_followers(bench):
+@pytest.mark.seeds()
+def check_followers(bench, seed):
     """Followers that start anywhere and change nodes end with the rows of the office, while nodes end and lose their folders."""
     stop, counts = threading.Event(), {}
     with Cluster(bench.folder, build(bench.shared), every=150, timeout=PATIENT) as cluster:
-        front, draws = Nodes(cluster), Draws(random.randrange(1_000_000_000))
+        front, draws = Nodes(cluster), Draws(seed)
         followers = [Follower(bench, front, number, stop, has_gaps=True) for number in range(4)]
         sent = 0
         for turn in range(8):

@@ -1,11 +1,13 @@
 """A rolling upgrade from a program that writes entries without callers, while clients ask."""
 
 import json
-import random
 import signal
 import subprocess
 import time
 
+import pytest
+
+from needs import skip
 from program.bench import TESTS
 
 from .judged import Trial
@@ -34,14 +36,13 @@ def build_old(folder):
     return build(folder, folder)
 
 
-def check_upgrade(bench):
+@pytest.mark.gate
+@pytest.mark.seeds()
+def check_upgrade(bench, seed):
     """Old and new nodes have the same office. Once all are new, entries have callers, and an old node doesn't start any more."""
     old = build_old(bench.folder / "old")
     if old is None:
-        print(f"skipped: the upgrade from {OLD}, which the history here does not have")
-        return
-    seed = random.randrange(10**6)
-    print(f"seed {seed}")
+        skip("history", f"of the commit {OLD}")
     folder = bench.folder / "cluster"
     folder.mkdir()
     with Cluster(folder, old, every=EVERY) as cluster:

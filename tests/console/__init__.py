@@ -4,6 +4,9 @@
     serving     the files of the console and their headers; the parts of the front that only the console asks for
     page        the commands and the pictures of docs/CONSOLE.md
     pages       each page with its actions and refusals, on the bank
+    many        lists that are longer than one answer: counts, parts, and every row can be reached
+    hierarchy   separation of duty through the hierarchy; who may do something, without who is locked or whose role has no session
+    notices     notices, what could not be read, Refresh, Back, the focus after a change
     downloads   reports as files: beside those of the tools, by tickets; who may have them
     reports     the page Reports, and the difference of two copies
     trying      What if: answers, effects, the request, and what is done for real

@@ -1,27 +1,31 @@
 """Broken consoles, each an edit of the sources, and the check that finds it. Without `--long` only the places of the edits are looked at.
 
-With `--long` each is built and tried by its check, which has to say what is wrong.
+With `--long` each is built and tried by its check, which has to say what is wrong. An edit is found however its place is broken into
+lines and spaced.
 """
 
 import os
+import re
 import shutil
 from importlib import import_module
 
-from front.running import build
-from front.wrongfronts import ROOT, tried_with
-from program.bench import Bench
+import pytest
+
+from front.running import PROGRAM, build
+from program.bench import TESTS, Bench
 
 from .running import LONG
 
+ROOT = TESTS.parent
 SITE = "console/site/"
 
 # The edits: a file, a text that occurs in it once, the text that replaces it, the check, and how the message of the check begins.
 BREAKS = {
     "a list of a review with formulas": (
-        SITE + "reviewfile.js", "/^'*[=+\\-@]/", "/^'*=/", "reviews.check_names", "-2+3 in the CSV",
+        SITE + "files.js", "/^'*[=+\\-@]/", "/^'*=/", "reviews.check_names", "-2+3 in the CSV",
     ),
     "a list of a review in which two names are the same": (
-        SITE + "reviewfile.js", "/^'*[=+\\-@]/", "/^[=+\\-@]/", "reviews.check_names", "'=1 in the CSV",
+        SITE + "files.js", "/^'*[=+\\-@]/", "/^[=+\\-@]/", "reviews.check_names", "'=1 in the CSV",
     ),
     "a report with formulas": ("reports/write.go", '"=+-@"', '"=+-"', "reports.check_names", "formulas in the file"),
     "buttons on paper": (
@@ -53,10 +57,40 @@ BREAKS = {
         SITE + "review.js", "            Object.assign(line, newLine(row, true)); // Somebody has assigned it again.\n", "",
         "reviews.check_assigned_meanwhile", "all are there",
     ),
+    "lists that are not read to their end": (
+        SITE + "api.js", "found[i].next && queries[i][1]?.limit === undefined", "false", "many.check_role", "no senior role",
+    ),
+    "locked users who may do something": (
+        SITE + "objects.js", "!isLocked.has(one) && usable", "usable", "hierarchy.check_locked", "dave",
+    ),
+    "users who may do what no session can": (
+        SITE + "objects.js", "roles.filter((each) => !violated(each))", "roles", "hierarchy.check_objects", "who may: ",
+    ),
+    "senior roles that a set bars and nobody names": (
+        SITE + "hierarchy.js", "for (const role of reached(this.seniors, member))", "for (const role of [member])", "hierarchy.check_users", "barred",
+    ),
+    "a notice that stays when an action begins": (
+        SITE + "parts.js", "    last = control;\n    hush();", "    last = control;", "notices.check_gone", "not in 12.0 seconds: the notice is gone by the next action",
+    ),
+    "a notice above the page": (
+        SITE + "style.css", "#notice > div { border-top", "#notice > div { position: fixed; bottom: 0; width: 100%; border-top", "notices.check_covers", "covered at",
+    ),
+    "an answer that is lost when something is read": (
+        SITE + "parts.js", "error.isChange ? LOST : UNREAD", "LOST", "notices.check_lost", "a file",
+    ),
     "a review that keeps what is gone": (
         SITE + "review.js", 'now.has(keyOf(line)) ? "" : "gone"', '""', "reviews.check_assigned_meanwhile", "erin is gone",
     ),
 }  # fmt: skip
+
+
+# What tells words and signs apart, however they are spaced.
+TOKEN = re.compile(r"\w+|[^\w\s]")
+
+
+def place_of(old):
+    """A pattern of a text, with any white space between its words and signs."""
+    return re.compile(r"\s*".join(re.escape(one) for one in TOKEN.findall(old)))
 
 
 def broken(bench, name):
@@ -67,38 +101,42 @@ def broken(bench, name):
     shutil.copytree(ROOT / "node", root / "node")
     file, old, new, *_ = BREAKS[name]
     path = root / "node/src/rbac-node" / file
-    text = path.read_text(encoding="utf-8")
-    bench.same(f"{name}: the place of the edit", text.count(old), 1)
-    path.write_text(text.replace(old, new), encoding="utf-8")
+    text, count = place_of(old).subn(lambda _: new, path.read_text(encoding="utf-8"))
+    bench.same("the places of the edit", count, 1)
+    path.write_text(text, encoding="utf-8")
     return root
 
 
-def faults_of(folder, check):
-    """What a check finds: what it compares, or that it does not come to its end."""
+def faults_of(folder, check, program):
+    """What a check finds with another program: what it compares, or that it does not come to its end."""
     folder.mkdir()
     inner = Bench(folder)
     module, function = check.split(".")
-    home = os.environ["HOME"]
+    usual, os.environ[PROGRAM] = os.environ[PROGRAM], program
     try:
         getattr(import_module(f"console.{module}"), function)(inner)
     except TimeoutError as error:
         inner.faults.append(f"{error}")
     finally:
-        os.environ["HOME"] = home  # A browser has another one, in which Go would build everything anew.
+        os.environ[PROGRAM] = usual
     return inner.faults
 
 
-def check_breaks(bench):
-    """Each break is found by its check."""
-    for number, name in enumerate(BREAKS):
-        folder = bench.folder / str(number)
-        folder.mkdir()
-        outer = Bench(folder)
-        root = broken(outer, name)
-        bench.judge(name, outer.faults)
-        if os.environ.get(LONG):
-            *_, check, said = BREAKS[name]
-            program = build(folder, root)
-            found = tried_with(program, lambda check=check, folder=folder: faults_of(folder / "tried", check))
-            bench.judge(f"{check} finds {name}", [] if any(one.startswith(said) for one in found) else [f"it finds {found}"])
-        shutil.rmtree(folder)
+@pytest.mark.parametrize("name", BREAKS)
+def check_break(bench, name):
+    """A broken console is found by its check."""
+    root = broken(bench, name)
+    if os.environ.get(LONG):
+        *_, check, said = BREAKS[name]
+        program = build(bench.folder, root)
+        found = faults_of(bench.folder / "tried", check, program)
+        bench.judge(f"{check} finds {name}", [] if any(one.startswith(said) for one in found) else [f"it finds {found}"])
+
+
+def check_places(bench):
+    """The place of an edit is found when the sources are broken into lines in another way."""
+    for old, text, count in [
+        ("one(two, [3]);", "one(\n    two,\n    [ 3 ]\n);", 1), ("one(two);", "one (two) ; one(two);", 2), ("one(two);", "one(twos);", 0),
+        ("/^'*[=+\\-@]/", "x = /^'*[=+\\-@]/.test(text)", 1),
+    ]:  # fmt: skip
+        bench.same(f"{old} in {text}", len(place_of(old).findall(text)), count)

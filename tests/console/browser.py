@@ -64,33 +64,74 @@ def text_of_pdf(pdf):
     return done.stdout.decode()
 
 
-class Browser:
-    """A browser at the console of a front. It counts the clicks."""
+class Chromium:
+    """A Chromium without a window, which is started when it is first used, and then used by one check after the other."""
 
-    def __init__(self, bench, front, *, width=1280, height=900):
+    def __init__(self, folder):
+        self.folder, self.started = folder, None
+
+    def driver(self, width, height):
+        """Its driver, with one empty window of this size, and nothing of the pages that it had before."""
+        if self.started is None:
+            self.started = self.start()
+        driver = self.started
+        first, *others = driver.window_handles
+        for other in others:
+            driver.switch_to.window(other)
+            driver.close()
+        driver.switch_to.window(first)
+        driver.get("about:blank")
+        driver.execute_cdp_cmd("Network.clearBrowserCookies", {})
+        driver.execute_cdp_cmd("Network.clearBrowserCache", {})
+        driver.execute_cdp_cmd("Emulation.clearDeviceMetricsOverride", {})
+        driver.execute_cdp_cmd("Emulation.setEmulatedMedia", {"media": "", "features": []})
+        driver.execute_cdp_cmd("Browser.setDownloadBehavior", {"behavior": "default"})
+        driver.set_window_size(width, height)
+        driver.get_log("browser")
+        return driver
+
+    def start(self):
         options = webdriver.ChromeOptions()
         options.binary_location = shutil.which("chromium") or ""
         for word in ("--headless=new", "--no-sandbox", "--disable-gpu", "--disable-dev-shm-usage", "--no-first-run",
-                     "--disable-background-networking", f"--user-data-dir={bench.path('profile')}",
-                     f"--window-size={width},{height}"):  # fmt: skip
+                     "--disable-background-networking", f"--user-data-dir={self.folder / 'profile'}"):  # fmt: skip
             options.add_argument(word)
         options.set_capability("goog:loggingPrefs", {"browser": "ALL"})
-        os.environ["HOME"] = str(bench.folder)
-        service = Service(shutil.which("chromedriver") or "", log_path=bench.path("driver.log"))
-        self.driver = webdriver.Chrome(service=service, options=options)
-        self.driver.set_page_load_timeout(SECONDS)
-        self.driver.set_script_timeout(SECONDS)
-        self.front, self.clicks = front, 0
+        home = {**os.environ, "HOME": str(self.folder)}
+        service = Service(shutil.which("chromedriver") or "", log_path=str(self.folder / "driver.log"), env=home)
+        driver = webdriver.Chrome(service=service, options=options)
+        driver.set_page_load_timeout(SECONDS)
+        driver.set_script_timeout(SECONDS)
+        return driver
+
+    def quit(self):
+        """Ends it, if it was started. The next use starts another one."""
+        driver, self.started = self.started, None
+        if driver is not None:
+            try:
+                driver.quit()
+            except WebDriverException:
+                pass
+
+
+class Browser:
+    """A browser at the console of a front. It counts the clicks."""
+
+    # The Chromium of this process: conftest.py sets it.
+    chromium = None
+
+    def __init__(self, bench, front, *, width=1280, height=900):
+        self.driver = self.chromium.driver(width, height)
+        self.front, self.clicks, self.is_dark = front, 0, False
         self.url = f"http://{HOST}:{front.port}/console/"
 
     def __enter__(self):
         return self
 
-    def __exit__(self, *_):
-        try:
-            self.driver.quit()
-        except WebDriverException:
-            pass
+    def __exit__(self, kind, *_):
+        """The next check gets the same Chromium, unless this one has failed."""
+        if kind is not None:
+            self.chromium.quit()
 
     def run(self, script, *values):
         """What a script returns."""
@@ -149,11 +190,15 @@ class Browser:
         """The text of a part of the page as it is shown."""
         return self.run("return document.querySelector(arguments[0])?.innerText ?? ''", within)
 
+    def said(self):
+        """What the notice says, or an empty text."""
+        return self.text("#notice p")
+
     def notice(self):
         """Waits for a notice, and returns it."""
-        self.until(lambda: self.text("#notice"), "a notice")
+        self.until(self.said, "a notice")
         self.until(lambda: self.run("return !document.querySelector('main button:disabled')"), "the end of an action")
-        return self.text("#notice")
+        return self.said()
 
     def find(self, name, within=None):
         """What can be pressed and has this name, or None."""
@@ -195,10 +240,11 @@ class Browser:
         self.until_loaded(lambda: self.run(FIELD, "Token", "Log in"), "the form to log in").send_keys(token)
         self.mark()
         self.keys(Keys.ENTER)
-        self.until(lambda: self.text("#notice") or self.run(SETTLED), "an answer to the token")
+        self.until(lambda: self.said() or self.run(SETTLED), "an answer to the token")
 
     def resize(self, width, height=900, dark=False, media=""):
         """Gives the page a width, and a scheme of colours."""
+        self.is_dark = dark
         metrics = {"width": width, "height": height, "deviceScaleFactor": 1, "mobile": False}
         self.driver.execute_cdp_cmd("Emulation.setDeviceMetricsOverride", metrics)
         features = [{"name": "prefers-color-scheme", "value": "dark" if dark else "light"}]
@@ -206,10 +252,13 @@ class Browser:
 
     def picture(self, path):
         """Writes a picture of the whole page."""
-        size = self.run("return [innerWidth, Math.min(document.documentElement.scrollHeight, 2400)]")
-        clip = {"x": 0, "y": 0, "width": size[0], "height": size[1], "scale": 0.75}
-        words = {"format": "png", "captureBeyondViewport": True, "clip": clip, "optimizeForSpeed": False}
+        width, height = self.run("return [innerWidth, innerHeight]")
+        whole = self.run("const page = document.getElementById('page'); return page.scrollHeight + innerHeight - page.clientHeight")
+        self.resize(width, max(height, min(whole, 2400)), self.is_dark)
+        clip = {"x": 0, "y": 0, "width": width, "height": max(height, min(whole, 2400)), "scale": 0.75}
+        words = {"format": "png", "clip": clip, "optimizeForSpeed": False}
         shot = self.driver.execute_cdp_cmd("Page.captureScreenshot", words)
+        self.resize(width, height, self.is_dark)
         with open(path, "wb") as file:
             file.write(base64.b64decode(shot["data"]))
 

@@ -5,6 +5,7 @@ import os
 import pytest
 
 from front.running import PROGRAM, build
+from needs import lacking
 
 from .running import LONG
 
@@ -27,6 +28,19 @@ def front(built, request):
     os.environ[PROGRAM] = str(built("front", build) / "rbac-node")
 
 
+@pytest.fixture(scope="session", autouse=True)
+def chromium(tmp_path_factory):
+    """One Chromium for all checks of this process."""
+    if lacking(["chromium", "chromedriver", "selenium"]):
+        yield
+        return
+    from .browser import Browser, Chromium
+
+    Browser.chromium = Chromium(tmp_path_factory.mktemp("chromium"))
+    yield
+    Browser.chromium.quit()
+
+
 @pytest.fixture(autouse=True)
 def network(own_network):
-    """Chromium cuts off its requests when other checks make a device."""
+    """Chromium cuts off its requests when other checks make a device. It stays in the network in which it was started."""

@@ -20,10 +20,31 @@ GRANTS_OF_EACH, STEP = 4, 257
 # The number of the first user with a session.
 FIRST_OF_SESSIONS = next(number for number in range(USERS) if number * SEED % ROLES > ROLES // 4)
 
+# A role without juniors that has many users, those from a number on, and many grants, the first ones.
+CROWDED, FIRST_CROWDED, USERS_OF_CROWDED, GRANTS_OF_CROWDED = 1_000, 18_000, 1_300, 1_200
+
 
 def role_of(number):
     """The role that a user is assigned to."""
-    return number * SEED % ROLES
+    return CROWDED if 0 <= number - FIRST_CROWDED < USERS_OF_CROWDED else number * SEED % ROLES
+
+
+def granted_to(permission, j):
+    """The role to which a permission is granted: each permission is granted to four."""
+    if j == 0 and permission < GRANTS_OF_CROWDED:
+        return CROWDED
+    return (permission // len(OPERATIONS) + permission % len(OPERATIONS) + j * STEP) % ROLES
+
+
+def lines_of_report():
+    """How many lines the report of permissions has: for each user one for each grant of the role and of those below it."""
+    grants = [0] * ROLES
+    for permission in range(OBJECTS * len(OPERATIONS)):
+        for role in {granted_to(permission, j) for j in range(GRANTS_OF_EACH)}:
+            grants[role] += 1
+    for role in range(ROLES - 1, 0, -1):
+        grants[(role - 1) // 4] += grants[role]
+    return sum(grants[role_of(number)] for number in range(USERS))
 
 
 def lines():
@@ -37,8 +58,8 @@ def lines():
         for i, operation in enumerate(OPERATIONS):
             permission = {"object": f"object {number:04}", "operation": operation}
             yield {"fn": "addPermission", **permission}
-            for j in range(GRANTS_OF_EACH):
-                yield {"fn": "grantPermission", **permission, "role": f"role {(number + i + j * STEP) % ROLES:04}"}
+            for role in sorted({granted_to(number * len(OPERATIONS) + i, j) for j in range(GRANTS_OF_EACH)}):
+                yield {"fn": "grantPermission", **permission, "role": f"role {role:04}"}
     for number in range(SETS):
         members = [f"role {(number + i * 31) % ROLES:04}" for i in range(MEMBERS)]
         yield {"fn": "createDsdSet", "set": f"set {number:02}", "roles": members, "cardinality": MEMBERS}
@@ -71,6 +92,8 @@ look();
     % SETTLED
 )
 TIMES = 7
+# Seconds between rounds: Chromium ignores a change of the address if there were 200 within ten seconds.
+PAUSE = 0.3
 TRIALS = 3
 
 
@@ -91,6 +114,7 @@ def measured(page, segments, query):
     """
     found = []
     for _ in range(TIMES):
+        time.sleep(PAUSE)
         row = []
         for wanted in (page.hash_of(["nothing"]), page.hash_of(segments) + query):
             page.go("other")
@@ -112,6 +136,7 @@ def check_limits(bench):
             ("another user", ("users", "user 00003"), "", "role 0021"),
             ("the roles", ("roles",), "", "1,024 roles"),
             ("one role", ("roles", "role 0000"), "", "role 0001"),
+            ("a role with many users", ("roles", f"role {CROWDED:04}"), "", "Granted to this role itself: 1 to 100 of 1,2"),
             ("one object", ("objects", "object 0000"), "", "Operation read"),
             ("the sets", ("separation",), "", "There is no static set."),
             ("the record", ("record",), "", "The record begins."),
@@ -123,10 +148,17 @@ def check_limits(bench):
                 f"{took:6.0f} ms, {took / nothing:4.1f} times, {requests:2.0f} requests, {size:7,.0f} bytes: {what}, of a full office"
             )
             bench.same(what, wanted in page.text(), True)
+        page.go("roles", f"role {CROWDED:04}")
+        users = [number for number in range(USERS) if role_of(number) == CROWDED]
+        bench.same("its users", f"Assigned users: 1 to 25 of {len(users):,}" in page.text(), True)
+        through = "through a senior role" in page.text()
+        page.click("Last: Assigned users")
+        page.until(lambda: f"user {users[-1]:05}" in page.text(), "the last of its users")
+        bench.same("who has it through seniors", through, True)
         page.go("reports", "permissions")
         bench.same(
             "too many lines",
-            "This would be 2,183,132 lines, and a report has at most 1,000,000. Choose a user" in page.text(),
+            f"This would be {lines_of_report():,} lines, and a report has at most 1,000,000. Choose a user" in page.text(),
             True,
         )
         bench.same("no file", (page.find("Download CSV"), page.find("Print")), (None, None))
@@ -145,7 +177,13 @@ def asked(front, path, text):
 def check_trials(bench):
     """What if and Explain over a full office: they are answered, and say how long that took."""
     revoked = [
-        {"fn": "revokePermission", "object": f"object {n:04}", "operation": "read", "role": f"role {n:04}"} for n in range(100)
+        {
+            "fn": "revokePermission",
+            "object": f"object {n:04}",
+            "operation": "read",
+            "role": f"role {granted_to(n * len(OPERATIONS), 1):04}",
+        }
+        for n in range(100)
     ]
     decision = {"operation": "read", "object": "object 0000"}
     with full_front(bench) as front:
@@ -179,7 +217,7 @@ def check_reports(bench):
     """Long reports of a full office: refused above a million lines, and otherwise made within a bounded memory, which is reported."""
     with full_front(bench) as front:
         status, refused = ticket_for(front, "permissions")
-        bench.same("too many lines", (status, refused["error"], refused["lines"]), (413, "BadRequest", 2_183_132))
+        bench.same("too many lines", (status, refused["error"], refused["lines"]), (413, "BadRequest", lines_of_report()))
         before = memory_of(front.process.pid)
         for name, values in (("near", {}), ("sessions", {}), ("dump", {}), ("permissions", {"operation": "read"})):
             start = time.monotonic()

@@ -70,6 +70,8 @@ for (const one of document.querySelectorAll("button, main a, nav a, input, selec
     if (one.tagName !== "A" && one.checkVisibility() && !["checkbox", "radio"].includes(one.type) && box.height < 24) say("too low to press", one);
 }
 if (document.documentElement.scrollWidth > innerWidth) say(`wider than the window of ${innerWidth}`, document.documentElement.scrollWidth);
+const page = document.getElementById("page");
+if (page.scrollWidth > page.clientWidth) say(`wider than the page of ${page.clientWidth}`, page.scrollWidth);
 return faults;
 """
 

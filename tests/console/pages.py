@@ -29,7 +29,7 @@ def check_users(bench):
         page.follow("Search", 'form[aria-label="Search users"]')
         bench.same("found", [page.find(name) is not None for name in ("ann", "frank", "carol")], [True, True, False])
         page.go("users", "erin")
-        bench.same("nearness", "audit (static): has auditor. Can't become teller." in page.text(), True)
+        bench.same("nearness", "audit (static): has auditor. Can't become teller or branch manager." in page.text(), True)
         bench.same("given by", "vault\tcount\tauditor" in page.text(), True)
         bench.same("the refusal", page.submit("Assign", "Assign a role", Role="teller"),
                    "erin can't become teller: erin is auditor, and audit allows one of auditor, teller.")  # fmt: skip
@@ -106,7 +106,8 @@ def check_first_of_many(bench):
             (True, False, True),
         )
         bench.same("20 permissions", ("vault\to19\tr00" in page.text(), "o20" in page.text()), (True, False))
-        page.follow("Next page")
+        page.click("Next: Permissions through all roles")
+        page.until(lambda: "vault\to20" in page.text(), "the next ones")
         bench.same("the next ones", ("vault\to20\tr00" in page.text(), "vault\to19\tr00" in page.text()), (True, False))
         page.go("users", "frank")
         page.follow("All in a report")
@@ -320,6 +321,37 @@ def check_record(bench):
         bench.same("older ones", [one in page.text() for one in ("u0 is a user now.", "u59 is a user now.")], [True, False])
         page.follow("Newest entries")
         bench.same("newest ones", "u59 is a user now." in page.text(), True)
+
+
+def check_filters(bench):
+    """The record is filtered by days and by functions that are chosen; a filter that chooses nothing as it is written is said to."""
+    with bank(bench) as front, Browser(bench, front) as page:
+        front.ask("assignUser", {"user": "frank", "role": "teller"})
+        front.ask("addUser", {"user": "zoe"})
+        page.open("record")
+        form = "Filter the record"
+        types = page.run(
+            "return [...document.querySelectorAll('form [data-key]')].filter(one => ['since', 'until', 'function'].includes(one.dataset.key))"
+            ".map(one => one.type)"
+        )
+        bench.same("the fields", types, ["select-one", "date", "date"])
+        page.fill("Function", "assignUser", form)
+        page.follow("Filter", f'form[aria-label="{form}"]')
+        bench.same("one function", ("frank is assigned to teller." in page.text(), "zoe is a user now." in page.text()), (True, False))
+        bench.same("it is chosen still", page.run("return document.getElementById('function').value"), "assignUser")
+        for key, day, found in (("since", "2999-01-01", False), ("until", "2999-01-01", True)):
+            page.go("record")
+            page.run(f"document.querySelector('[data-key={key}]').value = arguments[0]", day)
+            page.follow("Filter", f'form[aria-label="{form}"]')
+            bench.same(f"{key} {day}", ("zoe is a user now." in page.text(), "There is no such entry." in page.text()), (found, not found))
+        for query in ("since=21.11.2026", "until=yesterday", "since=2026-13-45"):
+            page.go("record", query=f"?{query}")
+            key, _, text = query.partition("=")
+            said = f"The record was not searched: {key}: a time is written as in 2026-11-27 or 2026-11-27T09:30, in UTC."
+            bench.same(query, (said in page.text(), "There is no such entry." in page.text()), (True, False))
+            bench.same("it can be mended", page.run(f"return document.querySelector('[data-key={key}]').value"), text)
+        page.go("record", query="?function=assign")
+        bench.same("no such function", 'there is no function "assign"' in page.text(), True)
 
 
 def check_overview(bench):

@@ -10,7 +10,7 @@ from front.program import Front
 from .browser import Browser, bank, text_of_pdf
 from .downloads import report, rows_of
 from .hostile import MARKUP, NAMES
-from .lost import LOST, start_again
+from .lost import UNREAD, start_again
 from .rights import AUDITOR, DESK, front_of_bank
 
 # The rows of the table as they are shown.
@@ -234,9 +234,9 @@ def check_lost(bench):
         page.open("reports", "permissions")
         front.kill()
         page.click("Download CSV")
-        bench.same("a download", page.notice(), LOST)
+        bench.same("a download", page.notice(), UNREAD)
         page.go("reports", "near")
-        bench.same("a page", LOST in page.text(), True)
+        bench.same("a page", UNREAD in page.text(), True)
         start_again(front)
         page.follow("Try again")
         bench.same("the page again", len(page.run(ROWS)), 5)

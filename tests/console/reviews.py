@@ -83,10 +83,10 @@ def sent(page, button):
     page.mark()
     page.click(button, f"form[aria-label={json.dumps(BEGIN if button == 'Begin' else OPEN)}]")
     page.until(
-        lambda: page.text("#notice") or not page.run("return document.querySelector('h1').hasAttribute('data-old')"), "an answer"
+        lambda: page.said() or not page.run("return document.querySelector('h1').hasAttribute('data-old')"), "an answer"
     )
     page.until(lambda: not page.run("return document.querySelector('main button:disabled')"), "the end of an action")
-    return page.text("#notice")
+    return page.said()
 
 
 def decide(page, what, decision, note=""):

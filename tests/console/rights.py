@@ -48,7 +48,7 @@ def check_auditor(bench):
     with front_of_bank(bench) as front, Browser(bench, front) as page:
         page.driver.get(page.url)
         page.login("wrong")
-        bench.same("a wrong token", page.text("#notice"), "The front doesn't know this token.")
+        bench.same("a wrong token", page.said(), "The front doesn't know this token.")
         page.driver.get(page.url)
         page.login(AUDITOR)
         bench.same("who", page.text("#who").split("\n")[0], "token:admin")

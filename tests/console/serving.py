@@ -2,14 +2,17 @@
 
 import http.client
 import json
+import os
 import shutil
 import sqlite3
+import subprocess
 import urllib.parse
 from xml.etree import ElementTree
 
 from front.batches import batch
 from front.identities import bearer, secured
 from front.program import HOST, Front
+from front.running import PROGRAM
 
 from .sources import SITE
 
@@ -193,3 +196,43 @@ def check_origins(bench):
             front.ask("addUser", {"user": "b"}, Origin="http://evil.example", Host="office.example", **bearer("secret"))[0],
             403,
         )
+
+
+def check_filters(bench):
+    """A filter of the record that is mistyped is refused, and the answer says why; a time may be written in parts."""
+    with Front(bench) as front:
+        front.ask("addUser", {"user": "ann"})
+        front.ask("assignUser", {"user": "ann", "role": "none"})
+        form = "a time is written as in 2026-11-27 or 2026-11-27T09:30, in UTC"
+        for query, said in [
+            ("since=21.11.2026", f"since: {form}"),
+            ("until=yesterday", f"until: {form}"),
+            ("since=2026-13-45", f"since: {form}"),
+            ("since=2026-02-30T10", f"since: {form}"),
+            ("function=assign", 'there is no function "assign"'),
+            ("refused=1", "refused is true or false"),
+            ("limit=1001", "limit is a number from 1 to 1000"),
+            ("before=0", "before is the number of an entry"),
+            ("name=ann", 'the record has no filter "name"'),
+            ("user=a&user=b", '"user" is there more than once'),
+        ]:
+            status, fields, body = get(front, f"/record?{query}")
+            bench.same(query, (status, json.loads(body), fields["Office-Why"]), (400, {"code": 34, "error": "BadRequest"}, said))
+        for query, count in [
+            ("since=2026", 3), ("since=2026-11", 3), ("since=2026-11-01T10:20:30.5Z", 3), ("until=2026-01-01", 0),
+            ("since=2999-12-31T23:59", 0), ("until=2999", 3), ("function=assignUser", 1), ("since=", 3),
+        ]:  # fmt: skip
+            status, value = value_of(front, f"/record?{query}")
+            bench.same(query, (status, len(value.get("entries", []))), (200, count))
+        entry = value_of(front, "/record?function=addUser")[1]["entries"][0]
+        at = entry["at"]
+        bench.same("since its own time", len(value_of(front, f"/record?since={at}&function=addUser")[1]["entries"]), 1)
+        bench.same("until its own time", len(value_of(front, f"/record?until={at}&function=addUser")[1]["entries"]), 0)
+        minute = f"{at[:16]}Z"
+        bench.same("since its minute", len(value_of(front, f"/record?since={minute}&function=addUser")[1]["entries"]), 1)
+        for option in ("since", "until"):
+            done = subprocess.run(
+                [os.environ[PROGRAM], "record", "show", "--office", front.office, f"--{option}", "yesterday"],
+                capture_output=True, text=True, check=False,
+            )  # fmt: skip
+            bench.same(f"--{option} of the command line", (done.returncode, form in done.stderr, done.stdout), (1, True, ""))

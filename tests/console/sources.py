@@ -5,7 +5,7 @@ import re
 from program.bench import TESTS
 
 SITE = TESTS.parent / "node/src/rbac-node/console/site"
-MOST_LINES, MOST_BYTES, LONGEST_FILE = 3_000, 200_000, 800
+MOST_LINES, MOST_BYTES, LONGEST_FILE = 3_400, 200_000, 800
 
 
 def check_size(bench):

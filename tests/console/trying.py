@@ -33,9 +33,9 @@ def attempt(page, *lines):
     typed.clear()
     page.run("arguments[0].value = arguments[1]", typed, "\n".join(lines))
     page.click("Try")
-    page.until(lambda: page.text("#answer") or page.text("#notice"), "an answer")
+    page.until(lambda: page.text("#answer") or page.said(), "an answer")
     page.settle()
-    return page.text("#answer") + page.text("#notice")
+    return page.text("#answer") + page.said()
 
 
 def judge(bench, what, text, *wanted):
@@ -129,7 +129,7 @@ def check_do_it(bench):
         page.click(do)
         page.click(f"{do}: yes")
         page.until(lambda: "What the office has answered" in page.text(), "it is done")
-        bench.same("done", page.text("#notice"), "The office has done 1 of 1 command.")
+        bench.same("done", page.said(), "The office has done 1 of 1 command.")
         bench.same("it is so", value(front, "assignedRoles", user="frank"), ["auditor"])
         page.go("record")
         judge(bench, "the record", page.text(), "frank is assigned to auditor.\tticket 12")
@@ -189,7 +189,7 @@ def check_time(bench):
         judge(bench, "too long", text, "No answer has come in time. Nothing was done: this was only to be tried.")
         bench.judge("in time", [f"{took:.0f} s"] if (took := time.monotonic() - start) > MOST_SECONDS else [])
         page.go("users")
-        bench.same("another page", "There is no such user." in page.text(), True)
+        bench.same("another page", "There is no user yet." in page.text(), True)
 
 
 def check_names(bench):

@@ -7,11 +7,15 @@ import threading
 import time
 
 from clients.fakes import RESET, Fake
+import pytest
+
 from program.bench import SECONDS
 from program.offices import small_office
 from program.web import Server, free_port, reply
 
-from .common import DEPLOY, has, is_paused, run, wait_until
+from .common import DEPLOY, is_paused, run, wait_until
+
+pytestmark = pytest.mark.needs("curl")
 
 HEALTH = DEPLOY / "health"
 
@@ -37,10 +41,8 @@ def said(port, *more):
     return done.status, done.out.decode(), done.err.decode()
 
 
-def answering(bench):
+def check_answering(bench):
     """A server that answers is reported as healthy, and no byte of its files changes. One that is paused or gone is not."""
-    if not has("curl"):
-        return
     office = small_office(bench)
     with Server(bench, office.path, 100) as server:
         before = bench.contents()
@@ -56,10 +58,8 @@ def answering(bench):
     bench.same("no server", said(server.port), (1, "", f"health: nobody listens on port {server.port}\n"))
 
 
-def wrong_answers(bench):
+def check_wrong_answers(bench):
     """An answer other than that of an office is reported as wrong, in one line."""
-    if not has("curl"):
-        return
     for name, (answer, why) in WRONG.items():
         with Fake([answer]) as fake:
             status, out, err = said(fake.port, 1 if "1 seconds" in why else SECONDS)
@@ -78,10 +78,8 @@ OF_FRONTS = {
 }
 
 
-def at_sockets(bench):
+def check_at_sockets(bench):
     """The front of an office is asked at its socket, for /healthz."""
-    if not has("curl"):
-        return
     path = bench.path("office.sock")
     bench.same("nobody", said(path), (1, "", f"health: nobody listens on {path}\n"))
     name = f"{os.getpid()}-none"
@@ -107,12 +105,9 @@ def answer_one(listener, answer, asked):
         client.sendall(answer)
 
 
-def arguments(bench):
+def check_arguments(bench):
     """Arguments that are no port, name or socket and no seconds are refused with status 2."""
     port = str(free_port())
     for words in (["0"], ["65536"], [port, "0"], [port, "-1"], [port, "1", "1"], [""], [port, "1.5"]):
         done = run([HEALTH, *words], env=dict(os.environ))
         bench.same(f"the status for {words}", (done.status, done.out, done.err.startswith(b"usage: ")), (2, b"", True))
-
-
-JOBS = [(answering,), (wrong_answers,), (at_sockets,), (arguments,)]

@@ -1,11 +1,14 @@
-"""A layer above the files of this machine, in which systemd may be booted: the commands of docs/NGINX.md, and bin/setup."""
+"""A layer above the files of this machine, in which systemd may be booted: the commands of docs/NGINX.md."""
 
 import shutil
 
+import pytest
+
+from needs import skip
 from pages import markdown
 from program.bench import PROGRAM
 
-from .common import DEPLOY, has, is_root, run
+from .common import DEPLOY, run
 
 PAGE = markdown.page("NGINX.md")
 
@@ -108,53 +111,11 @@ def on_layer(bench, how, script, *more):
     return done
 
 
-def behind_nginx(bench):
+@pytest.mark.needs("root", "layers", "nginx", "openssl", "logrotate")
+def check_behind_nginx(bench):
     """The commands of the page that put nginx in front leave files that only those may read who should, and a log that is kept."""
-    programs = ("unshare", "mount", "chroot", "nginx", "openssl", "logrotate")
-    if not (is_root() and has(*programs)):
-        return
     commands = block_with("deploy/nginx/logrotate")
     done = on_layer(bench, CHANGED_ROOT, "\n".join(["set -e", commands, PROXY, commands, PROXY_FOUND]))
     if not done:
-        print("left out: a layer above the files of this machine, which can't be mounted", flush=True)
-        return
+        skip("layers")
     bench.same("what exists for nginx", (done.out.decode(), done.status), (PROXY_MADE, 0))
-
-
-# Runs bin/setup as if nginx and HAProxy were missing. A fake apt-get prints its arguments, and whether servers may start.
-SETUP = """
-rm -f /usr/sbin/nginx /usr/sbin/haproxy /usr/sbin/policy-rc.d
-cat > /usr/local/sbin/apt-get <<'END'
-#!/bin/sh
-echo "apt-get $*"
-sh /usr/sbin/policy-rc.d || echo "servers: $?"
-END
-chmod 755 /usr/local/sbin/apt-get
-/mnt/repository/setup
-echo ===
-/mnt/repository/setup deploy
-echo ===
-ls /usr/sbin/policy-rc.d 2> /dev/null
-/mnt/repository/setup other
-echo "$?"
-"""
-
-
-def setting_up(bench):
-    """bin/setup installs nginx and HAProxy only if it is asked to, and starts neither of them."""
-    if not (is_root() and has("unshare", "mount", "chroot")):
-        return
-    done = on_layer(bench, CHANGED_ROOT, SETUP, DEPLOY.parent / "bin/setup")
-    if not done:
-        print("left out: a layer above the files of this machine, which can't be mounted", flush=True)
-        return
-    plain, deploying, after = done.out.decode().split("===\n")
-    servers = {"nginx-light", "haproxy"}
-    bench.same("servers that the checks do not need", servers & set(plain.split()), set())
-    packages = {word for line in deploying.splitlines() if line.startswith("apt-get install ") for word in line.split()}
-    bench.same("servers that are installed", servers & packages, servers)
-    bench.same("whether each installation starts no server", deploying.count("apt-get "), deploying.count("servers: 101"))
-    bench.same("what is left, and the status for another word", after, "2\n")
-
-
-JOBS = [(behind_nginx,), (setting_up,)]

@@ -11,12 +11,16 @@ import ssl
 import subprocess
 from contextlib import contextmanager, suppress
 
+import pytest
+
 from pages import markdown, sources
 from program.bench import SECONDS
 from program.offices import small_office, compare_with_state
 from program.web import HOST, Server, free_port
 
-from .common import DEPLOY, has, is_root, run, wait_until
+from .common import DEPLOY, run, wait_until
+
+pytestmark = pytest.mark.needs("nginx", "openssl")
 
 NGINX = DEPLOY / "nginx"
 
@@ -147,10 +151,9 @@ def is_passed(answer):
     return answer[1].startswith(b"{")
 
 
-def who_may(bench, name):
+@pytest.mark.parametrize("name", ["tiers", "replica"])
+def check_who_may(bench, name):
     """Each group reaches its functions and no others; nobody reaches one without the right password."""
-    if not has("nginx", "openssl"):
-        return
     office = small_office(bench)
     wanted, groups = sorts(), [group for group, (file, _) in GROUPS.items() if file == name]
     functions = sorted(wanted["administrators"])
@@ -171,10 +174,8 @@ def who_may(bench, name):
     compare_with_state(bench, office.path, office.model.state)
 
 
-def decisions(bench):
+def check_decisions(bench):
     """A decision through nginx is that of the server, and an answer that nginx itself makes is no decision."""
-    if not has("nginx", "openssl"):
-        return
     office = small_office(bench)
     questions = [
         {"session": session, "operation": operation, "object": "safe"}
@@ -191,10 +192,8 @@ def decisions(bench):
         bench.same("without a server", (answer[0], is_passed(answer)), (502, False))
 
 
-def long_bodies(bench):
+def check_long_bodies(bench):
     """Bodies as long as the server accepts are passed on, and one byte more is refused."""
-    if not has("nginx", "openssl"):
-        return
     office = small_office(bench)
     sizes = sources.sizes()
     text, records = sizes["bytes of a body of JSON"], sizes["bytes of a body of CSV"]
@@ -213,10 +212,8 @@ def long_bodies(bench):
             bench.same("a body in pieces", client.recv(100).split()[1], b"200")
 
 
-def slow_client(bench):
+def check_slow_client(bench):
     """A client that sends a part of its body and waits holds up nobody."""
-    if not has("nginx", "openssl"):
-        return
     office = small_office(bench)
     body = b'{"role":"clerk"}'
     with Server(bench, office.path, 100) as server, Proxy(bench, "tiers", server.port) as proxy, proxy.connect() as slow:
@@ -227,10 +224,8 @@ def slow_client(bench):
         bench.same("the slow client", slow.recv(100).split()[1], b"200")
 
 
-def logs(bench):
+def check_logs(bench):
     """The administration log has who sent what, with the body; other logs have no body; none has one without a password."""
-    if not has("nginx", "openssl"):
-        return
     office = small_office(bench)
     rows = io.StringIO(newline="")
     csv.writer(rows, lineterminator="\n").writerows([("user", "role"), *((f"user {number}", 'a "b"') for number in range(9_000))])
@@ -284,10 +279,8 @@ OWN = {
 NO_SERVER = 502
 
 
-def own_answers(bench):
+def check_own_answers(bench):
     """The statuses that the page says nginx itself answers are those that it answers, and none is a decision."""
-    if not has("nginx", "openssl"):
-        return
     table = markdown.tables(markdown.page("NGINX.md"))[1]
     listed = [int(row[0]) for row in table]
     bench.same("the statuses of the page", listed, sorted({NO_SERVER, *(status for status, _ in OWN.values())}))
@@ -328,10 +321,9 @@ def rotation(bench):
     return bench.write("logrotate", text.encode())
 
 
-def kept_logs(bench):
+@pytest.mark.needs("root", "logrotate")
+def check_kept_logs(bench):
     """A rotation deletes no log of administrators, and of others what is older. nginx goes on in a file with the right mode."""
-    if not (has("nginx", "openssl", "logrotate") and is_root()):
-        return
     groups, office, place = ("administrators", "applications"), small_office(bench), rotation(bench)
     os.chmod(place, 0o644)
     with Server(bench, office.path, 100) as server, Proxy(bench, "tiers", server.port) as proxy:
@@ -357,26 +349,11 @@ def kept_logs(bench):
     bench.same("how many logs of applications are left", len(list(bench.folder.glob("applications.log-*"))), 14)
 
 
-def checked(bench, name):
+@pytest.mark.parametrize("name", ["tiers", "replica"])
+def check_settings(bench, name):
     """nginx accepts the settings without a warning."""
-    if not has("nginx", "openssl"):
-        return
     credentials(bench)
     path = bench.write("nginx.conf", settings(name, bench.folder, free_port(), free_port()).encode())
     done = run(["nginx", "-t", "-q", "-p", bench.folder, "-c", path])
     said = [line for line in done.err.decode().splitlines() if "[alert] could not open error log" not in line]
     bench.same(f"what nginx prints about {name}", (done.status, said), (0, []))
-
-
-JOBS = [
-    (who_may, "tiers"),
-    (who_may, "replica"),
-    (logs,),
-    (own_answers,),
-    (kept_logs,),
-    (long_bodies,),
-    (decisions,),
-    (slow_client,),
-    (checked, "tiers"),
-    (checked, "replica"),
-]

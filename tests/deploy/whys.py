@@ -7,10 +7,12 @@ import subprocess
 import tempfile
 from typing import NamedTuple
 
+import pytest
+
 from program.bench import PROGRAM, SECONDS
 from program.web import free_port
 
-from .common import DEPLOY, can_mount, has, run
+from .common import DEPLOY, run
 
 WHY = DEPLOY / "why"
 STORE, GOOD = '{"code":41,"error":"Store"}', ""
@@ -330,28 +332,25 @@ until test -e "$said.holds"; do sleep 0.05; done""",
 ]
 
 
-def is_left_out(case, mounts):
-    """Whether a case can't be tried here. If so, prints why."""
-    needs = case.needs.split()
-    programs = [need for need in needs if need not in ("root", "mount") and not shutil.which(need)]
-    why = "this is not root" if "root" in needs and os.geteuid() != 0 else ""
-    why = why or ("nothing can be mounted here" if "mount" in needs and not mounts else "")
-    why = why or (f"there is no {programs[0]}" if programs else "")
-    if why:
-        print(f"left out, since {why}: deploy/why with {case.what}", flush=True)
-    return bool(why)
+def cases():
+    """The causes as parameters, each with what it needs."""
+    for case in CASES:
+        rights = ["root", "mounts"] if "mount" in case.needs else []
+        yield pytest.param(case, id=case.what, marks=pytest.mark.needs("setpriv", *case.needs.split(), *rights))
 
 
-def try_case(bench, case):
-    """Makes a cause, and counts whether the script names it, changes nothing, and has the status for it."""
+@pytest.mark.parametrize("case", cases())
+def check_cause(bench, case):
+    """The script names a cause and nothing else, changes nothing, and has the status for it."""
     place = tempfile.mkdtemp(dir=bench.folder)
     said = tempfile.mkdtemp(dir=bench.folder)
     for folder in (bench.folder.parent, bench.folder, place, said):
         os.chmod(folder, 0o755)
     os.chmod(said, 0o777)
-    program = shutil.copy(PROGRAM, f"{said}/rbac")
+    # The repository and the program may be where another user can't read them.
+    program, why = shutil.copy(PROGRAM, f"{said}/rbac"), shutil.copy(WHY, f"{said}/why")
     user = AS_NOBODY if os.geteuid() == 0 else []
-    given = ["sh", "-c", TRYING, "sh", program, str(WHY), str(free_port()), case.making, case.office, case.options, *user]
+    given = ["sh", "-c", TRYING, "sh", program, why, str(free_port()), case.making, case.office, case.options, *user]
     words = [*(["unshare", "-m"] if "mount" in case.needs else []), *given]
     more = {"said": f"{said}/said", "place": place, "TMPDIR": "/tmp"}
     if user:
@@ -374,22 +373,9 @@ def try_case(bench, case):
     bench.same(f"{case.what}: nothing has changed", rest[0], "same")
 
 
-def causes(bench):
-    """Each cause that can be made here is named, and nothing else is."""
-    if not has("setpriv", "python3"):
-        return
-    mounts = os.geteuid() == 0 and can_mount()
-    for case in CASES:
-        if not is_left_out(case, mounts):
-            try_case(bench, case)
-
-
-def invalid_arguments(bench):
+def check_invalid_arguments(bench):
     """Without an office, and with a user that this process can't become, the status is 2."""
     for words in ([], ["a", "b"], ["--user", "no such user", "office"]):
         bench.same(f"the status of {words}", run([WHY, *words]).status, 2)
     if os.geteuid() != 0:
         bench.same("the status of --user root", run([WHY, "--user", "root", "office"]).status, 2)
-
-
-JOBS = [(causes,), (invalid_arguments,)]

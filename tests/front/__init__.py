@@ -7,6 +7,8 @@
     kills       the front and its replay are killed under load
     identities  tokens, certificates, JWTs and users of sockets; files that are read again
     clients     slow clients, many connections, heads that are meant to be read in two ways
+    limited     what one caller can't do to others: large bodies and answers, framings that are errors
+    restored    what a client knows from before a restore never counts after it
     table       the table of the calls and their scopes, row by row
     page        the commands of the page
     batches     batches of lines

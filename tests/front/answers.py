@@ -106,11 +106,15 @@ def compare(bench, what, requests):
     return {f"{what}: requests": len(requests), f"{what}: accepted": accepted}
 
 
-@pytest.mark.parametrize("row", [row for row in OF_PROGRAM if row.stem != "many-grants"], ids=name_of)
+def requests_of(row):
+    """What can be asked over HTTP of a row."""
+    return [found for line in row.read_bytes().splitlines() if (found := request_of(line)) and len(found[1]) <= 65_000]
+
+
+@pytest.mark.parametrize("row", [row for row in OF_PROGRAM if requests_of(row) and row.stem != "many-grants"], ids=name_of)
 def check_rows(bench, row):
     """A row gets the answers of `rbac serve`, whatever can be asked over HTTP."""
-    requests = [found for line in row.read_bytes().splitlines() if (found := request_of(line)) and len(found[1]) <= 65_000]
-    return compare(bench, "rows", requests) if requests else {}
+    return compare(bench, "rows", requests_of(row))
 
 
 def check_random(bench):

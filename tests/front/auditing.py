@@ -1,7 +1,8 @@
 """The commands of the part of docs/AUDITING.md that is about the record of a front print what it shows."""
 
 import os
-import shutil
+
+import pytest
 
 from pages import markdown
 from pages.shell import Shell
@@ -14,11 +15,9 @@ from .running import PROGRAM
 SECTION = markdown.section(markdown.page("AUDITING.md"), "## 9. Who did what: the record of a front")
 
 
+@pytest.mark.needs("curl")
 def check_commands(bench):
     """The commands of the section, from its top to its end."""
-    if not shutil.which("curl"):
-        print("left out: the commands about the record, since curl is not installed")
-        return
     (bench.folder / "examples").symlink_to(TESTS.parent / "examples")
     with Shell(bench) as reader:
         for name, path in (("rbac-node", os.environ[PROGRAM]), ("rbac", RBAC)):

@@ -59,6 +59,10 @@ def judge_limits(bench, front):
     """Judges the limits of a batch."""
     users = [line("addUser", user=f"u{i}") for i in range(COMMANDS + 1)]
     bench.same("101 commands", batch(front, users), (413, [BAD]))
+    own = front.connection()
+    own.request("POST", "/v1/batch", text_of(users))
+    bench.same("why", own.getresponse().headers["Office-Why"], "a batch has at most 1000 lines, of which at most 100 are commands")
+    own.close()
     bench.same("none is done", front.ask("assignedRoles", {"user": "u0"})[0], 409)
     bench.same("100 commands", batch(front, users[:COMMANDS]), (200, ['{"ok":true}'] * COMMANDS))
     questions = [line("assignedRoles", user=f"u{i % COMMANDS}") for i in range(LINES + 1)]

@@ -2,10 +2,11 @@
 
 import http.server
 import os
-import shutil
 import subprocess
 import threading
 import time
+
+import pytest
 
 from .program import HOST, Front
 
@@ -48,20 +49,15 @@ class Site(http.server.BaseHTTPRequestHandler):
 
 
 def browser_of(bench):
-    """The command of a browser without a window, or None if there is none."""
-    program = shutil.which("chromium") or shutil.which("chromium-browser")
-    if not program:
-        print("left out: a page in a browser, since chromium is not installed")
-        return None
-    return [program, "--headless=new", "--no-sandbox", "--disable-gpu", "--disable-dev-shm-usage", "--no-first-run",
+    """The command of a browser without a window."""
+    return ["chromium", "--headless=new", "--no-sandbox", "--disable-gpu", "--disable-dev-shm-usage", "--no-first-run",
             f"--user-data-dir={bench.path('profile')}", "--host-resolver-rules=MAP evil.example 127.0.0.1"]  # fmt: skip
 
 
+@pytest.mark.needs("chromium")
 def check_foreign_page(bench):
     """A form, a script, a beacon and an image of a foreign page do nothing, and the page reads nothing."""
     browser = browser_of(bench)
-    if not browser:
-        return
     with Front(bench) as front, http.server.ThreadingHTTPServer((HOST, 0), Site) as site:
         site.said, site.page = [], PAGE.format(front=f"http://{HOST}:{front.port}")
         threading.Thread(target=site.serve_forever, daemon=True).start()
@@ -91,8 +87,6 @@ def check_foreign_page(bench):
 def check_foreign_name(bench):
     """A page of a site that has made its name mean this machine reads nothing from the front."""
     browser = browser_of(bench)
-    if not browser:
-        return
     with Front(bench) as front:
         for name, says in (("evil.example", "ForeignHost"), ("localhost", "ready")):
             words = [*browser, "--dump-dom", f"http://{name}:{front.port}/healthz"]

@@ -1,15 +1,13 @@
-"""Checks the sources of the front with the tools of Go: their format, what `go vet` finds, and what they need."""
+"""What the sources of the front need, as the tools of Go see it."""
 
 import os
 import subprocess
 
-from program.bench import PROGRAM, TESTS
-from stopped.running import IN_MEMORY
+from program.bench import IN_MEMORY, PROGRAM, TESTS
 
 from .running import features
 
 ROOT = TESTS.parent / "node"
-ALL = "etcd,jose,sqlite"
 # It needs the library of SQLite.
 RECORD = "rbac-node/record"
 
@@ -22,13 +20,6 @@ def go(*words, tags=""):
         environment["TMPDIR"] = IN_MEMORY
     done = subprocess.run(words, cwd=ROOT, env=environment, capture_output=True, text=True, timeout=600, check=False)
     return done.stdout + done.stderr, done.returncode
-
-
-def check_form(bench):
-    """gofmt and `go vet` find nothing, with Go alone and with the libraries that are installed."""
-    bench.same("what gofmt would change", go("gofmt", "-l", "src"), ("", 0))
-    bench.same("what go vet finds with Go alone", go("go", "vet", "rbac-node"), ("", 0))
-    bench.same("what go vet finds", go("go", "vet", "rbac-node/...", tags=ALL), ("", 0))
 
 
 def check_dependencies(bench):

@@ -7,7 +7,7 @@ import threading
 import time
 
 from .identities import bearer, secured
-from .program import HOST, Front, read_all, until
+from .program import HOST, Front, read_all, refused_start, until
 
 GOOD = b"POST /v1/addUser HTTP/1.1\r\nHost: localhost\r\n"
 INNER = b"POST /v1/addUser HTTP/1.1\r\nHost: localhost\r\nContent-Length: 19\r\n\r\n" + b'{"user":"smuggled"}'
@@ -209,12 +209,28 @@ def check_at_once(bench):
         open_requests = []
         for _ in range(64):
             client = socket.create_connection((HOST, front.port), 20)
-            client.sendall(GOOD + b"Authorization: Bearer secret\r\nContent-Length: 14\r\n\r\n")
+            client.sendall(GOOD.replace(b"addUser", b"assignedRoles") + b"Authorization: Bearer secret\r\nContent-Length: 14\r\n\r\n")
             open_requests.append(client)
         until(lambda: front.ask("ssdRoleSets", **bearer("secret"))[0] == 429, "the caller has too many requests")
         bench.same("another caller", front.ask("addUser", {"user": "bob"}, **bearer("another"))[0], 200)
         for client in open_requests:
             client.sendall(b'{"user":"ann"}')
-            bench.same("a request that was at hand", client.recv(12), b"HTTP/1.1 403")
+            bench.same("a request that was at hand", client.recv(12), b"HTTP/1.1 409")
             client.close()
         until(lambda: front.ask("ssdRoleSets", **bearer("secret"))[0] == 403, "the caller may ask again")
+
+
+def check_caller_requests(bench):
+    """`--caller-requests` says how many requests a caller may have in flight."""
+    with secured(bench, "--caller-requests", "2") as front:
+        waiting = []
+        for _ in range(2):
+            waiting.append(socket.create_connection((HOST, front.port), 20))
+            waiting[-1].sendall(GOOD.replace(b"addUser", b"assignedRoles") + b"Authorization: Bearer secret\r\nContent-Length: 14\r\n\r\n")
+        until(lambda: front.ask("ssdRoleSets", **bearer("secret"))[0] == 429, "the caller has too many requests")
+        bench.same("another caller", front.ask("addUser", {"user": "bob"}, **bearer("another"))[0], 200)
+        for client in waiting:
+            client.close()
+        until(lambda: front.ask("ssdRoleSets", **bearer("secret"))[0] == 403, "the caller may ask again")
+    status, _, said = refused_start("serve", "--office", bench.path("other"), "--caller-requests", "0")
+    bench.same("none", (status, "--caller-requests must be at least 1" in said), (1, True))

@@ -11,6 +11,7 @@ from machine.drawing import POOLS, Draws
 from machine.state import Refused, above, assigned_roles, authorized_roles, below, granted_permissions, session_roles
 
 from .batches import batch
+from .gateways import refused_by
 from .identities import bearer, secured
 from .program import Front
 from .running import LONG
@@ -61,7 +62,7 @@ def refusal_of(state, subject, known, op, ob):
 
 def decision_of(refusal, allowed):
     """A decision as AuthZEN has it."""
-    return {"context": refusal, "decision": False} if refusal else {"decision": allowed}
+    return refused_by(refusal["code"], refusal["error"]) if refusal else {"decision": allowed}
 
 
 def check_users(bench):
@@ -251,9 +252,10 @@ def check_rights(bench):
         "token:part": [*base, ("permissionRoles", "object drawer"), ("assignedRoles", "user dave"), ("authorizedRoles",
         "user dave")],
         "token:none": [(function, "office") for function in full],
+        "token:sessions": [*base, ("permissionRoles", "object drawer"), ("sessionRoles", "office")],
     }  # fmt: skip
     front = secured(bench, rights=rights)
-    names = {"secret": "desk", "another": "admin", "more": "more", "part": "part", "none": "none"}
+    names = {"secret": "desk", "another": "admin", "more": "more", "part": "part", "none": "none", "sessions": "sessions"}
     bench.write(
         "tokens", "".join(f"{hashlib.sha256(token.encode()).hexdigest()} {name}\n" for token, name in names.items()).encode()
     )
@@ -269,6 +271,7 @@ def check_rights(bench):
             ("part", seal, {"allowed": False, "blocked": [{"role": "chief"}]}),
             ("part", opens, {"allowed": True, "by": [cashier]}),
             ("part", session, {"allowed": True}),
+            ("sessions", session, {"allowed": True, "by": [{"activated": ["cashier"], "role": "cashier"}]}),
             ("more", seal, {"allowed": False,
                             "blocked": [{"members": ["cashier", "supervisor"], "role": "chief", "set": "cash"}]}),
             ("more", session, {"allowed": True, "by": [{**cashier, "activated": ["cashier"]}]}),

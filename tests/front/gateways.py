@@ -8,6 +8,8 @@ import subprocess
 import threading
 from http.server import BaseHTTPRequestHandler, ThreadingHTTPServer
 
+import pytest
+
 from program.bench import SECONDS
 from program.web import free_port
 
@@ -139,12 +141,10 @@ def through(port, method="GET", **fields):
     return found
 
 
+@pytest.mark.needs("nginx")
 def check_nginx(bench):
     """nginx asks the front by auth_request, and lets through only what it allows."""
-    nginx = shutil.which("nginx", path=f"{os.environ['PATH']}:/usr/sbin")
-    if not nginx:
-        print("left out: nginx's auth_request, since nginx is not installed")
-        return
+    nginx = shutil.which("nginx")
     rights = {**RIGHTS, "token:desk": [("checkAccess", "object till:")]}
     with secured(bench, rights=rights) as front, ThreadingHTTPServer((HOST, 0), Site) as site:
         filled(bench, front, **bearer("another"))
@@ -206,6 +206,11 @@ def evaluated(front, path, body):
     return status, json.loads(said)
 
 
+def refused_by(code, name, status=409):
+    """The decision that the office refuses to make."""
+    return {"context": {"code": code, "error": {"message": name, "status": status}}, "decision": False}
+
+
 def check_evaluation(bench):
     """A single evaluation by AuthZEN is the decision of checkAccess; what refuses that is in its context."""
     with Front(bench) as front:
@@ -216,12 +221,9 @@ def check_evaluation(bench):
             "properties": {"a": [1]}}},
              {"decision": True}),
             ("another session", {"subject": entity("session", "s2")}, {"decision": False}),
-            ("no such session", {"subject": entity("session", "s9")}, {"context": {"code": 26, "error": "NoSession"},
-            "decision": False}),
-            ("no such object", {"resource": entity("object", "x")}, {"context": {"code": 6, "error": "NoObject"},
-            "decision": False}),
-            ("no such operation", {"action": {"name": "fly"}}, {"context": {"code": 33, "error": "NoOperation"},
-            "decision": False}),
+            ("no such session", {"subject": entity("session", "s9")}, refused_by(26, "NoSession")),
+            ("no such object", {"resource": entity("object", "x")}, refused_by(6, "NoObject")),
+            ("no such operation", {"action": {"name": "fly"}}, refused_by(33, "NoOperation")),
             ("a type", {"resource": entity("till", "7"), "action": {"name": "GET"}}, {"decision": True}),
             ("the same object", {"resource": entity("object", "till:7"), "action": {"name": "GET"}}, {"decision": True}),
         ]:  # fmt: skip
@@ -248,7 +250,7 @@ def check_evaluations(bench):
         yes, no = {"decision": True}, {"decision": False}
         other = {"subject": entity("session", "s2")}
         gone = {"subject": entity("session", "s9")}
-        refused = {"context": {"code": 26, "error": "NoSession"}, "decision": False}
+        refused = refused_by(26, "NoSession")
         some = [{}, other, gone, {"resource": entity("till", "7"), "action": {"name": "GET"}}, {"action": {"name": "open"}}]
         for semantic, wanted in [
             (None, [yes, no, refused, yes, yes]),
@@ -261,6 +263,12 @@ def check_evaluations(bench):
             bench.same(f"evaluations by {semantic}", given, (200, {"evaluations": wanted}))
         denied = body_of(evaluations=[other, gone, {}, {}], options={"evaluations_semantic": "permit_on_first_permit"})
         bench.same("up to the first", evaluated(front, "evaluations", denied), (200, {"evaluations": [no, refused, yes]}))
+        odd = [{}, {"subject": entity("group", "s1")}, {"resource": entity("a:b", "c")}, other]
+        unknown = refused_by(34, "BadRequest", 400)
+        given = evaluated(front, "evaluations", body_of(evaluations=odd))
+        bench.same("sorts that nobody knows", given, (200, {"evaluations": [yes, unknown, unknown, no]}))
+        given = evaluated(front, "evaluations", body_of(evaluations=odd[1:3]))
+        bench.same("nothing else", given, (200, {"evaluations": [unknown, unknown]}))
         whole = json.loads(body_of())
         given = evaluated(front, "evaluations", json.dumps({"evaluations": [whole, {**whole, **other}]}))
         bench.same("each is whole", given, (200, {"evaluations": [yes, no]}))
@@ -291,6 +299,11 @@ def check_metadata(bench):
         bench.same("the metadata", (status, json.loads(said)), (200, wanted))
         bench.same("POST", front.exchange("POST", path, "{}")[0], 405)
         bench.same("a foreign page", front.exchange("GET", path, Origin="https://x.example")[0], 403)
+        own = front.connection()
+        own.request("POST", "/access/v1/evaluation", body_of(), {"X-Request-ID": "7-b"})
+        reply = own.getresponse()
+        bench.same("X-Request-ID without identity", (reply.status, reply.headers["X-Request-ID"]), (401, "7-b"))
+        own.close()
     with Front(bench, name="other") as front:
         bench.same("no address", front.exchange("GET", path)[0], 404)
         for number, wanted in (("7-a", "7-a"), (None, None)):

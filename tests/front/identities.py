@@ -5,16 +5,20 @@ import hashlib
 import http.client
 import json
 import os
+import re
 import signal
 import ssl
 import subprocess
 import time
+
+import pytest
 
 from program.bench import PROGRAM as RBAC
 from program.bench import TESTS
 
 from .program import HOST, Front, over_tls, refused_start, until
 from .running import features
+from .sources import keys_of_functions
 
 # Makes two authorities of the same name, and certificates: CN by the first name, and what is wrong by the second.
 CERTIFICATES = r"""
@@ -38,6 +42,9 @@ make foreign other /CN=shop "$both" '-days 2'
 openssl req -x509 $ec -keyout own.key -out own.crt -subj /CN=shop -days 2
 make expired ca /CN=shop "$both" '-days 0'
 """
+
+# The operations that are no functions.
+OTHERS = ["decideByUser", "lists", "metrics", "record", "reports", "review", "snapshot", "watch", "whatIf"]
 
 # Whom the callers' office of these checks lets do what: the caller, and pairs of a function and a scope.
 RIGHTS = {
@@ -220,11 +227,9 @@ def jwt(bench, claims, head=None, key="jwt.key"):
     return f"{signed}.{encoded(openssl(bench, f'openssl dgst -sha256 -sign {key}', signed.encode()))}"
 
 
+@pytest.mark.needs("jose-go", "openssl")
 def check_jwts(bench):
     """A JWT shows who asks; what is wrong with one is tried in Go, and here once with a signature of openssl."""
-    if "jose" not in features():
-        print("left out: JWTs, since the library go-jose is not installed")
-        return
     openssl(bench, "for key in jwt other; do openssl genrsa -out $key.key 2048; done")
     modulus = openssl(bench, "openssl rsa -in jwt.key -noout -modulus").decode().strip().partition("=")[2]
     keys = {
@@ -289,7 +294,7 @@ def check_reload(bench):
     """SIGHUP puts all files in force together, or none if one has a bad line; no request is refused or lost meanwhile."""
     with secured(bench) as front:
         desk = lambda role: front.ask("assignUser", {"user": "ann", "role": role}, **bearer("secret"))[0]  # noqa: E731
-        since = lambda: metric(front, "rbac_node_callers_refused_since_seconds")  # noqa: E731
+        since = lambda: metric(front, "rbac_node_callers_refused_timestamp_seconds")  # noqa: E731
         bench.same("before", (desk("clerk"), desk("boss"), since()), (409, 403, 0))
         changed = {**RIGHTS, "token:desk": [("assignUser", "role boss")]}
         bench.write("callers.jsonl", (rules(changed) + '{"fn":"fly"}\n').encode())
@@ -355,8 +360,8 @@ def judge_gapless(bench, front):
 
 
 def check_example(bench):
-    """The example of deploy/ is accepted, and `callers FILE` prints who may do what by it."""
-    path = str(TESTS.parent / "deploy/callers.jsonl")
+    """The example is accepted, and `callers FILE` prints who may do what by it."""
+    path = str(TESTS.parent / "examples/callers/callers.jsonl")
     status, printed, said = refused_start("callers", "--program", RBAC, path)
     bench.same("its status", (status, said), (0, ""))
     rows = [line.split("\t") for line in printed.splitlines()]
@@ -366,3 +371,19 @@ def check_example(bench):
     bench.same("kinds of callers", kinds, {"token", "cert", "oidc", "unix"})
     desk = [row[1] for row in rows if "assignUser" in row[2].split() and row[1] != "office"]
     bench.same("somebody may assign some roles only", len(desk) > 0, True)
+
+
+def check_installed(bench):
+    """What is installed lets root do everything and names nobody else: neither a person nor a program of an example."""
+    path = TESTS.parent / "deploy/callers.jsonl"
+    status, printed, said = refused_start("callers", "--program", RBAC, str(path))
+    bench.same("its status", (status, said), (0, ""))
+    callers = [line.split("\t") for line in printed.splitlines()]
+    bench.same("the callers and their scopes", [row[:2] for row in callers], [["unix:0", "office"]])
+    everything = {*keys_of_functions(), *OTHERS}
+    bench.same("what root may do", sorted(callers[0][2].split()), sorted(everything))
+    named = {value["user"] for value in map(json.loads, path.read_text(encoding="utf-8").splitlines()) if "user" in value}
+    bench.same("the users in it", named, {"unix:0"})
+    for other in sorted((TESTS.parent / "deploy").rglob("*")):
+        if other.is_file():
+            bench.same(f"people in {other.name}", re.findall(rb"[\w.]+@example\.\w+", other.read_bytes()), [])

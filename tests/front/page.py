@@ -2,8 +2,9 @@
 
 import os
 import re
-import shutil
 import subprocess
+
+import pytest
 
 from pages import markdown
 from pages.shell import Shell
@@ -24,11 +25,9 @@ BUILDING_SECONDS = 600
 FILES = {"callers.jsonl": "json", "ask.py": "python"}
 
 
+@pytest.mark.needs("curl", "openssl")
 def check_commands(bench):
     """The commands of the page print what is shown below them."""
-    if not (shutil.which("curl") and shutil.which("openssl")):
-        print("left out: the commands of the page, since curl or openssl is not installed")
-        return
     with Shell(bench) as reader:
         clone(bench)
         for name, language in FILES.items():
@@ -48,13 +47,11 @@ def type_all(bench, reader, page):
             bench.same(f"what {command} prints", reader.type(command, seconds=seconds), wanted)
 
 
+@pytest.mark.needs("curl")
 def check_callers(bench):
     """The commands of the page of callers print what is shown below them."""
-    if not shutil.which("curl"):
-        print("left out: the commands of docs/CALLERS.md, since curl is not installed")
-        return
     with Shell(bench) as reader:
-        (bench.folder / "deploy").symlink_to(TESTS.parent / "deploy")
+        (bench.folder / "examples").symlink_to(TESTS.parent / "examples")
         (bench.folder / "bin/rbac-node").symlink_to(os.environ[PROGRAM])
         type_all(bench, reader, CALLERS)
 
@@ -82,11 +79,9 @@ def check_form(bench):
     bench.same("the languages", set(re.findall(r"^```(\w+)$", PAGE, re.M)), {"console", "sh", *FILES.values()})
 
 
+@pytest.mark.needs("systemd-analyze")
 def check_unit(bench):
     """systemd-analyze finds no fault in the unit, and calls its exposure low."""
-    if not shutil.which("systemd-analyze"):
-        print("left out: the unit, since systemd-analyze is not installed")
-        return
     unit = (TESTS.parent / "deploy/rbac-node@.service").read_text(encoding="utf-8")
     bench.same("what the unit starts", "ExecStart=/usr/bin/rbac-node serve" in unit, True)
     path = bench.write("rbac-node@x.service", unit.replace("/usr/bin/rbac-node", os.environ[PROGRAM]).encode())

@@ -5,8 +5,11 @@ import json
 import os
 import shutil
 import subprocess
+import time
 from collections import Counter
 
+from needs import skip
+import pytest
 from program.bench import TESTS
 
 from .program import Front, until
@@ -17,6 +20,13 @@ OK = '{"ok":true}'
 
 # How many calls of SQLite each kind of disturbance goes through, and with `--long`.
 CALLS, MORE_CALLS = 14, 120
+
+
+# After how many seconds the front has tried again to write what it couldn't write.
+RETRIED = 3
+
+# A command whose entry needs much more room than its answer.
+LONG_IMPORT = "user,role\n" + "ann,clerk\n" * 5_000
 
 
 class Mounted:
@@ -47,13 +57,17 @@ class Mounted:
         self.holder.wait()
 
 
+def is_failing(front):
+    """Whether the metric says that the record can't be written."""
+    return "rbac_node_record_failing 1" in front.exchange("GET", "/metrics")[1].splitlines()
+
+
 def check_full_disk(bench):
     """Without room for the record commands get 503, and questions are answered. When there is room again, commands are done."""
     front = Front(bench)
     with Mounted(f"{front.office}.record", "600k") as disk:
         if not disk.is_mounted:
-            print("left out: a full disk, since this process may not mount one")
-            return
+            skip("mounts", "a full disk")
         front.prefix = disk.words()
         with front:
             connection, done = front.connection(), 0
@@ -65,7 +79,7 @@ def check_full_disk(bench):
                 bench.same("a command", front.ask("addRole", {"role": f"r{turn}"}, connection)[0], 503)
             status, text = front.exchange("GET", "/healthz")
             bench.same("health", (status, json.loads(text)["ready"], "full" in json.loads(text)["record"]), (200, True, True))
-            bench.same("a metric", "rbac_node_record_failing 1" in front.exchange("GET", "/metrics")[1], True)
+            bench.same("a metric", is_failing(front), True)
             bench.same("lines of the log", front.said().count("commands are refused, since the record"), 1)
             disk.resize("60m")
             until(lambda: front.ask("addUser", {"user": "again"}, connection)[0] in (200, 409), "commands are done again")
@@ -78,6 +92,33 @@ def check_full_disk(bench):
     os.rename(bench.path("kept"), f"{front.office}.record")
     judge(bench, "a full disk", front)
     return {"commands until the disk of the record was full": done}
+
+
+# Of these disks the last one, at least, has room for all answers and not for the next command.
+@pytest.mark.parametrize("size", ["1m", "5m", "8m"])
+def check_alarm(bench, size):
+    """A disk that has no room for a command: the alarm stays until a command was recorded, also if nothing is asked meanwhile."""
+    front = Front(bench)
+    with Mounted(f"{front.office}.record", size) as disk:
+        if not disk.is_mounted:
+            skip("mounts", "a full disk")
+        front.prefix = disk.words()
+        with front:
+
+            def alarm():
+                record = json.loads(front.exchange("GET", "/healthz")[1]).get("record", "")
+                return is_failing(front), "full" in record
+
+            bench.same("before", alarm(), (False, False))
+            until(lambda: front.ask("importAssignments", LONG_IMPORT)[0] == 503, "the disk is full")
+            bench.same("the alarm", alarm(), (True, True))
+            time.sleep(RETRIED)
+            bench.same("the alarm later", alarm(), (True, True))
+            disk.resize("60m")
+            bench.same("a command when there is room", front.ask("addUser", {"user": "ann"}), (200, OK))
+            bench.same("no alarm", alarm(), (False, False))
+            bench.same("the end", front.end(), 0)
+    os.rmdir(f"{front.office}.record")
 
 
 def judge(bench, what, front):

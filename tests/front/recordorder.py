@@ -2,8 +2,9 @@
 
 import os
 import re
-import shutil
 import signal
+
+import pytest
 
 from program.bench import SECONDS
 
@@ -21,11 +22,9 @@ EVENTS = [
 COMMANDS = 12
 
 
+@pytest.mark.needs("strace")
 def check_order(bench):
     """Each command is written to the record and synced, then sent; its answer is written to the record, then sent."""
-    if not shutil.which("strace"):
-        print("left out: the order of syncs, since strace is not installed")
-        return
     trace = bench.path("trace")
     front = Front(bench)
     front.prefix = ["strace", "-f", "-y", "-qq", "-s", "60", "-e", "trace=pwrite64,write,fsync,fdatasync", "-o", trace]

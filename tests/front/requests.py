@@ -2,8 +2,8 @@
 
 import os
 import re
-import shutil
 
+from needs import skip_without
 from pages import markdown
 from pages.shell import Shell
 from program.bench import TESTS
@@ -32,9 +32,7 @@ def check_lists(bench):
 
 def type_all(bench, blocks):
     """Types the commands of these blocks, and compares what they print."""
-    if not shutil.which("curl"):
-        print("left out: the commands of docs/REQUESTS.md and docs/LISTS.md, since curl is not installed")
-        return
+    skip_without("curl")
     with Shell(bench) as reader:
         (bench.folder / "examples").symlink_to(TESTS.parent / "examples")
         (bench.folder / "bin/rbac-node").symlink_to(os.environ[PROGRAM])

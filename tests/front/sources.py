@@ -7,6 +7,7 @@ from program.bench import TESTS
 
 SOURCES = TESTS.parent / "node/src/rbac-node"
 PAGE = markdown.page("FRONT.md") + markdown.page("CALLERS.md")
+LISTS = markdown.page("LISTS.md")
 
 
 def text_of(*names):
@@ -45,14 +46,14 @@ OTHERS = {"build", "features", "unix-socket", "cacert", "system", "home-dir", "s
 
 def check_metrics(bench):
     """The page lists each metric of the front, and no other one."""
-    sources = text_of("api/api.go", "front/front.go", "one.go", "settings.go", "record/head.go")
-    known = set(re.findall(r'(?:Counter|Gauge|Histogram)\(\s*"(rbac_\w+)"', sources))
+    sources = text_of("api/api.go", "front/front.go", "one.go", "settings.go", "record/head.go", "metrics/process.go")
+    known = set(re.findall(r'(?:Counter|Gauge|Histogram|Tally)\(\s*"(rbac_\w+)"', sources))
     bench.same("metrics of the page", sorted(set(re.findall(r"rbac_node_\w+", PAGE))), sorted(known))
 
 
 def check_refusals(bench):
     """The refusals of the front are those of the page."""
-    found = re.findall(r'Refusal\{http\.Status(\w+), (\d+), "(\w+)"\}', text_of("api/api.go"))
+    found = re.findall(r'Refusal\{Status: http\.Status(\w+), Code: (\d+), Name: "(\w+)"\}', text_of("api/api.go"))
     for _, code, name in found:
         if name not in ("Diverged", "UnknownFunction"):
             bench.same(f"{code} {name}", f"{code} {name}" in PAGE or f'"code":{code},"error":"{name}"' in PAGE, True)
@@ -61,7 +62,7 @@ def check_refusals(bench):
 
 def check_limits(bench):
     """The limits on the page are those of the sources."""
-    page, sources = markdown.in_one_line(PAGE), "".join(
+    page, sources = markdown.in_one_line(PAGE + LISTS), "".join(
         path.read_text(encoding="utf-8") for path in sorted(SOURCES.rglob("*.go"))
     )
     for source, text in [
@@ -72,8 +73,11 @@ def check_limits(bench):
         ("writeTimeout = 10 * time.Second", "10 seconds to take an answer"),
         ("idleTimeout  = 2 * time.Minute", "may be idle for 2 minutes"),
         ("defaultConnections = 20_000", "(default: 20,000, or what the limit of file descriptors allows)"),
-        ("endTimeout = 10 * time.Second", "the requests at hand, for up to 10 seconds"),
-        ("mostAtOnce = 64", "64 requests at hand at once"),
+        ("endTimeout = 10 * time.Second", "the requests in flight, for up to 10 seconds"),
+        ("defaultCallerRequests = 64", "64 requests in flight (`--caller-requests`)"),
+        ("mostLarge, mostLargeOfOne = 64, 16", "16 requests for lists and snapshots at once"),
+        ("MostKeyBits = 8192", "8,192 bits"),
+        ("mostEvents, mostEventBytes = 10_000, 8 << 20", "or as many as have 8 MiB"),
         ("mostCallers = 1000", "at most 1,000 callers"),
         ("longestJWT = 8192", "A JWT** has at most 8,192 bytes"),
         ("MaxLineBytes = 65_536", "a line of at most 65,536 bytes"),
@@ -83,7 +87,7 @@ def check_limits(bench):
         ('"timeout", 10*time.Second', "(default: 10s)"),
         ('"hang-timeout", time.Minute', "(default: 1m)"),
         ("longestReason = 256", "up to 256 bytes of UTF-8"),
-        ('"record-base", 10_000', "the later commands again (default: 10,000)"),
+        ('"record-base", 10_000', "does the later commands again (default: 10,000)"),
         ("nobody = 65534", "65534, which is nobody"),
         ("silenceTimeout = 5 * time.Second", "the replay has answered none for 5 seconds"),
     ]:

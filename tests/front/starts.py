@@ -3,14 +3,19 @@
 import http.client
 import json
 import os
+import re
 import shutil
 import signal
 import socket
+import sqlite3
 import subprocess
 import threading
 import time
 
+import pytest
+
 from program.bench import PROGRAM as RBAC
+from program.bench import TESTS
 from program.web import listening
 
 from .identities import CERTIFICATES, openssl, rules, secured, tls_words
@@ -56,8 +61,8 @@ def check_refused(bench):
         ("callers with a bad line", [*one, "--callers", bench.path("bad")], "bad:1: UnknownFunction"),
         ("no file of callers", [*one, "--callers", bench.path("none")], "callers"),
         ("no program", ["serve", "--office", office, "--program", bench.path("none")], "none"),
-        ("an empty file", ["serve", "--program", RBAC, "--office", bench.path("empty")], "NotAnOffice"),
-        ("another file", ["serve", "--program", RBAC, "--office", bench.path("callers")], '"error":"Store"'),
+        ("an empty file", ["serve", "--program", RBAC, "--office", bench.path("empty")], "empty is no office"),
+        ("another file", ["serve", "--program", RBAC, "--office", bench.path("callers")], "callers is no office"),
         ("a folder that doesn't exist", ["serve", "--program", RBAC, "--office", bench.path("none/office")], "lock"),
         ("no connections", [*one, "--connections", "0"], "--connections"),
         ("more than there can be", [*one, "--connections", "100000000"], "--connections"),
@@ -71,6 +76,73 @@ def check_refused(bench):
     bench.same("no office was made", os.path.exists(office), False)
     status, _, said = refused_start("serve", "--help")
     bench.same("help", (status, "-office" in said), (0, True))
+
+
+def check_no_office(bench):
+    """What is no office is named, and nothing is made beside it, with callers and without a record too."""
+    bench.write("callers.jsonl", rules({"token:a": [("addUser", "office")]}).encode())
+    bench.write("text", b"user,role\n")
+    with sqlite3.connect(bench.path("database")) as other:
+        other.execute("CREATE TABLE x (a)")
+    other.close()
+    os.mkdir(bench.path("folder"))
+    os.mkfifo(bench.path("pipe"))
+    before = bench.contents()
+    for name, says in [("text", "it isn't a file of SQLite"), ("database", '"error":"NotAnOffice"'), ("folder", "it isn't a file"), ("pipe", "it isn't a file")]:
+        for more in ([], ["--no-record"], ["--callers", bench.path("callers.jsonl")]):
+            status, out, said = refused_start("serve", "--program", RBAC, "--office", bench.path(name), *more)
+            bench.same(f"{name} {more}", (status, out, f"{bench.path(name)} is no office" in said, says in said), (1, "", True, True))
+            bench.same(f"{name} {more}: what is left", bench.contents(), before)
+
+
+def check_version(bench):
+    """The version is that of the repository, in a line of its own and as a metric, beside what is known of the process."""
+    version = (TESTS.parent / "VERSION").read_text(encoding="ascii").strip()
+    bench.same("--version", refused_start("--version"), (0, f"rbac-node {version}\n", ""))
+    status, out, said = refused_start("--help")
+    bench.same("--help", (status, all(f"  rbac-node {word} " in out for word in ("serve", "callers", "record", "backup")), said), (0, True, ""))
+    with Front(bench) as front:
+        lines = front.exchange("GET", "/metrics")[1].splitlines()
+        built = [line for line in lines if line.startswith("rbac_node_build_info{")]
+        bench.same("the metric", [f'version="{version}"' in line and line.endswith(" 1") for line in built], [True])
+        found = {line.split()[0]: float(line.split()[1]) for line in lines if line.startswith("process_")}
+        names = ["cpu_seconds_total", "max_fds", "open_fds", "resident_memory_bytes", "start_time_seconds", "virtual_memory_bytes"]
+        bench.same("of the process", sorted(found), [f"process_{name}" for name in names])
+        bench.same("all are known", [name for name, value in found.items() if value <= 0 and "cpu" not in name], [])
+
+
+def check_decisions(bench):
+    """Decisions are counted by what they say, whichever way they are asked for."""
+    with Front(bench) as front:
+        for function, values in [("addUser", {"user": "ann"}), ("addRole", {"role": "clerk"}), ("assignUser", {"user": "ann", "role": "clerk"}),
+                                 ("addPermObj", {"object": "till"}), ("addPermission", {"object": "till", "operation": "open"}),
+                                 ("grantPermission", {"object": "till", "operation": "open", "role": "clerk"}),
+                                 ("createSession", {"user": "ann", "roles": ["clerk"], "session": "s"})]:  # fmt: skip
+            bench.same(function, front.ask(function, values)[0], 200)
+        asked = {"session": "s", "operation": "open", "object": "till"}
+        by_user = {"user": "ann", "operation": "open", "object": "till"}
+        subject = {"subject": {"type": "session", "id": "s"}, "resource": {"type": "object", "id": "till"}}
+
+        def counted():
+            text = front.exchange("GET", "/metrics")[1]
+            return tuple(int((re.findall(rf'^rbac_node_decisions_total{{decision="{word}"}} (\d+)$', text, re.M) or ["0"])[0]) for word in ("allowed", "denied"))
+
+        bench.same("none", counted(), (0, 0))
+        for what, ask, wanted in [
+            ("allowed", lambda: front.ask("checkAccess", asked), (1, 0)),
+            ("refused", lambda: front.ask("checkAccess", {**asked, "session": "x"}), (1, 1)),
+            ("no request", lambda: front.ask("checkAccess", {}), (1, 1)),
+            ("another function", lambda: front.ask("assignedRoles", {"user": "ann"}), (1, 1)),
+            ("a user", lambda: front.ask("decideByUser", by_user), (2, 1)),
+            ("a batch", lambda: front.ask("batch", "".join(json.dumps({"fn": name, **values}) + "\n" for name, values in
+                                                           [("checkAccess", asked), ("decideByUser", by_user), ("assignedRoles", {"user": "ann"}),
+                                                            ("checkAccess", {**asked, "object": "x"})])), (4, 2)),
+            ("a gateway", lambda: front.exchange("GET", "/decide", None, Office_Session="s", Office_Operation="open", Office_Object="till"), (5, 2)),
+            ("evaluations", lambda: front.exchange("POST", "/access/v1/evaluations", json.dumps({**subject, "evaluations": [
+                {"action": {"name": "open"}}, {"action": {"name": "close"}}]})), (6, 3)),
+        ]:  # fmt: skip
+            ask()
+            bench.same(what, counted(), wanted)
 
 
 def check_without_libraries(bench):
@@ -105,8 +177,6 @@ def check_without_libraries(bench):
         bench.same("no record was made", os.path.exists(bench.path("office.record")), False)
     finally:
         os.environ["RBAC_FRONT"] = old
-    if "etcd" not in features():
-        print("left out: a program for several machines, since the libraries of etcd are not installed")
 
 
 def check_first_start(bench):
@@ -302,11 +372,9 @@ def check_no_memory_of_old_replay(bench):
         bench.same("the first one answers", front.ask("assignedRoles", {"user": "ann"})[0], 200)
 
 
+@pytest.mark.needs("curl")
 def check_socket_is_asked(bench):
     """curl can ask over the socket, as the page says."""
-    if not shutil.which("curl"):
-        print("left out: curl, which is not installed")
-        return
     path = bench.path("run/socket")
     with Front(bench, listen=f"unix:{path}") as front:
         words = ["curl", "-s", "--unix-socket", path, "-d", '{"user":"ann"}', "http://localhost/v1/addUser"]

@@ -9,6 +9,8 @@ import threading
 import time
 from pathlib import Path
 
+import pytest
+
 from machine.commands import COMMANDS
 from machine.drawing import Draws
 from program.bench import PROGRAM as RBAC
@@ -67,9 +69,20 @@ def drawn(draws):
     return lines
 
 
-def check_model(bench):
+def ending(draws):
+    """A command by which a session ends and a user may do less, with the answer of the model, if there is such a user."""
+    some = possible(draws.state)
+    owners = sorted({user for user, _ in draws.state.sessions.values() if some[user]})
+    lines = [json.dumps({"fn": "lockUserAccount", "user": user}).encode() for user in owners[:1]]
+    return [(text, json.loads(draws.replay.answer(text))) for text in lines]
+
+
+# Of the fixed ones the first has, in one batch, the end of a user and a session of the same name as one of its own, which is refused; with
+# the second no random command ends a session.
+@pytest.mark.parametrize("seed", [None, 443356698, 539779121])
+def check_model(bench, seed):
     """Random commands over random offices: answers, sessions that would end, gains and losses are those of the model; nothing changes."""
-    seed = random.randrange(1_000_000_000)
+    seed = random.randrange(1_000_000_000) if seed is None else seed
     print(f"the seed of the trials is {seed}")
     count = {"gained": 0, "lost": 0, "ended": 0, "refused": 0}
     with Front(bench) as front:
@@ -81,7 +94,7 @@ def check_model(bench):
                 batch(front, b"\n".join(lines[start : start + 100]), connection=kept)
             for trial in range(TRIALS):
                 before = draws.state
-                some = drawn(draws)
+                some = drawn(draws) + (ending(draws) if trial == TRIALS - 1 else [])
                 after = draws.state
                 had, has = possible(before), possible(after)
                 ended = sorted(

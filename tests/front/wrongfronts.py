@@ -1,13 +1,14 @@
-"""Wrong fronts, each an edit of the sources, and what finds them. Without `--long` only the places of the edits are looked at.
+"""Wrong fronts, which are built with a tag and have one fault each, and what finds them. With `--long` they are built and run.
 
-With `--long` they are built and run. Kills under load find those that send before they record, release out of order, or forget
-answers. A beginning that is too short does no harm under kills: the tests of the package find it. A missing lock is found by a
-replay that outlives its front.
+Kills under load find those that send before they record, release out of order, or forget answers. A beginning that is too short does no
+harm under kills: the tests of the package find it. A missing lock is found by a replay that outlives its front.
 """
 
 import os
-import shutil
+import re
 import subprocess
+
+import pytest
 
 from program.bench import PROGRAM as RBAC
 from program.bench import TESTS, Bench
@@ -15,64 +16,20 @@ from program.bench import TESTS, Bench
 from .building import RECORD
 from .program import Front, children, refused_start
 from .recordkills import Rounds
-from .running import LONG, PROGRAM, build
+from .running import PROGRAM, build, features
 
 ROOT = TESTS.parent
+SOURCES = ROOT / "node/src/rbac-node"
 OK = '{"ok":true}'
 
 # How many rounds of kills a wrong front gets.
 ROUNDS = 60
 
-# The edits: a file, what is there once, and what stands there in the wrong front.
-EDITS = {
-    "sends before it records": (
-        "feed/keeping.go",
-        "\terr := k.keeper.Keep(answered, wanted)\n",
-        "\tearly := k.pass(wanted)\n\ttime.Sleep(500 * time.Microsecond)\n\terr := k.keeper.Keep(answered, wanted)\n\twanted = early\n",
-    ),
-    "releases out of order": (
-        "feed/keeping.go",
-        "\tk.answered = append(k.answered, u)\n",
-        "\tk.answered = append([]*Unit{u}, k.answered...)\n",
-    ),
-    "takes the shortest beginning": ("record/rerun.go", "\t\tif same {\n", "\t\tif same && most < 0 {\n"),
-    "has no lock that the replay inherits": (
-        "single/single.go",
-        "office.Start(o.Program, o.File, o.HangTimeout, o.lock)",
-        "office.Start(o.Program, o.File, o.HangTimeout)",
-    ),
-    "forgets the answers that it found": (
-        "record/reconcile.go",
-        "\tif err := r.write(open[:done], nil); err != nil {\n",
-        "\tif err := r.write(nil, nil); err != nil {\n",
-    ),
-}
+# The faults, by their names in the sources.
+FAULTS = dict(re.findall(r'^\t(\w+) = "(.+)"$', (SOURCES / "faults/faults.go").read_text(encoding="utf-8"), re.M))
 
-
-def edited(bench, name):
-    """A copy of what builds the front, with an edit."""
-    root = bench.folder / "sources"
-    (root / "bin").mkdir(parents=True)
-    shutil.copy(ROOT / "bin/node", root / "bin/node")
-    shutil.copytree(ROOT / "node", root / "node")
-    file, old, new = EDITS[name]
-    path = root / "node/src/rbac-node" / file
-    text = path.read_text(encoding="utf-8")
-    bench.same(f"{name}: the place of the edit", text.count(old), 1)
-    text = text.replace(old, new)
-    if name == "sends before it records":
-        text = text.replace("\tif err == nil {\n\t\twanted = k.pass(wanted)\n\t}\n", "")
-    path.write_text(text, encoding="utf-8")
-    return root
-
-
-def tried_with(program, work):
-    """Does something with another front."""
-    usual, os.environ[PROGRAM] = os.environ[PROGRAM], program
-    try:
-        return work()
-    finally:
-        os.environ[PROGRAM] = usual
+# The variable that names the fault of a front that can have one.
+FAULT = "RBAC_NODE_FAULT"
 
 
 def is_found_by_kills(folder):
@@ -118,24 +75,30 @@ def check_late_replay(bench):
     bench.same("it looks at the office", is_found_by_late_replay(bench, "late"), False)
 
 
-def check_wrong_fronts(bench):
-    """Each wrong front is found."""
-    for number, name in enumerate(EDITS):
-        folder = bench.folder / str(number)
-        folder.mkdir()
-        root = edited(Bench(folder), name)
-        if not os.environ.get(LONG):
-            bench.same(f"{name}: the edit has its place", root.exists(), True)
-            continue
-        if name == "takes the shortest beginning":
-            environment = {**os.environ, "GO111MODULE": "off", "GOPATH": f"{root}/node:/usr/share/gocode", "RBAC_PROGRAM": RBAC}
-            words = ["go", "test", "-count=1", "-tags=sqlite", "-run=TestBefore", RECORD]
-            done = subprocess.run(words, cwd=root / "node", env=environment, capture_output=True, text=True, check=False)
-            bench.same(f"{name}: its tests fail", (done.returncode, "TestBefore" in done.stdout), (1, True))
-            continue
-        program = build(folder, root)
-        if name == "has no lock that the replay inherits":
-            found = tried_with(program, lambda: is_found_by_late_replay(bench, "unlocked"))
-        else:
-            found = tried_with(program, lambda: is_found_by_kills(folder / "rounds"))
-        bench.same(f"a front that {name} is found", found, True)
+def check_places(bench):
+    """Each fault has a place in the sources, and a program that isn't built for it has none of them."""
+    texts = [path.read_text(encoding="utf-8") for path in SOURCES.rglob("*.go") if path.parent.name != "faults"]
+    for name in FAULTS:
+        bench.same(f"{name} has a place", any(f"faults.Has(faults.{name})" in text for text in texts), True)
+    bench.same("bin/node builds it", "faults" in features(), False)
+    with open(os.environ[PROGRAM], "rb") as file:
+        bench.same("the program that is tried can have one", FAULT.encode() in file.read(), False)
+
+
+@pytest.mark.long
+@pytest.mark.timeout(1_800)
+@pytest.mark.parametrize("name", FAULTS)
+def check_wrong_front(bench, name, monkeypatch):
+    """A front with a fault is found."""
+    monkeypatch.setenv(FAULT, FAULTS[name])
+    tags = ",".join([*features(), "faults"])
+    if name == "ShortestBeginning":
+        environment = {**os.environ, "GO111MODULE": "off", "GOPATH": f"{ROOT}/node:/usr/share/gocode", "RBAC_PROGRAM": RBAC}
+        words = ["go", "test", "-count=1", f"-tags={tags}", "-run=TestBefore", RECORD]
+        done = subprocess.run(words, cwd=ROOT / "node", env=environment, capture_output=True, text=True, check=False)
+        bench.same("its tests fail", (done.returncode, "TestBefore" in done.stdout), (1, True))
+        return
+    monkeypatch.setenv("NODE_FEATURES", tags)
+    monkeypatch.setenv(PROGRAM, build(bench.folder))
+    found = is_found_by_late_replay(bench, "unlocked") if name == "Unlocked" else is_found_by_kills(bench.folder / "rounds")
+    bench.same("it is found", found, True)

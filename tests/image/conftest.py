@@ -6,12 +6,16 @@ import pytest
 
 from . import running
 
+NEEDED = pytest.mark.needs("go", "gcc", "sqlite-go", "crypto-go", "jose-go", "buildah", "strip", "dpkg-buildpackage", "users of images")
 
-@pytest.fixture(scope="session", autouse=True)
+
+def pytest_collection_modifyitems(items):
+    for item in items:
+        if item.path.parent.name == "image":
+            item.add_marker(NEEDED)
+            item.add_marker(pytest.mark.xdist_group("image"))
+
+
+@pytest.fixture(autouse=True)
 def image(built):
-    if lacking := running.missing():
-        pytest.skip(f"there is no {', '.join(lacking)}")
-    folder = built("image", lambda folder: (folder / "fault").write_text(running.build(folder), encoding="utf-8"))
-    if fault := (folder / "fault").read_text(encoding="utf-8"):
-        pytest.fail(fault, pytrace=False)
-    os.environ[running.IMAGE] = str(folder)
+    os.environ[running.IMAGE] = str(built("image", running.build))

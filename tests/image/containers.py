@@ -8,6 +8,7 @@ import subprocess
 import time
 from pathlib import Path
 
+from needs import skip
 from program.bench import SECONDS
 
 from .contents import OPTIONS, opened
@@ -222,28 +223,23 @@ class Bubblewrap:
 
 
 def podman(folder):
-    """Returns podman with the image loaded, or None, after a line that says why it can't run here."""
-    said = "it is not installed"
-    if shutil.which("podman"):
-        runtimes = [[], *(["--runtime", name] for name in ("crun", "runc") if shutil.which(name))]
-        for runtime in runtimes:
-            runner = Podman(folder, runtime)
-            said = runner.load()
-            done = said or runner.call(
-                "run", "--rm", "--network=slirp4netns", "--no-healthcheck", *hard_limits(), NAME, "--help"
-            )
-            if not said and "-office" in done.stderr:
-                return runner
-            said = said or done.stderr
-    print(f"left out: podman with the image, which can't run here: {' '.join(said.split())[:200]}", flush=True)
-    return None
+    """Returns podman with the image loaded, or None, and why it can't run here."""
+    said = ""
+    runtimes = [[], *(["--runtime", name] for name in ("crun", "runc") if shutil.which(name))]
+    for runtime in runtimes:
+        runner = Podman(folder, runtime)
+        said = runner.load()
+        done = said or runner.call(
+            "run", "--rm", "--network=slirp4netns", "--no-healthcheck", *hard_limits(), NAME, "--help"
+        )
+        if not said and "-office" in done.stderr:
+            return runner, ""
+        said = said or done.stderr
+    return None, said
 
 
 def bubblewrap(folder):
-    """Returns bubblewrap over what is in the image, or None, after a line that says why it can't run here."""
-    if not shutil.which("bwrap"):
-        print("left out: the image, since there is neither podman nor bubblewrap: bin/setup image", flush=True)
-        return None
+    """Returns bubblewrap over what is in the image, or None, and why it can't run here."""
     runner = Bubblewrap(folder)
     said = runner.load()
     if not said:
@@ -252,17 +248,23 @@ def bubblewrap(folder):
         words = runner.command(folder / "volume", folder / "settings", 1, "/usr/bin/rbac-node", "serve", "--help")
         done = subprocess.run(words, capture_output=True, text=True, check=False)
         if "-office" in done.stderr:
-            return runner
+            return runner, ""
         said = done.stderr
-    print(f"left out: the image, which bubblewrap can't run here: {' '.join(said.split())[:200]}", flush=True)
-    return None
+    return None, said
 
 
-def runners(folder):
+def runner_of(bench):
     """What can run the image here: podman, or else bubblewrap."""
-    (folder / "podman").mkdir()
-    (folder / "bubblewrap").mkdir()
-    return podman(folder / "podman") or bubblewrap(folder / "bubblewrap")
+    said = []
+    for make in (podman, bubblewrap):
+        folder = bench.folder / make.__name__
+        folder.mkdir()
+        runner, why = make(folder)
+        if runner:
+            return runner
+        said.append(f"{make.__name__}: {' '.join(why.split())[:200]}")
+        bench.leave_out("containers", said[-1])
+    skip("containers", "; ".join(said))
 
 
 def shown(status):

@@ -7,6 +7,8 @@ import subprocess
 import tarfile
 from pathlib import Path
 
+import pytest
+
 from program.bench import PROGRAM
 
 from .running import IMAGE, ROOT, VERSION
@@ -119,10 +121,72 @@ def check_page(bench):
     bench.same("the options", [word for word in command if word in OPTIONS], OPTIONS)
     archive = tarfile.open(fileobj=opened()[2])
     sizes = {one.name.lstrip("./"): one.size for one in archive if one.isfile()}
-    for folder, stated in re.findall(r"^\| (/\S+?)(?:, /usr/lib64)? \| .* \| ([\d,]+) \|$", page, re.M):
+    rows = re.findall(r"^\| (/\S+?)(?:, /usr/lib64)? \| .* \| ([\d.]+) ([kM])B \|$", page, re.M)
+    bench.same(
+        "the folders",
+        [folder for folder, *_ in rows],
+        ["/usr/bin/rbac", "/usr/bin/rbac-node", "/usr/lib", "/usr/share/rbac", "/usr/share/doc"],
+    )
+    for folder, stated, unit in rows:
         size = sum(size for path, size in sizes.items() if f"/{path}/".startswith((f"{folder}/", f"{folder}64/")))
-        number = int(stated.replace(",", ""))
-        bench.judge(f"the size of {folder}", [] if abs(size - number) <= number // 10 else [f"{size:,} and not {stated}"])
+        number = float(stated) * {"k": 1e3, "M": 1e6}[unit]
+        bench.judge(
+            f"the size of {folder}", [] if abs(size - number) <= number / 10 else [f"{size:,} and not {stated} {unit}B"]
+        )
+
+
+# The user of the image, and what docs/FRONT.md makes for an application with a token over TLS.
+USER = 10001
+MADE = ["callers.jsonl", "tokens", "rbac.crt", "rbac.key"]
+
+
+@pytest.mark.needs("root")
+def check_followed(bench):
+    """What docs/IMAGE.md installs is what the image reads, its user can read it, and nobody else but root."""
+    page = (ROOT / "docs/IMAGE.md").read_text(encoding="utf-8")
+    first = (ROOT / "docs/FRONT.md").read_text(encoding="utf-8").split("## 2. ")[0]
+    bench.same("docs/FRONT.md makes them", [name for name in MADE if f"`{name}`" not in page or name not in first], [])
+    for folder in (bench.folder.parent, bench.folder):
+        folder.chmod(0o755)
+    for name in MADE:
+        bench.write(name, name.encode())
+        (bench.folder / name).chmod(0o600)
+    lines = [line.replace(" /etc/", f" {bench.folder}/etc/").replace(" /srv/", f" {bench.folder}/srv/")
+             for line in re.findall(r"^install .*$", page, re.M)]  # fmt: skip
+    for folder in ("etc", "srv"):
+        (bench.folder / folder).mkdir(mode=0o755)
+    done = subprocess.run(["sh", "-euc", "\n".join(lines)], cwd=bench.folder, capture_output=True, text=True, check=False)
+    bench.same("the lines of the page", (done.returncode, done.stderr), (0, ""))
+    host = dict(reversed(one.split(":")[:2]) for one in re.findall(r"--volume=(\S+)", page))
+    config = opened()[1]["config"]
+    words = [*config["Entrypoint"], *config["Cmd"]]
+    wanted = [word for word in words if word.startswith("/etc/rbac/")]
+    bench.same(
+        "what the image reads",
+        sorted(wanted),
+        [f"/etc/rbac/{name}" for name in ("callers.jsonl", "tls.crt", "tls.key", "tokens")],
+    )
+    for path in wanted:
+        here = bench.folder / host["/etc/rbac"].lstrip("/") / Path(path).name
+        for what, user, allowed in (("the user of the image", USER, True), ("another user", USER + 1, False)):
+            read = subprocess.run(
+                ["setpriv", f"--reuid={user}", f"--regid={user}", "--clear-groups", "cat", here],
+                capture_output=True,
+                check=False,
+            )
+            bench.same(f"{what} and {path}", read.returncode == 0, allowed)
+    made = bench.folder / host["/var/lib/rbac"].lstrip("/")
+    bench.same("the folder of the office", (made.stat().st_uid, made.stat().st_mode & 0o777), (USER, 0o700))
+
+
+def check_section(bench):
+    """The section of docs/FRONT.md that has the options of the image is the one that docs/IMAGE.md names."""
+    page = (ROOT / "docs/IMAGE.md").read_text(encoding="utf-8")
+    number = re.search(r"\*\*Options\*\* of FRONT\.md, section (\d+)", page)[1]
+    front = (ROOT / "docs/FRONT.md").read_text(encoding="utf-8")
+    section = front.split(f"\n## {number}. ")[1].split("\n## ")[0]
+    options = [word for word in opened()[1]["config"]["Entrypoint"] if word.startswith("--")]
+    bench.same("the options of the image", [one for one in options if f"`{one}`" not in section], [])
 
 
 def check_same(bench):

@@ -1,7 +1,6 @@
-"""Builds the image once, and runs the checks over it."""
+"""Builds the image."""
 
 import os
-import shutil
 import subprocess
 from pathlib import Path
 
@@ -13,17 +12,6 @@ VERSION = (ROOT / "VERSION").read_text(encoding="ascii").strip()
 # Where the image is, for the processes that check it.
 IMAGE = "RBAC_IMAGE"
 
-# What builds the image: programs, and the libraries of Go for what its front can do.
-NEEDED = ["go", "gcc", "buildah", "strip", "dpkg-query"]
-FEATURES = {"jose", "sqlite"}
-
-
-def missing():
-    """What the build needs and is not installed."""
-    said = subprocess.run([ROOT / "bin/node", "--features"], capture_output=True, text=True, check=True).stdout
-    lacking = sorted(FEATURES - set(said.strip().split(",")))
-    return [name for name in NEEDED if not shutil.which(name)] + [f"library of Go for {name}" for name in lacking]
-
 
 def recorded(folder):
     """A folder that has the program that is checked, as that of the sources."""
@@ -33,8 +21,9 @@ def recorded(folder):
 
 
 def build(folder):
-    """Builds the image into a folder, and returns what went wrong, or nothing."""
+    """Builds the image into a folder."""
     settings = {**os.environ, "RELEASE": recorded(folder / "release"), "TMPDIR": str(folder)}
     words = [ROOT / "bin/image", folder / "image.tar"]
     done = subprocess.run(words, env=settings, capture_output=True, text=True, check=False)
-    return "" if done.returncode == 0 else f"bin/image: {done.stderr}"
+    if done.returncode:
+        raise ValueError(f"bin/image: {done.stderr}")

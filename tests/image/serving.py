@@ -4,17 +4,18 @@ import hashlib
 import http.client
 import json
 import os
-import shutil
 import signal
 import ssl
 import subprocess
 import time
 from contextlib import contextmanager
 
+import pytest
+
 from program.bench import SECONDS
 from program.web import free_port
 
-from .containers import USER, runners, state
+from .containers import USER, runner_of, state
 
 TOKEN = "a" * 64
 CALLERS = """{"fn":"addRole","role":"all"}
@@ -84,16 +85,10 @@ class Front:
 
 @contextmanager
 def front_of(bench):
-    """A front in a container, or None if nothing can run the image here."""
+    """A front in a container."""
     for folder in (bench.folder.parent, bench.folder):
         folder.chmod(0o755)
-    has_keys = bool(shutil.which("openssl"))
-    if not has_keys:
-        print("left out: the image, since there is no openssl to make its keys: bin/setup image", flush=True)
-    runner = runners(bench.folder) if has_keys else None
-    if not runner:
-        yield None
-        return
+    runner = runner_of(bench)
     try:
         yield Front(bench, runner)
     finally:
@@ -111,11 +106,10 @@ def refusals(bench, front):
         away.rename(kept)
 
 
+@pytest.mark.needs("openssl", "podman", "bwrap")
 def check_container(bench):
     """The container answers over TLS as a user without rights on a read-only root, and keeps its office over stops and kills."""
     with front_of(bench) as front:
-        if not front:
-            return {}
         runner = front.runner
         refusals(bench, front)
         bench.same("the container starts", front.create(), "")

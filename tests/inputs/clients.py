@@ -7,9 +7,12 @@ import json
 import socket
 import time
 
+import pytest
+
 from machine.assignments import MOST_BYTES
 from machine.requests import LONGEST_LINE
 from program.bench import SECONDS
+from program.cases import cases
 from program.heads import ANN, CURL, LENGTH
 from program.offices import Office, change
 from program.serving import LEAST, MOST, PATIENCE
@@ -24,6 +27,9 @@ SLOW = 3
 
 # A write that waits may still send some bytes: at most this many wait until one sends none.
 WRITES = 4
+
+# How many clients leave.
+LEAVING = 20
 
 # How many bytes are sent of a body that was announced as longer.
 SENT = [0, 1, 8_192]
@@ -49,7 +55,8 @@ def serve_next(bench, server, office, what, start, least, most):
     office.compare_with_model()
 
 
-def drip(bench, count):
+@pytest.mark.parametrize("count", cases([3], [30]))
+def check_drip(bench, count):
     """A client that sends a byte now and then is waited for, until it stops: five seconds after its last byte."""
     office = Office(bench)
     with Server(bench, office.path, 2) as server, connect(server.port) as slow:
@@ -63,7 +70,7 @@ def drip(bench, count):
     return {"slow clients": 1}
 
 
-def send_slowly(bench):
+def check_send_slowly(bench):
     """A client that takes long, but never as long as it may wait, is answered."""
     office = Office(bench)
     parts = [CURL[:1], CURL[1:40], CURL[40:-14], CURL[-14:-1], CURL[-1:]]
@@ -78,7 +85,8 @@ def send_slowly(bench):
     return {"slow clients": 1}
 
 
-def say_nothing(bench, count):
+@pytest.mark.parametrize("count", cases([2], [6]))
+def check_say_nothing(bench, count):
     """Clients that send nothing hold up the next one for five seconds each."""
     office = Office(bench)
     with Server(bench, office.path, count + 1) as server:
@@ -120,7 +128,7 @@ def ask_for_users(port, opened=connect):
     return client
 
 
-def read_nothing(bench):
+def check_read_nothing(bench):
     """The connection of a client that doesn't read its reply is closed after a few writes have waited."""
     office, wanted = crowded_office(bench)
     with Server(bench, office.path, 2) as server, ask_for_users(server.port, narrow) as silent:
@@ -136,7 +144,7 @@ def read_nothing(bench):
     return {"clients that don't read": 1}
 
 
-def read_slowly(bench):
+def check_read_slowly(bench):
     """A client that reads its long reply slowly gets all of it."""
     office, wanted = crowded_office(bench)
     with Server(bench, office.path, 1) as server, ask_for_users(server.port) as slow:
@@ -150,18 +158,18 @@ def read_slowly(bench):
     return {"clients that read slowly": 1}
 
 
-def leave_amid_reply(bench, count):
+def check_leave_amid_reply(bench):
     """Clients that leave without their long replies harm nobody."""
     office, _ = crowded_office(bench)
-    with Server(bench, office.path, count + 1) as server:
-        for _ in range(count):
+    with Server(bench, office.path, LEAVING + 1) as server:
+        for _ in range(LEAVING):
             ask_for_users(server.port).close()
         bench.same("the next client", server.ask(post("addUser", b"{}")), reply(400, BAD_REQUEST))
         server.ends()
-    return {"clients that go away": count}
+    return {"clients that go away": LEAVING}
 
 
-def stop_in_body(bench):
+def check_stop_in_body(bench):
     """A client that announces the longest import and sends half of it is disconnected, and nothing is imported."""
     office = Office(bench)
     long = head("POST /v1/importAssignments HTTP/1.1", "Content-Length: 2097152") + b"user,role\n" * 100_000
@@ -188,7 +196,8 @@ def allocated(bench, shim, path, function, length, body):
     return tuple(int(number) for number in shim.ask().split())
 
 
-def announce(bench, function, most):
+@pytest.mark.parametrize("function, most", [("importAssignments", MOST_BYTES), ("addUser", LONGEST_LINE)])
+def check_announce(bench, function, most):
     """A server allocates memory for the bytes that arrive and for the next piece: as many for the longest body as for a short one."""
     path, shim = Office(bench).path, Shim(bench, "inputs/allocated.c")
     for sent in SENT:
@@ -198,10 +207,3 @@ def announce(bench, function, most):
             what = f"allocated for {sent:,} bytes of a body of {length:,}"
             bench.same(f"{what}: {found[0]:,} bytes in all, {found[1]:,} at once", found, wanted)
     return {"bodies that were announced": 4 * len(SENT)}
-
-
-def jobs(is_long):
-    """Returns the jobs of the clients; with `--long`, of slower ones."""
-    found = [(say_nothing, 6 if is_long else 2), (read_nothing,), (read_slowly,), (leave_amid_reply, 20)]
-    found += [(announce, "importAssignments", MOST_BYTES), (announce, "addUser", LONGEST_LINE)]
-    return found + [(send_slowly,), (stop_in_body,)] + [(drip, count) for count in ((3, 30) if is_long else (3,))]

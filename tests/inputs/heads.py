@@ -5,7 +5,10 @@ import random
 import socket
 import time
 
+import pytest
+
 from machine.texts import json_text
+from program.cases import shares
 from program.heads import CURL
 from program.offices import Office
 from program.web import BAD_REQUEST, NO_FUNCTION, Server, connect, post, read_all, reply
@@ -13,9 +16,13 @@ from program.web import BAD_REQUEST, NO_FUNCTION, Server, connect, post, read_al
 # The longest head.
 MOST = 8_192
 
-# How many requests of random bytes are sent, and with `--long`; one in EVERY lengths is the length of a truncated head.
-RANDOM, MORE_RANDOM = 1_200, 100_000
+# How many requests of random bytes are sent, and with `--long`, and how many by each check; one in EVERY lengths is the length of
+# a truncated head.
+RANDOM, MORE_RANDOM, EACH = 1_200, 99_900, 300
 EVERY, EVERY_LONG = 37, 1
+
+# How many checks share the lengths of whole heads.
+STEP = 4
 
 # The least seconds between the two parts of a request that is split.
 PAUSE = 0.002
@@ -46,10 +53,11 @@ def head_of(length, body):
     return start + b"X:".ljust(rest - 2, b"y") + b"\r\n\r\n" if rest >= 4 else None
 
 
-def ask_whole_heads(bench, first, step):
-    """A head of each length from the least to the most is accepted, and one of a byte more isn't."""
+@pytest.mark.parametrize("first", range(50, 50 + STEP))
+def check_ask_whole_heads(bench, first):
+    """A head of each length from the least to the most is accepted, and one of a byte more isn't; one in STEP of them here."""
     office, body = Office(bench), body_of("ann")
-    lengths = [length for length in range(first, MOST + 1, step) if head_of(length, body)]
+    lengths = [length for length in range(first, MOST + 1, STEP) if head_of(length, body)]
     with Server(bench, office.path, 2 * len(lengths) + 1) as server:
         for length in lengths:
             for what, request in ((f"a head of {length} bytes", head_of(length, body) + body), ("its end", REMOVE)):
@@ -61,11 +69,11 @@ def ask_whole_heads(bench, first, step):
     return {"whole heads": len(lengths)}
 
 
-def ask_cut_heads(bench, every):
+def check_ask_cut_heads(bench):
     """A head that ends at any length is a bad request, one without an end is too long from 8,192 bytes on."""
     office = Office(bench)
     endless = head_of(2 * MOST, body_of("ann"))
-    lengths = [*range(0, MOST, every), *range(MOST - 3, MOST + 3)]
+    lengths = [*range(0, MOST, EVERY_LONG if bench.is_long else EVERY), *range(MOST - 3, MOST + 3)]
     with Server(bench, office.path, len(lengths)) as server:
         for length in lengths:
             answer = server.ask(endless[:length], cut=True)
@@ -90,15 +98,16 @@ def random_request(draws):
     return bytes(changed)
 
 
-def ask_random(bench, first, count):
+@pytest.mark.parametrize("first", shares(40_000, EACH, RANDOM, MORE_RANDOM))
+def check_ask_random(bench, first):
     """Requests of random bytes are refused; a head that was changed may still be accepted.
 
     The reply is whole even if a request continues after the part that is refused.
     """
     office, draws, added = Office(bench), random.Random(first), 0
     exists = reply(409, json_text({"code": 3, "error": "UserExists"}).encode())
-    with Server(bench, office.path, count + 1) as server:
-        for number in range(count):
+    with Server(bench, office.path, EACH + 1) as server:
+        for number in range(EACH):
             request = random_request(draws)
             answer = server.ask(request, cut=True)
             is_taken = answer == (exists if added else reply(200, DONE)) and request.endswith(b'{"user":"ann"}')
@@ -113,23 +122,24 @@ def ask_random(bench, first, count):
     if added:
         office.model.answer(b'{"fn":"addUser","user":"ann"}')
     office.compare_with_model()
-    return {"requests of random bytes": count, "changed heads that were accepted": added}
+    return {"requests of random bytes": EACH, "changed heads that were accepted": added}
 
 
-def random_bodies(bench, first, count):
+@pytest.mark.parametrize("first", shares(50_000, EACH, EACH, MORE_RANDOM // 4))
+def check_random_bodies(bench, first):
     """Bodies of random bytes are bad requests, and nothing is done."""
     office, draws = Office(bench), random.Random(first)
-    with Server(bench, office.path, count) as server:
-        for number in range(count):
+    with Server(bench, office.path, EACH) as server:
+        for number in range(EACH):
             body = b"\xff" + draws.randbytes(draws.choice([0, 10, draws.randrange(65_536), 65_535]))
             answer = server.ask(post(draws.choice(["addUser", "sessionRoles", "ssdRoleSets"]), body))
             bench.same(f"random body {number}", answer, reply(400, BAD_REQUEST))
         server.ends()
     office.compare_with_model()
-    return {"bodies of random bytes": count}
+    return {"bodies of random bytes": EACH}
 
 
-def split_requests(bench):
+def check_split_requests(bench):
     """A request that arrives in two parts, split at any byte, is done as any other; so is one byte by byte."""
     office = Office(bench)
     parts = [(CURL[:at], CURL[at:]) for at in range(1, len(CURL))]
@@ -152,12 +162,3 @@ def ask_in_pieces(server, pieces):
             client.sendall(piece)
             time.sleep(PAUSE)
         return read_all(client)
-
-
-def jobs(is_long):
-    """The requests, those of random bytes shared by some jobs."""
-    count = (MORE_RANDOM if is_long else RANDOM) // 4
-    found = [(ask_whole_heads, 50 + part, 4) for part in range(4)]
-    found += [(ask_cut_heads, EVERY_LONG if is_long else EVERY), (split_requests,)]
-    found += [(ask_random, 40_000 + part * count, count) for part in range(4)]
-    return found + [(random_bodies, 50_000, count)]

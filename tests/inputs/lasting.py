@@ -2,6 +2,8 @@
 
 import json
 
+import pytest
+
 from machine.replaying import Replay
 from program.bench import Done
 from program.offices import Office, change
@@ -52,9 +54,10 @@ def replay_rounds(bench, words, model, before, rounds):
     return found
 
 
-def last(bench, where, rounds):
+@pytest.mark.parametrize("where", ["file", "memory"])
+def check_last(bench, where):
     """Many rounds over one office: the memory doesn't grow with them, nor does the file."""
-    office, grown = Office(bench), []
+    office, grown, rounds = Office(bench), [], MORE_ROUNDS if bench.is_long else ROUNDS
     if where == "file":
         office.replay([lines_of(OFFICE)])
     for count in rounds:
@@ -71,9 +74,9 @@ def last(bench, where, rounds):
     return {f"lines over an office in {where}": sum(rounds) * len(ROUND)}
 
 
-def serve_many(bench, count):
+def check_serve_many(bench):
     """A server of many requests: the memory doesn't grow with them."""
-    office = Office(bench)
+    office, count = Office(bench), MORE_REQUESTS if bench.is_long else REQUESTS
     memory = []
     requests = [("addUser", b'{"user":"ann"}', 200), ("deleteUser", b'{"user":"ann"}', 200), ("deleteUser", b"{}", 400)]
     with Server(bench, office.path, count + 1) as server:
@@ -92,7 +95,7 @@ def serve_many(bench, count):
     return {"requests to one server": count}
 
 
-def open_largest(bench):
+def check_open_largest(bench):
     """An office with as many users, roles, assignments and grants as are allowed is opened, in bounded memory."""
     office = Office(bench)
     users = [f"user {number}".ljust(64, "u") for number in range(20_000)]
@@ -111,10 +114,3 @@ def open_largest(bench):
     line = b'{"code":32,"error":"TooMany","kind":"user"}'
     bench.same("one more", (found.done.out.splitlines()[1:], found.done.status), ([line], 0))
     is_within(bench, f"an office at its limits: {found.text()}", found.kilobytes, LARGE)
-
-
-def jobs(is_long):
-    """The long runs."""
-    rounds = MORE_ROUNDS if is_long else ROUNDS
-    found = [(last, "file", rounds), (last, "memory", rounds)]
-    return found + [(serve_many, MORE_REQUESTS if is_long else REQUESTS), (open_largest,)]

@@ -2,16 +2,19 @@
 
 import random
 
+import pytest
+
 from machine.requests import LONGEST_LINE
 from machine.replaying import Replay
 from program.bench import Done
+from program.cases import shares
 from program.offices import Office, small_office
 
 from .measured import SMALL, Meter, is_within
 from .texts import DEPTHS, deep_lines, random_line
 
-# How many inputs there are, and with `--long`; and how many random lines each has.
-INPUTS, MORE_INPUTS = 24, 2_000
+# How many inputs there are, and with `--long`, and how many each check has; how many random lines are in one.
+INPUTS, MORE_INPUTS, EACH = 24, 2_000, 6
 LINES = 120
 
 # The bytes of a long input, the bytes of its pieces, and the most seconds that it may take.
@@ -31,27 +34,30 @@ def replays_as_the_model(bench, what, given):
     bench.ends(["check", office.path], b"good\n", keeps=True)
 
 
-def replay_random(bench, first, count):
+@pytest.mark.parametrize("first", shares(20_000, EACH, INPUTS, MORE_INPUTS))
+def check_replay_random(bench, first):
     """Inputs of random lines; the last line of some is too long."""
-    for seed in range(first, first + count):
+    for seed in range(first, first + EACH):
         draws = random.Random(seed)
         lines = [random_line(draws) for _ in range(LINES)]
         if seed % 4 == 0:
             lines.append(bytes(draws.choices(b' {"\x80', k=LONGEST_LINE + 1)))
         replays_as_the_model(bench, f"random lines {seed}", b"\n".join(lines) + b"\n" * (seed % 2))
-    return {"inputs of random lines": count}
+    return {"inputs of random lines": EACH}
 
 
-def replay_bytes(bench, first, count):
+@pytest.mark.parametrize("first", shares(30_000, EACH, INPUTS, MORE_INPUTS))
+def check_replay_bytes(bench, first):
     """Inputs of random bytes, in which a line ends by chance alone."""
-    for seed in range(first, first + count):
+    for seed in range(first, first + EACH):
         draws = random.Random(seed)
         given = draws.randbytes(draws.choice([1, 1_000, 100_000]))
         replays_as_the_model(bench, f"random bytes {seed}", given)
-    return {"inputs of random bytes": count}
+    return {"inputs of random bytes": EACH}
 
 
-def replay_deep(bench, depth):
+@pytest.mark.parametrize("depth", DEPTHS)
+def check_replay_deep(bench, depth):
     """Replays lines whose JSON is nested to this depth."""
     lines = [line for line in deep_lines(depth) if len(line) <= LONGEST_LINE]
     replays_as_the_model(bench, f"depth {depth}", b"\n".join(lines))
@@ -79,7 +85,8 @@ LONG = {
 }
 
 
-def replay_long(bench, name):
+@pytest.mark.parametrize("name", LONG)
+def check_replay_long(bench, name):
     """An input of 100 MB: it is answered, or stopped by the first line that is too long, in little memory."""
     pieces, out, err, status = LONG[name]
     meter, office = Meter(bench), Office(bench)
@@ -91,7 +98,7 @@ def replay_long(bench, name):
         is_within(bench, f"{what}: {found.text()}", found.kilobytes, SMALL)
 
 
-def answer_long(bench):
+def check_answer_long(bench):
     """Lines of 65,536 bytes, 100 MB of them, that are no requests: each is answered, in little memory."""
     line, answer = b'{"' + b"\xff" * (LONGEST_LINE - 2) + b"\n", b'{"code":34,"error":"BadRequest"}\n'
     count = LENGTH // len(line)
@@ -100,7 +107,7 @@ def answer_long(bench):
     is_within(bench, f"100 MB of long lines: {found.text()}", found.kilobytes, SMALL)
 
 
-def import_long(bench):
+def check_import_long(bench):
     """A CSV file of 100 MB, and one without an end, are refused for their length, in little memory."""
     meter, office = Meter(bench), small_office(bench)
     path = bench.path("records.csv")
@@ -113,13 +120,3 @@ def import_long(bench):
         bench.same(f"import of {name}", found.done, Done(b"", line, 1))
         is_within(bench, f"import of {name}: {found.text()}", found.kilobytes, SMALL)
     office.compare_with_model()
-
-
-def jobs(is_long):
-    """The inputs, those of random lines shared by some jobs."""
-    count = (MORE_INPUTS if is_long else INPUTS) // 4
-    found = [(replay_long, name) for name in LONG] + [(answer_long,), (import_long,)]
-    found += [(replay_deep, depth) for depth in DEPTHS]
-    for make, first in ((replay_random, 20_000), (replay_bytes, 30_000)):
-        found += [(make, first + part * count, count) for part in range(4)]
-    return found

@@ -6,8 +6,7 @@ import threading
 import time
 from dataclasses import dataclass
 
-from program.bench import PROGRAM, SECONDS, TESTS, Done
-from stopped.running import beside
+from program.bench import PROGRAM, SECONDS, TESTS, Done, beside
 
 # The most megabytes of a run over a small office, and over one at its limits.
 SMALL, LARGE = 32, 256

@@ -6,8 +6,10 @@ The steps are run one after the other in one boot. Each prints what its text bel
 import re
 from pathlib import Path
 
-from deploy.common import has, is_root
+import pytest
+
 from deploy.installed import BOOTED, on_layer
+from needs import skip
 from pages import markdown
 
 from .running import OLDER, made, older
@@ -354,11 +356,10 @@ rbac: /etc/rbac is kept with: alone.conf second.conf
 }
 
 
+@pytest.mark.slow
+@pytest.mark.needs("root", "boots", "systemd-nspawn", "curl", "pgrep", "sqlite3", "man")
 def check_systemd(bench):
     """The commands of the pages install offices that systemd runs, keep them, replace the programs, and lose no office."""
-    needed = "unshare mount systemd-nspawn apt useradd usermod runuser systemctl curl pgrep sqlite3 man"
-    if not (is_root() and has(*needed.split())):
-        return
     folder = Path(bench.path("older"))
     folder.mkdir()
     packages = [*made(), *(older(package, folder) for package in made())]
@@ -367,8 +368,7 @@ def check_systemd(bench):
         script += [f"echo '== {name}'; echo '== {name}' >&2", *lines]
     done = on_layer(bench, BOOTED, "\n".join(script), *packages)
     if not done:
-        print("left out: systemd, which can't be booted here", flush=True)
-        return
+        skip("boots")
     out = re.sub(r"\bbase-\d+-[0-9a-f]{64}\b", "BASE", done.out.decode())
     out = re.sub(r"\boffice\.before\.\d+\b", "office.before", out)
     said = dict(re.findall(r"^== (\w+)\n(.*?)(?=^== |\Z)", out, re.M | re.S))

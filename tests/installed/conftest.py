@@ -1,26 +1,24 @@
-"""Makes the packages once."""
+"""The packages of a release, which is made once."""
 
 import os
-from pathlib import Path
 
 import pytest
+
+from commands.folders import NEEDED, make
 
 from . import running
 
 
-@pytest.fixture(scope="session")
-def packages(built):
-    if not running.can_make():
-        pytest.skip("the packages can't be made here")
-
-    def make(folder):
-        running.make(folder / "made", running.recorded(Path(folder) / "release"))
-
-    folder = built("installed", make)
-    os.environ[running.MADE], os.environ[running.RELEASE] = str(folder / "made"), str(folder / "release")
+def pytest_collection_modifyitems(items):
+    for item in items:
+        if item.path.parent.name == "installed" and item.path.stem != "units":
+            item.add_marker(pytest.mark.needs("go", "sqlite-go", "crypto-go", "jose-go", "etcd-go"))
+            item.add_marker(NEEDED)
+            item.add_marker(pytest.mark.xdist_group("release"))
 
 
 @pytest.fixture(autouse=True)
-def needs_packages(request):
+def packages(request):
     if request.path.stem != "units":
-        request.getfixturevalue("packages")
+        folder = request.getfixturevalue("built")("release", make)
+        os.environ[running.MADE], os.environ[running.RELEASE] = str(folder / "made"), str(folder / "release")

@@ -2,9 +2,10 @@
 
 import os
 import re
-import shutil
 import subprocess
 from pathlib import Path
+
+import pytest
 
 from .running import MADE, RELEASE, ROOT, made, make
 
@@ -14,6 +15,7 @@ def output(*words):
     return subprocess.run(list(map(str, words)), capture_output=True, text=True, check=True).stdout
 
 
+@pytest.mark.gate
 def check_same_bytes(bench):
     """Made again with another time, mask, language and folder, both packages have the same bytes.
 
@@ -28,19 +30,18 @@ def check_same_bytes(bench):
         os.umask(before)
     for package in made():
         bench.same(f"whether {package.name} is the same", (again / package.name).read_bytes() == package.read_bytes(), True)
-    bench.same("what is beside them", sorted(os.listdir(os.environ[MADE])), sorted(package.name for package in made()))
+    bench.same("what is made", sorted(os.listdir(again)), sorted(package.name for package in made()))
 
 
+@pytest.mark.needs("lintian")
 def check_lint(bench):
     """lintian finds no error, and warns of nothing."""
-    if not shutil.which("lintian"):
-        print("left out: what lintian finds, since it is not installed: bin/setup package", flush=True)
-        return
     allow = ["--allow-root"] if os.geteuid() == 0 else []
     done = subprocess.run(["lintian", *allow, *map(str, made())], capture_output=True, text=True, check=False)
     bench.same("what lintian finds", (done.returncode, done.stdout), (0, ""))
 
 
+@pytest.mark.needs("readelf")
 def check_node(bench):
     """The front is for any address and any number of machines, needs SQLite and the C library alone, and the program of its version."""
     rbac, node = made()

@@ -7,9 +7,8 @@ from math import sqrt
 
 import pytest
 
-from program.bench import PROGRAM, SECONDS, Done
+from program.bench import PROGRAM, SECONDS, Done, beside
 from program.offices import Office
-from stopped.running import beside
 from stopped.stories import import_story, init_story, judge_office, lay, migrate_story
 
 # How often each of these runs is killed, and with `--long`; at moments that are spread over its time and a fifth more, the

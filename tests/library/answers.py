@@ -3,7 +3,8 @@
 import json
 import random
 import subprocess
-import sys
+
+import pytest
 
 from machine import limits
 from machine.commands import COMMANDS
@@ -14,12 +15,14 @@ from machine.state import Refused
 from machine.texts import rows
 from program.bench import PROGRAM
 
-from .building import languages, run_language
+from .building import LANGUAGES, command_of, run_language
 
 LINES = 500
-# How many scripts of random lines there are, and how many of them a job has.
-SEEDS = 2_000 if "--long" in sys.argv else 24
-EACH = 100 if "--long" in sys.argv else 8
+# The scripts of random lines, by the seed of the first of some, and how many there are.
+SEEDS = [(0, 8), (8, 8), (16, 8), *(pytest.param(first, 100, marks=pytest.mark.long) for first in range(24, 2_024, 100))]
+
+# A program may know other lines than the library.
+PROGRAMS = [*LANGUAGES, "program"]
 
 
 def decision_of(answer):
@@ -111,28 +114,50 @@ def compare(bench, language, command, script):
     bench.judge(language, faults)
 
 
-def random_lines(bench, first):
-    """Random lines, decisions, saving and loading."""
+def replayed(lines):
+    """Returns the lines that the program answers."""
+    done = subprocess.run([PROGRAM, "replay", "--memory"], input=b"\n".join(lines) + b"\n", capture_output=True, check=False)
+    return done.stdout.split(b"\n")[:-1]
+
+
+@pytest.mark.parametrize("first, count", SEEDS)
+@pytest.mark.parametrize("language", PROGRAMS)
+def check_random_lines(bench, language, first, count):
+    """Random lines, decisions, saving and loading; the program has only the lines."""
     counted = 0
-    for seed in range(first, first + EACH):
+    for seed in range(first, first + count):
         script = random_script(seed)
         counted += len(script.lines)
-        for language, command in languages().items():
-            compare(bench, f"{language}, seed {seed}", command, script)
-        program = subprocess.run([PROGRAM, "replay", "--memory"], input=b"\n".join(script.requests) + b"\n", capture_output=True, check=False)
-        bench.same(f"the program, seed {seed}", program.stdout.split(b"\n")[:-1], script.answers)
-    return {f"random lines, in each of {len(languages())} languages": counted}
+        if language == "program":
+            bench.same(f"the program, seed {seed}", replayed(script.requests), script.answers)
+        else:
+            compare(bench, f"{language}, seed {seed}", command_of(language), script)
+    return {f"random lines, {language}": counted}
 
 
-JOBS = [(random_lines, first) for first in range(0, SEEDS, EACH)]
-
-
-def check_limits(bench):
+@pytest.mark.parametrize("language", LANGUAGES)
+def check_limits(bench, language):
     """Lines that reach each limit, with the longest answers."""
     for name, lines in limits.SCRIPTS.items():
         script = Script()
         for _, line, answer in limits.expand(lines):
             if answer:
                 script.ask(line, answer)
-        for language, command in languages().items():
-            compare(bench, f"{language}, {name}", command, script)
+        compare(bench, f"{language}, {name}", command_of(language), script)
+
+
+BAD = b'{"code":34,"error":"BadRequest"}'
+USER = b'{"fn":"addUser","user":"u%d"}'
+
+
+@pytest.mark.parametrize("language", LANGUAGES)
+def check_blank_and_long_lines(bench, language):
+    """A line of blanks alone is refused, and so is one of more than 65,536 bytes: a replay skips the one, and ends at the other."""
+    blank = [b"", b" ", b"\t", b"\r", b" \t \r"]
+    lines = [(line, BAD) for line in blank]
+    lines += [((USER % size).ljust(size), b'{"ok":true}') for size in (65_535, 65_536)]
+    lines += [((USER % size).ljust(size), BAD) for size in (65_537, 1_000_000)]
+    lines += [(b" \t" + USER % 1 + b"\r", b'{"ok":true}')]
+    given, said, status = run_language(command_of(language), b"\n".join(line for line, _ in lines) + b"\n")
+    bench.same(language, (given, said, status), ([answer for _, answer in lines], b"", 0))
+    bench.same("a replay", replayed([line for line, _ in lines]), [b'{"ok":true}'] * 2)

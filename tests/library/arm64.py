@@ -3,20 +3,14 @@
 import os
 import subprocess
 
-from arm64 import CROSS, QEMU, has_compiler, has_qemu
+import pytest
+
+from arm64 import CROSS, QEMU
 
 from .answers import random_script
 from .building import HERE, TOP, built, run, run_language
 
 ARCHIVE = os.environ.get("RBAC_ARCHIVE_ARM64", "")
-
-
-def is_there():
-    """Returns whether there is an archive with what links and runs it; otherwise it says what is left out."""
-    if os.path.isfile(ARCHIVE) and has_compiler() and has_qemu():
-        return True
-    print("left out: arm64, whose archive, compiler or emulator is not there")
-    return False
 
 
 def program(source):
@@ -30,10 +24,9 @@ def program(source):
     return made
 
 
+@pytest.mark.needs("library for arm64", f"{CROSS}-gcc", "libc-of-arm64", "qemu-aarch64-static")
 def check_arm64(bench):
     """Codes, and the answers to random lines."""
-    if not is_there():
-        return
     done = subprocess.run([*QEMU, program("interface.c")], capture_output=True, text=True, check=False, timeout=120)
     bench.same("codes", (done.stdout, done.stderr, done.returncode), ("", "", 0))
     command = [*QEMU, program("lines.c")]

@@ -3,7 +3,9 @@
 import subprocess
 import sys
 
-from .building import HERE, TOP, built, environment, has_go, has_python, has_rust, run
+import pytest
+
+from .building import HERE, TOP, built, environment, run
 
 ERRORS = """
 import threading
@@ -60,19 +62,17 @@ assert office.revision == 800
 """
 
 
+@pytest.mark.needs("python-headers")
 def check_python(bench):
     """The errors of the Python module, and threads that share an office."""
-    if not has_python():
-        return
     where = {"PYTHONPATH": str(built() / "python")}
     done = subprocess.run([sys.executable, "-c", ERRORS], capture_output=True, text=True, check=False, env=where, timeout=120)
     bench.same("Python", (done.stdout, done.stderr, done.returncode), ("", "", 0))
 
 
+@pytest.mark.needs("go")
 def check_go(bench):
     """The tests of the Go package, by the race detector too."""
-    if not has_go():
-        return
     folder = built() / "go-lines_go/client/rbacoffice"
     for words in (["vet", "."], ["test", "."], ["test", "-race", "."]):
         run(["go", *words], cwd=folder, env=environment())
@@ -80,10 +80,9 @@ def check_go(bench):
     bench.same("gofmt", run(["gofmt", "-l", TOP / "clients/go", HERE / "lines.go"]), "")
 
 
+@pytest.mark.needs("rustc")
 def check_rust(bench):
     """The tests of the Rust crate."""
-    if not has_rust():
-        return
     source = TOP / "clients/rust/rbac_office/src/lib.rs"
     run(["rustc", "--edition", "2021", "-D", "warnings", "--test", source, "-L", f"native={built()}", "-o", built() / "rust_tests"])
     run([built() / "rust_tests"], env={"LD_LIBRARY_PATH": str(built())})

@@ -7,11 +7,19 @@ import sys
 import sysconfig
 from pathlib import Path
 
+import pytest
+
+from needs import lacking
+
 TESTS = Path(__file__).resolve().parent.parent
 TOP = TESTS.parent
 HERE = TESTS / "library"
 ARCHIVE = os.path.abspath(os.environ.get("RBAC_ARCHIVE", TOP / "release/librbac_c.a"))
 STRICT = ["-Wall", "-Wextra", "-Werror", "-pedantic"]
+
+# What each language needs besides a compiler of C, and all of them as parameters.
+NEEDED = {"C": [], "Python": ["python-headers"], "Go": ["go"], "Rust": ["rustc"]}
+LANGUAGES = [pytest.param(language, marks=pytest.mark.needs(*names)) for language, names in NEEDED.items()]
 
 
 def built():
@@ -35,19 +43,9 @@ def compile_c(source, name, *words, parts=()):
     return built() / name
 
 
-def has_go():
-    """Returns whether programs in Go can be built."""
-    return shutil.which("go") is not None
-
-
-def has_rust():
-    """Returns whether programs in Rust can be built."""
-    return shutil.which("rustc") is not None
-
-
-def has_python():
-    """Returns whether modules of Python can be built: its headers are there."""
-    return os.path.isfile(f"{sysconfig.get_paths()['include']}/Python.h")
+def is_there(language):
+    """Returns whether programs in a language can be built."""
+    return not lacking(NEEDED[language])
 
 
 def build_python():
@@ -88,35 +86,25 @@ def rust_program(source, name):
 
 
 def build_all():
-    """Builds everything, and returns what is left out, as lines to print."""
-    left_out = []
+    """Builds the library, and the programs in the languages that are there."""
     run([TOP / "bin/library", built()], env={**os.environ, "RBAC_ARCHIVE": ARCHIVE})
     compile_c("lines.c", "lines_c")
-    if has_python():
+    if is_there("Python"):
         build_python()
-    else:
-        left_out.append("left out: Python, whose headers are not installed")
-    if has_go():
+    if is_there("Go"):
         go_program((HERE / "lines.go").read_text(encoding="utf-8"), "lines_go")
-    else:
-        left_out.append("left out: Go, which is not installed")
-    if has_rust():
+    if is_there("Rust"):
         rust_program(HERE / "lines.rs", "lines_rust")
-    else:
-        left_out.append("left out: Rust, which is not installed")
-    return left_out
 
 
-def languages():
-    """Returns the commands that answer lines, by their languages."""
-    found = {"C": [built() / "lines_c"]}
-    if has_python():
-        found["Python"] = [sys.executable, HERE / "lines.py"]
-    if has_go():
-        found["Go"] = [built() / "lines_go"]
-    if has_rust():
-        found["Rust"] = [built() / "lines_rust"]
-    return found
+def command_of(language):
+    """Returns the command that answers lines in a language."""
+    return {
+        "C": [built() / "lines_c"],
+        "Python": [sys.executable, HERE / "lines.py"],
+        "Go": [built() / "lines_go"],
+        "Rust": [built() / "lines_rust"],
+    }[language]
 
 
 def run_language(command, text, seconds=600):

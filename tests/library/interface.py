@@ -1,7 +1,12 @@
 """rbac.h: which symbols the libraries export, and which codes the functions return."""
 
+import os
 import re
+import shlex
+import shutil
 import subprocess
+
+import pytest
 
 from .building import STRICT, TOP, built, compile_c, run
 
@@ -40,12 +45,16 @@ def check_codes(bench):
     bench.same("codes", (done.stdout, done.stderr, done.returncode), ("", "", 0))
 
 
+@pytest.mark.needs("gcc", "pkg-config")
 def check_package_file(bench):
-    """pkg-config reads rbac.pc, and a program that is built by its words runs."""
-    text = (built() / "rbac.pc").read_text(encoding="utf-8")
-    bench.same("the version", re.findall(r"^Version: (.*)$", text, flags=re.MULTILINE), [(TOP / "VERSION").read_text().strip()])
+    """pkg-config reads rbac.pc, wherever its folder is, and a program that is built by its words runs."""
+    folder = bench.folder / "a folder"
+    shutil.copytree(built(), folder, ignore=lambda _, names: [name for name in names if "rbac." not in name], symlinks=True)
+    where = {**os.environ, "PKG_CONFIG_PATH": str(folder), "LD_LIBRARY_PATH": str(folder)}
+    bench.same("the version", run(["pkg-config", "--modversion", "rbac"], env=where).strip(), (TOP / "VERSION").read_text().strip())
+    words = shlex.split(run(["pkg-config", "--cflags", "--libs", "rbac"], env=where))
+    bench.same("the words", words, [f"-I{folder}", f"-L{folder}", "-lrbac"])
     source = bench.write("alone.c", b'#include <rbac.h>\nint main(void) { rbac_office o = RBAC_OFFICE_NONE; return rbac_open(&o); }\n')
-    words = [f"-I{built()}", source, f"-L{built()}", "-lrbac"]
-    run(["cc", *words, "-o", bench.path("alone")])
-    run([bench.path("alone")], env={"LD_LIBRARY_PATH": str(built())})
+    run(["cc", source, *words, "-o", bench.path("alone")])
+    run([bench.path("alone")], env=where)
     bench.judge("a program over the shared library", [])

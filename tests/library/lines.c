@@ -1,4 +1,4 @@
-/* Answers the lines of standard input, for tests/library.py. The lines of all languages are the same:
+/* Answers the lines of standard input, for tests/library. The lines of all languages are the same:
  *
  *   {..}       a line of docs/API.md: prints the answer
  *   ?A\tB\tC   a decision for the session A, the operation B and the object C: prints what rbac_check returns

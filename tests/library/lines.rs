@@ -5,8 +5,10 @@ use std::io::{self, BufRead, Write};
 
 /// What rbac_check returns for three names, between which there are tabs.
 fn decide(office: &Office, line: &[u8]) -> Result<i64, Error> {
-    let Ok(line) = std::str::from_utf8(line) else {
-        return Ok(-1);
+    // `let else` is younger than the compiler of Debian 12.
+    let line = match std::str::from_utf8(line) {
+        Ok(line) => line,
+        Err(_) => return Ok(-1),
     };
     let names: Vec<&str> = line.split('\t').collect();
     match office.check(names[0], names[1], names[2]) {

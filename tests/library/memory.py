@@ -1,7 +1,8 @@
 """Each allocation fails in turn; what sanitizers and valgrind find."""
 
-import shutil
 import subprocess
+
+import pytest
 
 from .answers import random_script
 from .building import built, compile_c, run_language
@@ -33,11 +34,9 @@ def check_threads(bench):
     bench.same("threads", (done.stdout, done.stderr, done.returncode), ("", "", 0))
 
 
+@pytest.mark.needs("valgrind")
 def check_valgrind(bench):
     """Valgrind sees the proved code too."""
-    if not shutil.which("valgrind"):
-        print("left out: valgrind, which is not installed")
-        return
     script = random_script(3)
     command = ["valgrind", "-q", "--error-exitcode=9", "--leak-check=full", built() / "lines_c"]
     given, said, status = run_language(command, b"\n".join(script.lines) + b"\n")

@@ -3,12 +3,14 @@
 import random
 import sys
 
+import pytest
+
 from machine import limits
 from machine.drawing import draw_script
 from machine.replaying import Replay
 from machine.texts import rows as model_rows
 
-from .building import built, has_python
+from .building import built
 
 SEEDS, LINES = 6, 600
 # The scripts that end at a limit. The others take the model long.
@@ -48,10 +50,9 @@ def saves(bench, what, lines, draws):
             bench.same(f"{what}: the revision", loaded.revision, revision)
 
 
+@pytest.mark.needs("python-headers")
 def check_saved_rows(bench):
     """Random offices, and offices that are at a limit."""
-    if not has_python():
-        return {}
     sys.path.insert(0, str(built() / "python"))
     draws = random.Random(9)
     for seed in range(SEEDS):

@@ -1,4 +1,4 @@
-"""The suites of the languages, as their own tools run them: `go test`, `node --test`, `cargo test`, JUnit, pytest for the client.
+"""The suites of the clients, as the tools of their languages run them: `go test`, `node --test`, `cargo test`, JUnit, pytest for the client.
 
 What is tested is found by its files: a package of Go with a `_test.go`, whichever it is.
 """
@@ -6,21 +6,19 @@ What is tested is found by its files: a package of Go with a `_test.go`, whichev
 import json
 import os
 import re
+import shutil
 import subprocess
 import sys
-from pathlib import Path
+from xml.etree import ElementTree
 
 import pytest
 
+from clients.building import maven
 from program.bench import PROGRAM, TESTS
 
 ROOT = TESTS.parent
-NODE, CLIENTS = ROOT / "node/src/rbac-node", ROOT / "clients"
-JARS = Path("/usr/share/java")
-FLAGS = ["-tags=etcd,jose,sqlite,netgo,osusergo"]
-
-PACKAGES = sorted({path.parent for path in NODE.rglob("*_test.go")})
-MODULES = sorted({path.parent for path in (CLIENTS / "go").rglob("*_test.go")})
+CLIENTS = ROOT / "clients"
+MODULES = sorted({path.parent for path in (CLIENTS / "go").rglob("go.mod")})
 
 
 def name_of(folder):
@@ -33,8 +31,8 @@ def run(words, cwd, **more):
 
 
 def go_test(bench, folder, flags, **more):
-    """Counts the tests of a package, each of which passes; one that is skipped has failed."""
-    status, said = run(["go", "test", "-count=1", "-json", *flags, "."], folder, RBAC_PROGRAM=PROGRAM, CGO_ENABLED="1", **more)
+    """Counts the tests of a folder, each of which passes; one that is skipped has failed."""
+    status, said = run(["go", "test", "-count=1", "-json", *flags], folder, RBAC_PROGRAM=PROGRAM, CGO_ENABLED="1", **more)
     lines = [json.loads(line) for line in said.splitlines() if line.startswith("{")]
     text = "".join(line.get("Output", "") for line in lines) or said
     tests = [line for line in lines if "Test" in line and "/" not in line["Test"]]
@@ -43,22 +41,17 @@ def go_test(bench, folder, flags, **more):
     bench.passed += sum(line["Action"] == "pass" for line in tests)
 
 
-@pytest.mark.needs("go", "gcc", "sqlite-go", "crypto-go", "jose-go", "etcd-go")
-@pytest.mark.parametrize("folder", PACKAGES, ids=name_of)
-def check_go_of_server(bench, folder):
-    go_test(bench, folder, FLAGS, GO111MODULE="off", GOFLAGS="", GOPATH=f"{ROOT}/node:/usr/share/gocode")
-
-
 @pytest.mark.needs("go", "gcc")
+@pytest.mark.parametrize("words", [["./..."], pytest.param(["-race", "./..."], marks=pytest.mark.gate)], ids=" ".join)
 @pytest.mark.parametrize("folder", MODULES, ids=name_of)
-def check_go_of_clients(bench, folder, librbac):
+def check_go_of_clients(bench, folder, words, librbac):
     flags = {"CGO_CFLAGS": f"-I{librbac}", "CGO_LDFLAGS": f"-L{librbac}", "LD_LIBRARY_PATH": str(librbac)}
-    go_test(bench, folder, [], GOFLAGS="-mod=mod", GOPROXY="off", GOWORK="off", **flags)
+    go_test(bench, folder, words, GOFLAGS="-mod=mod", GOPROXY="off", GOWORK="off", **flags)
 
 
 @pytest.mark.needs("node")
 def check_javascript(bench):
-    status, said = run(["node", "--test", "test"], CLIENTS / "javascript")
+    status, said = run(["node", "--test"], CLIENTS / "javascript")
     bench.judge("node --test", [] if status == 0 else [said[-3000:]])
     bench.passed += int(re.findall(r"^# pass (\d+)$", said, re.M)[-1])
     bench.same("skipped", re.findall(r"^# skipped (\d+)$", said, re.M)[-1:], ["0"])
@@ -72,23 +65,16 @@ def check_python(bench):
     bench.passed += int(re.findall(r"(\d+) passed", said)[-1])
 
 
-@pytest.mark.needs("javac", "junit")
+@pytest.mark.needs("javac", "mvn", "junit")
 def check_java(bench):
-    jars = [JARS / f"{name}.jar" for name in (
-        "junit-jupiter-api", "junit-jupiter-engine", "junit-jupiter-params", "junit-platform-commons", "junit-platform-console",
-        "junit-platform-engine", "junit-platform-launcher", "junit-platform-reporting", "opentest4j", "apiguardian-api",
-        "opentest4j-reporting-events", "picocli", "univocity-parsers",
-    )]  # fmt: skip
-    paths = ":".join([str(bench.folder), *map(str, jars)])
-    sources = [str(path) for path in sorted((CLIENTS / "java/src").rglob("*.java"))]
-    words = ["javac", "-Xlint:all,-processing", "--release", "11", "-cp", paths, "-d", str(bench.folder), *sources]
-    bench.same("javac", run(words, CLIENTS / "java")[0], 0)
-    quiet = bench.write("logging.properties", b"handlers=\n")
-    words = ["java", "-XX:TieredStopAtLevel=1", f"-Djava.util.logging.config.file={quiet}", "-cp", paths]
-    status, said = run([*words, "org.junit.platform.console.ConsoleLauncher", "--select-package", "rbac.client", "--details=summary"], CLIENTS / "java")
-    bench.judge("JUnit", [] if status == 0 else [said[-3000:]])
-    bench.passed += int(re.findall(r"(\d+) tests successful", said)[-1])
-    bench.same("skipped", re.findall(r"(\d+) tests skipped", said), ["0"])
+    """JUnit by Maven, in a copy, since it writes into the folder."""
+    shutil.copytree(CLIENTS / "java", bench.folder / "java", ignore=shutil.ignore_patterns("target"))
+    shutil.copytree(CLIENTS / "conformance", bench.folder / "conformance")
+    status, said = maven(bench.folder / "java", "test")
+    bench.judge("mvn test", [] if status == 0 else [said[-3000:]])
+    suites = [ElementTree.parse(path).getroot() for path in (bench.folder / "java/target/surefire-reports").glob("*.xml")]
+    bench.passed += sum(int(one.get("tests")) for one in suites)
+    bench.same("skipped", sum(int(one.get("skipped")) for one in suites), 0)
 
 
 @pytest.mark.needs("cargo", "gcc")

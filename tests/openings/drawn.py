@@ -9,18 +9,21 @@ import os
 import random
 from collections import Counter
 
+import pytest
+
 from machine import opening
 from machine.drawing import Draws
 from machine.replaying import Replay
 from machine.state import LIMITS, State, reach
 from machine.texts import rows
+from program.cases import shares
 from program.offices import Office, read_rows, same_rows
 
 from .files import expect_good, expect_migrated, expect_refused, judged, loose, read, statements_of, write
 
-# How many files there are, and with `--long`; and how many jobs.
+# How many files there are, and with `--long`; and how many each check has.
 FILES, MORE_FILES = 500, 20_000
-JOBS = 4
+EACH = 125
 
 # The range of how many random lines make an office, and the most changes of its rows.
 LINES = (20, 240)
@@ -271,15 +274,10 @@ def try_file(bench, statements, seed):
     return f"{'loose' if is_loose else 'own'} tables: {word_of(answer)}"
 
 
-def try_files(bench, first, count):
-    """This many files from this seed on."""
+@pytest.mark.parametrize("first", shares(10_000, EACH, FILES, MORE_FILES))
+def check_files(bench, first):
+    """Files from this seed on are opened and answered as the model does."""
     statements = statements_of(Office(bench, "new").path)
     os.remove(bench.path("new"))
-    counts = Counter(try_file(bench, statements, seed) for seed in range(first, first + count))
-    return {**counts, "files with random rows": count}
-
-
-def jobs(is_long):
-    """The files, shared by some jobs."""
-    count = (MORE_FILES if is_long else FILES) // JOBS
-    return [(try_files, 10_000 + job * count, count) for job in range(JOBS)]
+    counts = Counter(try_file(bench, statements, seed) for seed in range(first, first + EACH))
+    return {**counts, "files with random rows": EACH}

@@ -3,6 +3,8 @@
 import os
 from itertools import combinations
 
+import pytest
+
 from machine import opening
 from machine.replaying import Replay
 from machine.texts import json_text, rows
@@ -11,8 +13,8 @@ from program.offices import SMALL
 from .faults import all_faults
 from .files import expect_refused, judged, loose, read, write
 
-# How many jobs share the faults. How many of those that are judged at one place go into pairs, and with `--long`.
-JOBS = 4
+# How many checks share the faults. How many of those that are judged at one place go into pairs, and with `--long`.
+PARTS = 4
 OF_A_PLACE, MORE_OF_A_PLACE = 1, 6
 
 # Faults of more rows go into pairs with `--long` only.
@@ -58,9 +60,11 @@ def try_faults(bench, state, faults, words):
     os.remove(path)
 
 
-def try_alone(bench, version, part):
+@pytest.mark.parametrize("part", range(PARTS))
+@pytest.mark.parametrize("version", [1, 2])
+def check_alone(bench, version, part):
     """Each fault alone, for a part of them."""
-    state, faults = small_state(version), all_faults(version)[part::JOBS]
+    state, faults = small_state(version), all_faults(version)[part::PARTS]
     for fault in faults:
         try_faults(bench, state, [fault], ["check", "replay"])
     return {"single faults": len(faults)}
@@ -83,23 +87,16 @@ def some_of_each_place(faults, most):
     return found
 
 
-def try_pairs(bench, version, part, is_long):
+@pytest.mark.parametrize("part", range(PARTS))
+@pytest.mark.parametrize("version", [1, 2])
+def check_pairs(bench, version, part):
     """Each two faults that are judged at two places, for a part of these pairs."""
     state, faults = small_state(version), all_faults(version)
-    if is_long:
+    if bench.is_long:
         faults = some_of_each_place(faults, MORE_OF_A_PLACE)
     else:
         faults = some_of_each_place([fault for fault in faults if count_rows(fault) <= MOST_ROWS], OF_A_PLACE)
     pairs = [pair for pair in combinations(faults, 2) if pair[0].place != pair[1].place]
-    for pair in pairs[part::JOBS]:
+    for pair in pairs[part::PARTS]:
         try_faults(bench, state, pair, ["check"])
-    return {"pairs of faults": len(pairs[part::JOBS])}
-
-
-def jobs(is_long):
-    """The faults of both versions, alone and in pairs."""
-    found = []
-    for version in (1, 2):
-        for part in range(JOBS):
-            found += [(try_alone, version, part), (try_pairs, version, part, is_long)]
-    return found
+    return {"pairs of faults": len(pairs[part::PARTS])}

@@ -1,7 +1,8 @@
 """The page of auditing: its commands print what it shows, and it names each tool and each view."""
 
 import re
-import shutil
+
+import pytest
 
 from . import markdown, sources
 from .shell import Shell, runs
@@ -16,8 +17,9 @@ MOST_LINES, MOST_BYTES = 380, 20_000
 OF_A_FRONT = "## 9. Who did what: the record of a front"
 
 
+@pytest.mark.needs("dot")
 def check_commands(bench):
-    """The commands of the page, from its top to its end, print what is shown below them. What needs dot may be left out."""
+    """The commands of the page, from its top to its end, print what is shown below them."""
     for name in ("tools", "examples"):
         (bench.folder / name).symlink_to(sources.ROOT / name)
     with Shell(bench) as reader:
@@ -27,10 +29,7 @@ def check_commands(bench):
         for command, shown in runs(
             [line for block in markdown.blocks(PAGE.partition(OF_A_FRONT)[0], "console") for line in block]
         ):
-            if "| dot " in command and not shutil.which("dot"):
-                print(f"left out, since dot can't be found: {command}")
-            else:
-                reader.shows(command, shown)
+            reader.shows(command, shown)
 
 
 def check_length(bench):

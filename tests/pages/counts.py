@@ -47,32 +47,3 @@ def check_counts(bench):
             found += 1
             bench.same(f"the number of {word} in {path}", int(number), known[word])
     bench.same("numbers are found", found > 5, True)
-
-
-def seconds_of_scripts():
-    """The seconds of each script of tests/, as the table of times has them."""
-    page = (sources.ROOT / "tests/README.md").read_text(encoding="utf-8")
-    (table,) = markdown.tables(markdown.section(page, "## Times"))
-    times = {}
-    for part, seconds, *_ in table:
-        for script in re.findall(r"^`([\w.-]+)`|, `([\w.-]+)`", part):
-            (number,) = re.findall(r"\d+", seconds.replace(",", ""))[:1]
-            times["".join(script)] = int(number)
-    return times
-
-
-def check_times(bench):
-    """CONTRIBUTING.md has the times of tests/README.md."""
-    times = seconds_of_scripts()
-    bench.same("scripts have times", len(times) > 20, True)
-    page = (sources.ROOT / "CONTRIBUTING.md").read_text(encoding="utf-8")
-    first, _ = markdown.tables(markdown.section(page, "## What to run"))
-    found = 0
-    for _, run, takes in first:
-        scripts = [part.split()[-1].strip("`") for part in re.split(r", then |, ", run)]
-        for script, stated in zip([name for name in scripts if not name.startswith("bin/")], takes.split(", ")):
-            name = script.removeprefix("tests/")
-            if name in times:
-                found += 1
-                bench.same(f"the seconds of {name} in CONTRIBUTING.md", stated, f"{times[name]} s")
-    bench.same("times are found", found > 10, True)

@@ -9,7 +9,7 @@ from .shell import Shell
 PAGE = markdown.page("INTEGRATING.md")
 MOST_LINES, MOST_BYTES = 360, 20_480
 
-# The languages of the blocks that tests/clients.py runs, and that of those that are run here.
+# The languages of the blocks that tests/clients runs, and that of those that are run here.
 ELSEWHERE, HERE = {"python", "sh", "go", "java", "javascript"}, {"console"}
 
 # Statuses of proxies in front of a server that they can't reach.

@@ -6,6 +6,8 @@ import shutil
 import signal
 import subprocess
 
+import pytest
+
 from program.web import Server, post, reply
 
 from . import command_line, markdown, sources
@@ -63,31 +65,26 @@ def synopsis():
     return [" ".join(words_of(line) for line in form.splitlines()) for form in found]
 
 
-def check_rendered(bench):
-    """The page is rendered without a warning by each installed program that renders pages."""
+@pytest.mark.parametrize("words", [pytest.param(words, id=words[0], marks=pytest.mark.needs(words[0])) for words in RENDERING])
+def check_rendered(bench, words):
+    """The page is rendered without a warning by each program that renders pages."""
     settings = {**os.environ, "LC_ALL": "C.UTF-8", "MANWIDTH": "80"}
-    there = [words for words in RENDERING if shutil.which(words[0])]
-    if not there:
-        print("manual: neither man, groff nor mandoc is installed: only the macros of the page are checked")
-    for words in there:
-        done = subprocess.run(words, capture_output=True, env=settings, stdin=subprocess.DEVNULL, check=False)
-        said = done.stderr if words[0] == "man" else done.stdout + done.stderr
-        bench.same(f"what {words[0]} warns of", (done.returncode, said), (0, b""))
-        if words[0] == "man":
-            for title in SECTIONS:
-                bench.same(f"{title} is rendered", title.encode() in done.stdout, True)
+    done = subprocess.run(words, capture_output=True, env=settings, stdin=subprocess.DEVNULL, check=False)
+    said = done.stderr if words[0] == "man" else done.stdout + done.stderr
+    bench.same(f"what {words[0]} warns of", (done.returncode, said), (0, b""))
+    if words[0] == "man":
+        for title in SECTIONS:
+            bench.same(f"{title} is rendered", title.encode() in done.stdout, True)
 
 
+@pytest.mark.needs("mandb", "apropos")
 def check_name(bench):
-    """apropos finds the page, in a list of pages that mandb makes of it, if both are installed."""
+    """apropos finds the page, in a list of pages that mandb makes of it."""
     (line,) = section("NAME")
     name, says = line.split(r" \- ")
     bench.same("the name", name, "rbac")
     for word in ("role", "access"):
         bench.same(f"{word} is in the line", bool(re.search(rf"\b{word}\b", says)), True)
-    if not (shutil.which("mandb") and shutil.which("apropos")):
-        print("manual: mandb or apropos is not installed: what apropos finds is not compared")
-        return
     pages = bench.folder / "pages"
     (pages / "man1").mkdir(parents=True)
     shutil.copy(PATH, pages / "man1")

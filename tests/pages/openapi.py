@@ -5,9 +5,10 @@ tests/front/described.py checks that the front does so too.
 
 import json
 import re
-import shutil
 import subprocess
 import sys
+
+import pytest
 
 from program.web import PHRASES, Server, head, post
 
@@ -191,14 +192,14 @@ def check_written(bench):
 
 
 def check_valid(bench):
-    """The description is one of OpenAPI 3.0, by a validator if one is installed, and has the version of VERSION."""
+    """The description is one of OpenAPI 3.0, by a validator, and has the version of VERSION."""
     bench.same("the version of OpenAPI", SPEC["openapi"], "3.0.3")
     version = (sources.ROOT / "VERSION").read_text(encoding="ascii").strip()
     bench.same("the version of the description", SPEC["info"]["version"], version)
     bench.same("what secures it, if anything does", SPEC["security"], [{}, {"token": []}])
     faults = validators.faults_of_description(SPEC)
     if faults is None:
-        print("openapi: no validator of OpenAPI is installed (openapi_spec_validator, or jsonschema with openapi-specification)")
+        bench.leave_out("openapi-specification", "a validator of OpenAPI")
         return
     bench.judge("what a validator reports about the description", faults)
     broken = {**SPEC, "paths": {"/v1/addUser": {"post": {"operationId": 7}}}}
@@ -336,7 +337,7 @@ def check_refusals(bench):
 def check_refusals_of_front(bench):
     """The page of the front lists its refusals with the statuses, codes and names that its sources have."""
     text = SOURCE.read_text(encoding="utf-8")
-    found = re.findall(r'Refusal\{http\.Status(\w+), (\d+), "(\w+)"\}', text)
+    found = re.findall(r'Refusal\{Status: http\.Status(\w+), Code: (\d+), Name: "(\w+)"\}', text)
     wanted = {(status, f"{code} {name}") for status, code, name in found if int(code) not in sources.refusals()}
     bench.same("the refusals of the front", {(status[4:].replace(" ", ""), code) for status, code in OF_FRONT}, wanted)
 
@@ -426,7 +427,7 @@ class Answered:
         """Counts what jsonschema reports about all answers, if it is installed."""
         found = validators.faults_by_schema(SPEC, self.cases)
         if found is None:
-            print("openapi: jsonschema is not installed: the answers are not validated by it")
+            self.bench.leave_out("jsonschema", "a validator of the answers")
             return
         for (_, answer), faults in zip(self.cases, found, strict=True):
             self.bench.judge(f"what jsonschema reports about {answer}", faults)
@@ -544,12 +545,9 @@ while (my $line = <STDIN>) {
 """
 
 
+@pytest.mark.needs("OpenAPI::Client")
 def check_client(bench):
     """A client that OpenAPI::Client makes of the description has each function, and gets the answers of the program."""
-    perl = shutil.which("perl")
-    if not perl or subprocess.run([perl, "-MOpenAPI::Client", "-e", "1"], capture_output=True, check=False).returncode:
-        print("openapi: OpenAPI::Client of Perl is not installed: no client is made of the description")
-        return
     asked = [body_of(json.loads(line)) for line, _ in all_pairs()]
     asked = [(name, body) for name, body in asked if name in operations() and not isinstance(body, str)]
     asked = [(name, body) for name, body in asked if not faults_of(schema_of(operations()[name]["requestBody"]), body)]
@@ -559,7 +557,7 @@ def check_client(bench):
     bench.ends(["init", path], makes=["office"])
     with Server(bench, path, len(asked)) as server:
         done = subprocess.run(
-            [perl, "-e", CALLING, str(markdown.DOCS / "openapi.json"), f"http://127.0.0.1:{server.port}"],
+            ["perl", "-e", CALLING, str(markdown.DOCS / "openapi.json"), f"http://127.0.0.1:{server.port}"],
             input="".join(json.dumps(call) + "\n" for call in [("addUser", {"user": ""}), *asked]),
             capture_output=True,
             text=True,

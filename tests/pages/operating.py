@@ -7,6 +7,8 @@ import shutil
 import subprocess
 from contextlib import contextmanager
 
+import pytest
+
 from program import damaged
 from program.offices import change, changed, small_office
 from program.web import Server, post
@@ -74,6 +76,7 @@ def check_length(bench):
     bench.same("the page is short", (len(PAGE.splitlines()) <= MOST_LINES, len(PAGE.encode()) <= MOST_BYTES), (True, True))
 
 
+@pytest.mark.needs("fuser")
 def check_commands(bench):
     """The commands of the page, from its top to its end, print what is shown below them."""
     office = small_office(bench, "office1")
@@ -81,10 +84,7 @@ def check_commands(bench):
     with reader_of(bench) as reader:
         for block in markdown.blocks(PAGE, "console"):
             for command, shown in runs(block):
-                if command.startswith("fuser ") and not shutil.which("fuser"):
-                    print(f"left out, since fuser can't be found: {command}")
-                else:
-                    reader.shows(command, shown)
+                reader.shows(command, shown)
             reader.waits()
 
 
@@ -232,8 +232,9 @@ def check_groups(bench):
     bench.same("the others", (said["auditors"], said["administrators"]), (reviews, f"all {len(all_of_them)}"))
 
 
+@pytest.mark.needs("rsync", "restic")
 def check_copies(bench):
-    """rsync and restic, if they are installed, copy a backup so that its digest matches."""
+    """rsync and restic copy a backup so that its digest matches."""
     small_office(bench)
     lines = block_with("rsync ").splitlines()
     (bench.folder / "backups").mkdir()
@@ -241,9 +242,6 @@ def check_copies(bench):
         reader.type("deploy/backup office backups; mkdir backups/.making-x")
         reader.type("export RESTIC_PASSWORD=secret; restic -q -r store init")
         for line in lines:
-            if not shutil.which(line.split()[0]):
-                print(f"left out, since {line.split()[0]} can't be found: {line}")
-                continue
             reader.shows(line, "")
             if line.startswith("restic"):
                 reader.type("restic -q -r store restore latest --target restored; mv restored/backups mirror2")

@@ -13,9 +13,14 @@ PAGE = (ROOT / "README.md").read_text(encoding="utf-8")
 CONTRACTS, ARCHITECTURE = markdown.page("CONTRACTS.md"), markdown.page("ARCHITECTURE.md")
 BENCHMARKS = (ROOT / "bench/README.md").read_text(encoding="utf-8")
 
-# The most lines that the page, and its first text, may have.
-MOST_LINES = 132
+# The most bytes that the page may have, and the most lines of its first text.
+MOST_BYTES = 11_500
 MOST_FIRST = 5
+
+# The pages that the first page has to lead to.
+PAGES = "CHANGELOG.md SECURITY.md CONTRIBUTING.md " + " ".join(
+    f"docs/{name}.md" for name in "FRONT CALLERS OPERATING IMAGE CONSOLE AUDITING INTEGRATING EMBEDDING API CONTRACTS CLUSTER".split()
+)
 
 # What the library of the toolchain consists of. A crate names such a part if its proofs do.
 PARTS_OF_STD = {"core", "libc", "std_alloc"}
@@ -46,23 +51,31 @@ def crates():
 
 def check_length(bench):
     """The page is short, and first says in a few lines what it is for."""
-    bench.same("the page is short", len(PAGE.splitlines()) <= MOST_LINES, True)
+    bench.same("the page is short", len(PAGE.encode()) <= MOST_BYTES, True)
     title, first, _ = PAGE.split("\n\n", 2)
     bench.same("the title is one line", (title[:2], title.count("\n")), ("# ", 0))
     bench.same("the first text is short", len(first.splitlines()) <= MOST_FIRST, True)
 
 
+def check_links(bench):
+    """The page leads to each page that a reader wants first, and has the version of the sources."""
+    links = re.findall(r"\]\(([^)#]+)", PAGE)
+    bench.same("pages without a link", [page for page in PAGES.split() if page not in links], [])
+    bench.same("the version", re.findall(r"This is version ([\d.]+)", PAGE), [(ROOT / "VERSION").read_text(encoding="ascii").strip()])
+    bench.same("no formula", re.findall("[λ∀∃≡×]", PAGE), [])
+
+
 def check_two_commands(bench):
-    """Of the two commands the first prints what is written down beside its input, and the gate is the second with `--proofs`."""
+    """Of the two commands the first prints what is written down beside its input, and the gate begins with the second."""
     first, second = re.findall(r"^    (bin/.*)$", markdown.section(PAGE, "## Two commands"), re.M)
     (bench.folder / "examples").symlink_to(ROOT / "examples")
     (path,) = re.findall(r"< (\S+)\.jsonl$", first)
     bench.same("the page names the answers", f"{path}.answers" in PAGE, True)
     with Shell(bench) as reader:
         reader.shows(first, (ROOT / f"{path}.answers").read_text(encoding="utf-8"))
-    gate = (ROOT / ".ci/run").read_text(encoding="utf-8").splitlines()[-1]
-    bench.same("the gate runs the second command", gate.endswith(f"exec {second} --proofs"), True)
-    bench.same("the page names the gate", f"`{second} --proofs`" in PAGE, True)
+    gate = (ROOT / ".ci/run").read_text(encoding="utf-8")
+    bench.same("the gate runs the second command, then the proofs", f"\n{second} --gate && bin/prove || exit 1\n" in gate, True)
+    bench.same("the page names the proofs", "`bin/prove`" in PAGE, True)
     setup = (ROOT / "bin/setup").read_text(encoding="utf-8")
     said = "as root, or as a user with `sudo` without a password" in markdown.in_one_line(PAGE)
     bench.same("who can install what is missing", ("neither root nor sudo" in setup, said), (True, True))
@@ -113,6 +126,8 @@ def figures():
     cases = markdown.tables(markdown.section(BENCHMARKS, "## access"))[1]
     slowest = max((float(row[1]), row[0].strip("`")) for row in cases)
     synced = re.search(SYNCED, markdown.in_one_line(BENCHMARKS)).groups()
+    front = {row[0].replace("`", ""): row for row in markdown.tables(markdown.section(BENCHMARKS, "## front"))[0]}
+    yield [float(front[name][3].split()[0].replace(",", "")) for name in ("front, callers checked", "rbac serve")]
     yield [cell("replay", "access", 4), cell("replay", "access", 5)]
     yield [cell("http", "checkAccess, allowed", 2), cell("http", "checkAccess, allowed", 3)]
     yield [cell("access", name, 1) / 1000 for name in DECIDING]

@@ -3,12 +3,18 @@
 import os
 import stat
 import subprocess
+import sys
 from dataclasses import dataclass
 from pathlib import Path
+
+from needs import reason_of
 
 TESTS = Path(__file__).resolve().parent.parent
 PROGRAM = os.path.abspath(os.environ.get("RBAC_PROGRAM", TESTS / "../release/rbac"))
 SECONDS = 60
+
+# Checks use files in memory if possible, except those of modules with ON_DISK: a sync takes long on a disk.
+IN_MEMORY = "/dev/shm"
 
 
 @dataclass(frozen=True)
@@ -34,13 +40,25 @@ def sort_of(path):
     return f"link to {os.readlink(path)}" if stat.S_ISLNK(mode) else stat.filemode(mode)[0]
 
 
+def folder_of(function):
+    """The folder in which the files of a check are made; None is the usual one of the system."""
+    is_on_disk = getattr(sys.modules[function.__module__], "ON_DISK", False)
+    return None if is_on_disk or not os.access(IN_MEMORY, os.W_OK) else IN_MEMORY
+
+
+def beside(bench, name):
+    """The path of a file beside the folder of a bench, in which the program has no business."""
+    return str(bench.folder.parent / name)
+
+
 class Bench:
-    """A folder to work in, the count of what was as it should be, and the failures."""
+    """A folder to work in, the count of what was as it should be, the failures, and what was left out."""
 
     def __init__(self, folder):
         self.folder = folder
         self.passed = 0
         self.faults = []
+        self.left_out = []
 
     def path(self, name):
         """The path of a file in the folder, as a text."""
@@ -61,6 +79,10 @@ class Bench:
             self.faults.append(f"{what}: " + "; ".join(faults))
         else:
             self.passed += 1
+
+    def leave_out(self, need, what):
+        """Says that a part of the check is left out, for want of something."""
+        self.left_out.append(reason_of([need], what))
 
     def same(self, what, given, wanted):
         """Counts whether what is given is what is wanted."""

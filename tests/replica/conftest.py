@@ -17,7 +17,6 @@ def pytest_collection_modifyitems(items):
 
 
 @pytest.fixture(scope="session", autouse=True)
-def drivers(built, request):
-    os.environ[driving.LONG] = "yes" if request.config.getoption("--long") else ""
+def drivers(built):
     os.environ[PROGRAM] = str(built("front", build_front) / "rbac-node")
     os.environ["RBAC_BUILT"] = str(built("replica", driving.build))

@@ -5,7 +5,8 @@ Each line of its input is an object with the key `do`, and each line of its outp
     open     makes a client and a replica of `addresses`, `token`, `oldest`, `otherwise`, `limit` and `silence`
     ready    whether the copy decides within `seconds`: `ready`
     check    a decision about `session`, `operation` and `object`, by `at_least` a revision: `allowed`, `reason`, `code`, `age`, `number`
-    status   the `number` and the `revision` of the copy, its `age`, and the `reason` why it isn't followed, or nothing
+    status   the `number` and the `revision` of the copy, its `age`, the `reason` why it isn't followed, or nothing, and the newest
+             revision that the client has `seen`
     call     adds a `user` by the client: the `revision` of the policy that the client has seen then
     login    opens a session of `user` with `roles`, which `renews` or doesn't, whose decisions are the replica's: its `name`
     ask      a decision of that session about `operation` and `object`: its `reason`, and the session's `name`
@@ -27,7 +28,6 @@ from library import building
 from program.bench import SECONDS, TESTS
 
 DRIVERS = TESTS / "replica/drivers"
-LONG = "RBAC_REPLICA_LONG"
 
 # Go's own packages call no C then: otherwise they would be built again for each folder in which the library is.
 GO_TAGS = "-tags=netgo,osusergo"
@@ -42,7 +42,7 @@ def build(folder):
     """Builds the library, the module in Python and the driver in Go into a folder."""
     os.environ["RBAC_BUILT"] = str(folder)
     building.run([building.TOP / "bin/library", folder])
-    if building.has_python():
+    if building.is_there("Python"):
         building.build_python()
         shutil.copytree(building.TOP / "clients/python/rbac_client", Path(folder) / "python/rbac_client")
     building.run(["go", "build", "-o", Path(folder) / "driver", "."], cwd=DRIVERS / "go", env=go_environment())

@@ -20,7 +20,7 @@ from front.sessions import digest_of
 from machine.texts import rows
 
 from .drawing import QUESTIONS, Drawn, reason_of
-from .driving import LANGUAGES, LONG, Driven
+from .driving import LANGUAGES, Driven
 from .proxies import Proxy
 
 # How many commands are sent a second, in batches of how many, and for how many seconds.
@@ -277,26 +277,26 @@ def ends_of(state):
     return [reason_of(state, one) for one in QUESTIONS[::7]]
 
 
-def rounds(bench, language, is_disturbed):
+def rounds(bench, language, seed, is_disturbed):
     """One round, or many if there is time; greatest values are those of all rounds."""
     total = {}
-    seed = random.randrange(1_000_000_000)
-    print(f"the seed of the replica in {language} is {seed}", flush=True)
-    for number in range(ROUNDS if os.environ.get(LONG) else 1):
+    for number in range(ROUNDS if bench.is_long else 1):
         for name, count in a_round(bench, language, seed + number, is_disturbed).items():
             is_greatest = "most" in name or "milliseconds" in name or "a second" in name
             total[name] = max(total.get(name, 0), count) if is_greatest else total.get(name, 0) + count
     return total
 
 
+@pytest.mark.seeds()
 @pytest.mark.parametrize("language", LANGUAGES)
-def check_disturbed(bench, language):
+def check_disturbed(bench, language, seed):
     """A thousand commands a second, while the front and connections are killed."""
-    return {f"{language}, disturbed: {name}": count for name, count in rounds(bench, language, True).items()}
+    return {f"{language}, disturbed: {name}": count for name, count in rounds(bench, language, seed, True).items()}
 
 
 @pytest.mark.long
+@pytest.mark.seeds()
 @pytest.mark.parametrize("language", LANGUAGES)
-def check_undisturbed(bench, language):
+def check_undisturbed(bench, language, seed):
     """A thousand commands a second, and nothing else."""
-    return {f"{language}, undisturbed: {name}": count for name, count in rounds(bench, language, False).items()}
+    return {f"{language}, undisturbed: {name}": count for name, count in rounds(bench, language, seed, False).items()}

@@ -31,8 +31,9 @@ def answer(body, status=200, *fields):
     return "\r\n".join(lines).encode() + body
 
 
-def snapshot(body=None, number=7):
-    return answer(POLICY if body is None else body, 200, f"Office-Number: {number}", f"Policy-Revision: {number}")
+def snapshot(body=None, number=7, revision=None):
+    numbers = [f"Office-Number: {number}", f"Policy-Revision: {number if revision is None else revision}"]
+    return answer(POLICY if body is None else body, 200, *numbers)
 
 
 WATCH = b"HTTP/1.1 200 OK\r\nContent-Type: text/event-stream\r\nCache-Control: no-store\r\nConnection: close\r\n\r\n"
@@ -50,10 +51,13 @@ USER = b'{"fn":"addUser","user":"bob"}'
 
 
 class Fake:
-    """A front with one snapshot and one watch, which goes on saying the last number unless it `ends`."""
+    """A front with one snapshot and one watch, which goes on saying the last number unless it `ends`. With lists of them, each is the
+    answer to one request, and the last one that to all further requests.
+    """
 
     def __init__(self, given, watched, ends=False):
-        self.given, self.watched, self.ends = given, watched, ends
+        self.given, self.watched = [one if isinstance(one, list) else [one] for one in (given, watched)]
+        self.ends = ends
         self.asked = []
         self.listener = socket.create_server((HOST, 0))
         self.address = f"http://{HOST}:{self.listener.getsockname()[1]}"
@@ -84,8 +88,10 @@ class Fake:
                         return
                     head += piece
                 self.asked.append(head.split(b" ")[1].decode())
-                client.sendall(self.watched if b"/watch" in head else self.given)
-                if b"/watch" in head and not self.ends:
+                answers = self.watched if b"/watch" in head else self.given
+                is_last = len(answers) == 1
+                client.sendall(answers[0] if is_last else answers.pop(0))
+                if b"/watch" in head and is_last and not self.ends:
                     client.settimeout(60)
                     client.recv(1)
             except OSError:
@@ -108,6 +114,9 @@ def check_snapshots(bench, language):
     after_it(bench, language, "a good one", good, WATCH + newest(7), ("allowed",))
     denied = ("unexpected", "unanswered", "unavailable", "unreachable", "invalid_request")
     body = POLICY.replace(b"DIGEST", DIGEST)
+    # Names of one letter: a text of them could be taken for a list.
+    short = body.replace(b'"boss"', b'"b"').replace(b'{"fn":"addRole"', b'{"fn":"addRole","role":"c"}\n{"fn":"addRole"', 1)
+    after_it(bench, language, "short names", snapshot(short), WATCH + newest(7), ("allowed",))
     for what, given in {
         "no number": good.replace(b"Office-Number: 7\r\n", b""),
         "no whole line at its end": snapshot(body[:-1]),
@@ -122,6 +131,15 @@ def check_snapshots(bench, language):
         "404": answer(b'{"code":35,"error":"UnknownFunction"}', 404),
         "503": answer(b'{"code":60,"error":"Unavailable"}', 503),
         "no HTTP": b"hello\n",
+        "no revision": good.replace(b"Policy-Revision: 7\r\n", b""),
+        "two numbers": good.replace(b"Office-Number: 7\r\n", b"Office-Number: 7\r\nOffice-Number: 8\r\n"),
+        **{f"the number {word!r}": snapshot(body, word) for word in ("-1", "1e2", "+7", "0x7", "7 7", "7.0", "", "9" * 19)},
+        **{f"the revision {word!r}": snapshot(body, 7, word) for word in ("-1", "1e2", "")},
+        "a text for a list of roles": snapshot(short.replace(b'["b"]', b'"b"')),
+        "null for a list of roles": snapshot(short.replace(b'["b"]', b"null")),
+        "a number for a role": snapshot(short.replace(b'["b"]', b"[7]")),
+        "a key of another case": snapshot(short.replace(b'"roles":["b"]', b'"Roles":["b"]')),
+        "a cardinality in another form": snapshot(short + b'{"fn":"createSsdSet","set":"s","roles":["b","c"],"cardinality":2e0}\n'),
     }.items():
         after_it(bench, language, f"a snapshot with {what}", given, WATCH + newest(7), denied)
     refused = answer(b'{"code":63,"error":"Forbidden"}', 403)
@@ -151,10 +169,24 @@ def check_watches(bench, language):
         "a watch with a length": WATCH.replace(b"\r\n\r\n", b"\r\nContent-Length: 900\r\n\r\n"),
         "a watch of another type": WATCH.replace(b"event-stream", b"html"),
         "a line without an end": WATCH + b"id: 8\ndata: " + b"x" * 100_000,
+        "a number with a sign": b"id: +8\ndata: %s\n\n" % USER,
+        "a newest number in another form": b"event: newest\ndata: 7e0\n\n",
+        "a time in another form": b"event: newest\ndata: 7\nelapsed: -1\n\n",
+        "two commands in one event": b"id: 8\ndata: %s\ndata: %s\n\n" % (ended[12:-2], USER),
+        "a field without a blank": b"id: 8\ndata:%s\n\n" % USER,
+        "a line that is no field": b"id: 8\n%s\n\n" % USER,
+        "an event of another type": b"event: later\nid: 8\ndata: %s\n\n" % USER,
+        "lines that end with CR": event(8, USER).replace(b"\n", b"\r") + b"\n\n",
         "503": answer(b'{"code":60,"error":"Unavailable"}', 503),
     }.items():
         watched = watched if watched.startswith(b"HTTP") else WATCH + watched
         keeps(bench, language, what, good, watched)
+    for what, watched in {
+        "a revocation in lines that end with CR LF": newest(7) + ended.replace(b"\n", b"\r\n") + newest(8),
+        "a watch in lines that end with CR LF": (newest(7) + ended + newest(8)).replace(b"\n", b"\r\n"),
+        "a revocation in lines of both ends": newest(7) + ended.replace(b"\n", b"\r\n", 1) + newest(8),
+    }.items():
+        after_it(bench, language, what, good, WATCH + watched, ("ended_session",))
     asked = keeps(bench, language, "410", good, answer(b'{"code":67,"error":"Outdated"}', 410))
     bench.same("410: a new snapshot", asked.count("/snapshot") > 1, True)
     refused = answer(b'{"code":62,"error":"Unauthorized"}', 401)
@@ -206,3 +238,69 @@ def check_ages(bench, language):
         driver.open(fake.address, oldest=600, silence=600)
         until(lambda: driver.do("status")["number"] == 11, "it has the newest number")
         bench.same("its revision", driver.do("status")["revision"], 8)
+
+
+@pytest.mark.parametrize("language", LANGUAGES)
+def check_restores(bench, language):
+    """After 410 or a number that went back the office may have been restored: what was before it decides nothing, and counts nothing."""
+    before = snapshot(POLICY.replace(b"DIGEST", DIGEST), 1_900_000_000_000_000)
+    after = snapshot(b'{"fn":"addUser","user":"ann"}\n', 1_000)
+    outdated = answer(b'{"code":67,"error":"Outdated"}', 410)
+    watched = WATCH + newest(1_900_000_000_000_000)
+    for what, watches in {
+        "410": [watched, outdated, WATCH + newest(1_000)],
+        "a newest number that goes back": [watched + newest(1_000), WATCH + newest(1_000)],
+        "a number of a command that goes back": [watched + event(1_001, USER), WATCH + newest(1_000)],
+    }.items():
+        with Fake([before, after], watches) as fake, Driven(bench, language) as driver:
+            driver.open(fake.address, oldest=600, silence=600)
+            until(lambda: driver.do("status")["number"] == 1_000, f"{what}: the copy of after the restore")
+            status = driver.do("status")
+            bench.same(f"{what}: the revisions", (status["revision"], status["seen"]), (1_000, 1_000))
+            bench.same(f"{what}: a session of before", driver.reason(*ASKED), "ended_session")
+            bench.same(f"{what}: by the revision that was seen", driver.reason(*ASKED, at_least=status["seen"]), "ended_session")
+    # Until there is a new copy, the old one doesn't decide.
+    refused = answer(b'{"code":60,"error":"Unavailable"}', 503)
+    with Fake([before, refused], [watched, outdated]) as fake, Driven(bench, language) as driver:
+        driver.open(fake.address, oldest=600, silence=600)
+        until(lambda: fake.asked.count("/snapshot") > 1, "a new snapshot is asked for")
+        bench.same("meanwhile", driver.reason(*ASKED), "unavailable")
+        bench.same("what was seen", driver.do("status")["seen"], 0)
+
+
+TOKEN = "a-token-that-nobody-may-see"
+
+
+@pytest.mark.parametrize("language", LANGUAGES)
+def check_what_is_logged(bench, language):
+    """Whatever a front sends, the log has lines of printable ASCII without the token, and not one for each decision."""
+    good = snapshot(POLICY.replace(b"DIGEST", DIGEST))
+    echo = b"GET /watch?after=7 HTTP/1.1\r\nAuthorization: Bearer %s\r\n\r\n" % TOKEN.encode()
+    for what, (given, watched) in {
+        "a snapshot that is the request": (snapshot(echo), WATCH),
+        "a snapshot whose lines have it": (snapshot(b'{"fn":"addUser","user":"%s"}\n{"fn":"no"}\n' % TOKEN.encode()), WATCH),
+        "a head that is the request": (echo, WATCH),
+        "a page with the request": (answer(echo, 502), WATCH),
+        "a number that is the token": (snapshot(b"", TOKEN), WATCH),
+        "a watch that is the request": (good, WATCH + echo),
+        "an event that is the request": (good, WATCH + b"id: 8\ndata: " + echo.partition(b"\r")[0] + b" " + TOKEN.encode() + b"\n\n"),
+        "a name of a refusal that is the token": (good, answer(b'{"code":67,"error":"%s"}' % TOKEN.encode(), 410)),
+        "a refusal with lines": (good, answer(b'{"code":60,"error":"a\\nINJECTED \\u001b[31m"}', 503)),
+    }.items():
+        with Fake(given, watched, ends=True) as fake, Driven(bench, language) as driver:
+            driver.open(fake.address, token=TOKEN, oldest=0.001, silence=600)
+            until(lambda: "the replica is cut off" in driver.said(), what)
+            start = time.monotonic()
+            count = 0
+            while count < 200 or time.monotonic() < start + 1.1:
+                driver.check(*ASKED)
+                count += 1
+            seconds = time.monotonic() - start
+            lines = driver.said().splitlines()
+            bench.same(f"{what}: the token", [line for line in lines if TOKEN in line], [])
+            odd = [line for line in lines if len(line) > 500 or not line.isascii() or not line.isprintable() or "INJECTED" in line]
+            bench.same(f"{what}: other lines", odd, [])
+            told = [line for line in lines if "no decision about" in line]
+            bench.judge(f"{what}: lines of {count} decisions", [] if 0 < len(told) <= 10 * (seconds + 2) else [str(len(told))])
+            more = [line for line in told if "more since the last line)" in line]
+            bench.same(f"{what}: the others are counted", len(more) > 0, True)

@@ -13,9 +13,8 @@ from machine.assignments import MARK, export, read_assignments
 from machine.replaying import Replay
 from machine.state import ERRORS
 from pages import markdown
-from program.bench import PROGRAM, SECONDS, TESTS
+from program.bench import PROGRAM, SECONDS, TESTS, beside
 from program.offices import Office
-from stopped.running import beside
 
 EXAMPLES = TESTS.parent / "examples"
 NAMES = sorted(path.stem for path in EXAMPLES.glob("*.jsonl"))

@@ -10,10 +10,12 @@ import sqlite3
 from collections import Counter
 from contextlib import closing
 
-from program.bench import Done
+import pytest
+
+from program.bench import Done, beside
+from program.cases import cases
 from program.offices import SMALL, Office, change
 
-from .running import beside
 from .shim import ENDED, Stopper
 from .stories import REFUSED, judge_end, judge_office, lay, reading_story, story_named
 
@@ -43,8 +45,16 @@ CHANGES = [
 ]
 RARER = [(errno.EIO, "ever"), (errno.ENOSPC, "once"), ("exit", "once")]
 
+# Each way of stopping a change, and each other call; the rarer ways with `--long` alone.
+WAYS = cases(
+    [*(("changes", *one) for one in CHANGES if one not in RARER), ("others", errno.EIO, "once")],
+    [*(("changes", *one) for one in RARER), ("others", errno.EIO, "ever")],
+)
 
-def stop_each(bench, name, calls, like, how):
+
+@pytest.mark.parametrize("name", STORIES)
+@pytest.mark.parametrize("calls, like, how", WAYS)
+def check_stop_each(bench, name, calls, like, how):
     """Runs a story with the first call stopped, then the second, and so on, until there are fewer calls."""
     counts = Counter()
     content, story = story_named(bench, name, beside(bench, "records.csv"))
@@ -70,7 +80,8 @@ def stop_each(bench, name, calls, like, how):
     return counts
 
 
-def fail_checkpoint(bench, name, how):
+@pytest.mark.parametrize("name, how", CHECKPOINTS)
+def check_fail_checkpoint(bench, name, how):
     """Runs a story in which a call on the file itself fails after the last answer, in the checkpoint.
 
     All was answered by then: the run succeeds, the log stays beside the file, and the next run finds all of it.
@@ -93,7 +104,8 @@ def fail_checkpoint(bench, name, how):
     return {"checkpoints that failed": len(failed)}
 
 
-def refuse_making(bench, before, how):
+@pytest.mark.parametrize("before, how", [(None, "once"), (b"", "ever")])
+def check_refuse_making(bench, before, how):
     """An `init` whose call fails before a page was written leaves what was there: nothing, or an empty file.
 
     If one of the first syncs fails, an empty log stays beside it.
@@ -134,7 +146,8 @@ def small_log(bench):
     return files, office.model.state
 
 
-def keep_small_log(bench, calls, how):
+@pytest.mark.parametrize("calls, how", [("changes", "once"), ("others", "once"), ("others", "ever")])
+def check_keep_small_log(bench, calls, how):
     """An opening of which a call fails loses nothing of a log with one small page."""
     files, state = small_log(bench)
     stopper, story, refused = Stopper(bench), reading_story("check", state), 0
@@ -152,7 +165,9 @@ def keep_small_log(bench, calls, how):
     return {"openings beside a small log that failed": refused}
 
 
-def write_short(bench, name, most):
+@pytest.mark.parametrize("name", STORIES)
+@pytest.mark.parametrize("most", [1_000, 7])
+def check_write_short(bench, name, most):
     """Runs a story in which no write accepts more than `most` bytes: it is done as usual."""
     content, story = story_named(bench, name, beside(bench, "records.csv"))
     stopper = Stopper(bench)
@@ -162,15 +177,3 @@ def write_short(bench, name, most):
     bench.same(f"{what}: the status", (done.status, done.err), (0, b""))
     judge_end(bench, what, story, done)
     judge_office(bench, what, story, path, [len(story.states) - 1])
-
-
-def jobs(is_long):
-    """Each story with each way of stopping a change, and each other call; the rarer ways with `--long` alone."""
-    changes = CHANGES if is_long else [one for one in CHANGES if one not in RARER]
-    others = ("once", "ever") if is_long else ("once",)
-    found = [(stop_each, name, "changes", like, how) for name in STORIES for like, how in changes]
-    found += [(stop_each, name, "others", errno.EIO, how) for name in STORIES for how in others]
-    found += [(fail_checkpoint, name, how) for name, how in CHECKPOINTS]
-    found += [(refuse_making, None, "once"), (refuse_making, b"", "ever")]
-    found += [(keep_small_log, calls, how) for calls, how in [("changes", "once"), ("others", "once"), ("others", "ever")]]
-    return found + [(write_short, name, most) for name in STORIES for most in (1_000, 7)]

@@ -8,9 +8,10 @@ from collections import Counter
 from contextlib import contextmanager
 from functools import partial
 
-from program.bench import Done
+import pytest
 
-from .running import beside
+from program.bench import Done, beside
+
 from .shim import run_program
 from .stories import REFUSED, judge_end, judge_office, lay, story_named
 
@@ -32,11 +33,13 @@ def limit_files(size, is_ignored):
     resource.setrlimit(resource.RLIMIT_FSIZE, (size, size))
 
 
-def limit_sizes(bench, name, step, is_ignored):
+@pytest.mark.parametrize("is_ignored", [True, False])
+@pytest.mark.parametrize("name", STORIES)
+def check_limit_sizes(bench, name, is_ignored):
     """Runs a story under a limit of a file's size that grows from run to run, until it is done under it."""
     counts = Counter()
     content, story = story_named(bench, name, beside(bench, "records.csv"))
-    for size in range(0, MOST_BYTES, step):
+    for size in range(0, MOST_BYTES, STEP if bench.is_long else WIDE_STEP):
         path = lay(bench, content)
         done = run_program(bench, story.words(path), story.given, preexec_fn=partial(limit_files, size, is_ignored))
         undisturbed = done.status == 0 and os.listdir(bench.folder) == ["office"]
@@ -49,11 +52,6 @@ def limit_sizes(bench, name, step, is_ignored):
             break
     bench.same(f"{name}: done under some limit", (undisturbed, size > 0), (True, True))
     return counts
-
-
-def can_mount():
-    """Whether this process may mount a file system that nobody else sees."""
-    return "OWN_MOUNTS" in os.environ
 
 
 @contextmanager
@@ -75,11 +73,11 @@ def fill(bench, pages):
     return os.statvfs(bench.folder).f_bavail
 
 
-def fill_disks(bench, name):
+@pytest.mark.needs("mounts", "root")
+@pytest.mark.parametrize("name", STORIES)
+def check_fill_disks(bench, name):
     """Runs a story on a file system with no page free, then with one, and so on, until it is done there."""
     counts = Counter()
-    if not can_mount():
-        return {"left out, since nothing can be mounted here: file systems without room": 1}
     with mounted(bench, f"size={SIZE}"):
         content, story = story_named(bench, name, beside(bench, "records.csv"))
         for pages in range(MOST_PAGES):
@@ -109,10 +107,9 @@ def refuses_all(bench, content, what):
     bench.same(f"the office with {what}", bench.contents().get("office"), content)
 
 
-def lack_files(bench):
+@pytest.mark.needs("mounts", "root")
+def check_lack_files(bench):
     """On file systems that accept no further file, or are mounted read-only, all is refused and stays as it is."""
-    if not can_mount():
-        return {"left out, since nothing can be mounted here: file systems without room": 1}
     content, story = story_named(bench, "import", beside(bench, "records.csv"))
     with mounted(bench, "nr_inodes=2"):
         path = lay(bench, content)
@@ -121,8 +118,6 @@ def lack_files(bench):
         bench.ends(["init", path], err=REFUSED, status=1, what="init with one further file")
     with mounted(bench, "nr_inodes=1"):
         bench.ends(["init", path], err=REFUSED, status=1, what="init with no further file")
-    if os.environ["OWN_MOUNTS"] != "root":
-        return {"file systems that accept no further file": 2, "left out, since nothing can be mounted here: file systems that are read-only": 1}
     with mounted(bench, f"size={SIZE}"):
         lay(bench, content)
         subprocess.run(["mount", "-o", "remount,ro", str(bench.folder)], check=True)
@@ -131,10 +126,3 @@ def lack_files(bench):
         subprocess.run(["mount", "-o", "remount,rw", str(bench.folder)], check=True)
         judge_office(bench, "the office on a read-only file system", story, path, [0])
     return {"file systems that accept no further file": 3}
-
-
-def jobs(is_long):
-    """Each story under each kind of limit."""
-    step = STEP if is_long else WIDE_STEP
-    found = [(limit_sizes, name, step, is_ignored) for name in STORIES for is_ignored in (True, False)]
-    return found + [(fill_disks, name) for name in STORIES] + [(lack_files,)]

@@ -4,7 +4,11 @@ import random
 from collections import Counter
 from dataclasses import dataclass, field
 
-from .running import beside
+import pytest
+
+from program.bench import beside
+from program.cases import cases
+
 from .shim import Stopper
 from .stories import judge_office, lay, story_named
 
@@ -96,7 +100,9 @@ class Machine:
         return bench.path("office")
 
 
-def stop_machine(bench, name, seed):
+@pytest.mark.parametrize("seed", cases(range(SEEDS), range(SEEDS, MORE_SEEDS)))
+@pytest.mark.parametrize("name", STORIES)
+def check_stop_machine(bench, name, seed):
     """Traces a story, and continues from what a crash of the machine after each of its events leaves."""
     content, story = story_named(bench, name, beside(bench, "records.csv"))
     stopper, trace = Stopper(bench), beside(bench, "trace")
@@ -117,8 +123,3 @@ def stop_machine(bench, name, seed):
         counts["crashes of the machine"] += 1
         counts["crashes of the machine, one more"] += place is not None and place > answered
     return counts
-
-
-def jobs(is_long):
-    """Each story, with some random choices of what is lost."""
-    return [(stop_machine, name, seed) for name in STORIES for seed in range(MORE_SEEDS if is_long else SEEDS)]

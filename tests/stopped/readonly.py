@@ -1,5 +1,5 @@
 """Files and folders that can't be written, or lose their permissions while a replay has them open, as a user who is not root
-sees them. These jobs work on the disk.
+sees them. These checks work on the disk.
 """
 
 import os
@@ -7,9 +7,11 @@ import shutil
 import subprocess
 from contextlib import contextmanager
 
-from program.bench import PROGRAM, SECONDS, Done
+import pytest
 
-from .running import beside
+from needs import skip
+from program.bench import PROGRAM, SECONDS, Done, beside
+
 from .stories import LINES, RECORDS, REFUSED, judge_office, lay, replay_story, small_office
 
 NOBODY = 65_534
@@ -19,8 +21,7 @@ ON_DISK = True
 
 
 class Stranger:
-    """Runs the program as a user for whom permissions count: nobody, if this process is root, and not only in a namespace
-    of its own."""
+    """Runs the program as a user for whom permissions count: nobody, if this process is root."""
 
     def __init__(self, bench):
         self.bench = bench
@@ -28,7 +29,7 @@ class Stranger:
         shutil.copy(PROGRAM, self.program)
         os.chmod(self.program, 0o755)
         self.more = {}
-        if os.geteuid() == 0 and os.environ.get("OWN_MOUNTS") != "user":
+        if os.geteuid() == 0:
             self.more = {"user": NOBODY, "group": NOBODY, "extra_groups": []}
             os.chmod(bench.folder.parent, 0o711)
 
@@ -86,7 +87,7 @@ def refused_to_all(bench, stranger, path, what):
         bench.same(f"what is left after {word} of {what}", bench.contents(), before)
 
 
-def lose_the_file(bench):
+def check_lose_the_file(bench):
     """A file that becomes read-only while a replay has it open is written to the end; then all are refused."""
     content, state = small_office(bench)
     story = replay_story(state, LINES)
@@ -102,7 +103,7 @@ def lose_the_file(bench):
     return {"read-only files": 1}
 
 
-def lose_the_folder(bench):
+def check_lose_the_folder(bench):
     """A folder that becomes read-only while a replay has a file of it open: all that was answered is kept."""
     content, state = small_office(bench)
     story = replay_story(state, LINES)
@@ -117,7 +118,7 @@ def lose_the_folder(bench):
     return {"read-only folders": 1}
 
 
-def lack_the_folder(bench):
+def check_lack_the_folder(bench):
     """In a read-only folder no office is opened or made, and nothing changes."""
     content, state = small_office(bench)
     stranger = Stranger(bench)
@@ -133,7 +134,7 @@ def lack_the_folder(bench):
     return {"read-only folders": 1}
 
 
-def lack_the_records(bench):
+def check_lack_the_records(bench):
     """A CSV file that may not be read stops an import before it begins, and doesn't count as an empty one."""
     content, state = small_office(bench)
     stranger = Stranger(bench)
@@ -184,10 +185,11 @@ def replay_until_stopped(bench, path, story, names):
     return Done(first + out, err, process.returncode), left
 
 
-def lose_open_files(bench, names, done_by_then):
+@pytest.mark.parametrize("names, done_by_then", [(["office"], True), (["office-wal"], False), (["office", "office-wal"], False)])
+def check_lose_open_files(bench, names, done_by_then):
     """Files that nobody can write any more while a replay has them open: it stops, or what is written is enough."""
     if not can_be_unchangeable(bench):
-        return {"open files that could not be made unchangeable": len(names)}
+        skip("unchangeable files")
     content, state = small_office(bench)
     story = replay_story(state, LINES)
     path = lay(bench, content)
@@ -200,9 +202,3 @@ def lose_open_files(bench, names, done_by_then):
         bench.same(f"{what}: the end of the replay", done, Done(story.answers[0], b"rbac: stop Store after 1\n", 1))
     judge_office(bench, what, story, path, story.allowed(done))
     return {"open files that were made unchangeable": len(names)}
-
-
-def jobs(_):
-    """Files and folders that lose their permissions, and files that lose more."""
-    found = [(lose_the_file,), (lose_the_folder,), (lack_the_folder,), (lack_the_records,), (lose_open_files, ["office"], True)]
-    return found + [(lose_open_files, names, False) for names in (["office-wal"], ["office", "office-wal"])]

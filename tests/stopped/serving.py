@@ -5,6 +5,8 @@ import json
 import subprocess
 from collections import Counter
 
+import pytest
+
 from program.bench import PROGRAM, SECONDS, Done
 from program.offices import STORE
 from program.web import connect, free_port, post, read_all, reply
@@ -69,7 +71,8 @@ def judge_replies(bench, what, wanted, replies, done):
     return good
 
 
-def stop_server(bench, like, how):
+@pytest.mark.parametrize("like, how", [(errno.EIO, "once"), (errno.ENOSPC, "ever"), ("exit", "once")])
+def check_stop_server(bench, like, how):
     """Serves requests with the first call stopped, then the second, and so on, until there are fewer calls."""
     counts = Counter()
     content, state = small_office(bench)
@@ -89,8 +92,3 @@ def stop_server(bench, like, how):
         counts[f"serve, status {done.status}"] += 1
     bench.same("an undisturbed server", (replies, done), (wanted, Done(b"", b"", 0)))
     return counts
-
-
-def jobs(_):
-    """Each way of stopping a call of a server."""
-    return [(stop_server, errno.EIO, "once"), (stop_server, errno.ENOSPC, "ever"), (stop_server, "exit", "once")]

@@ -3,9 +3,8 @@
 import os
 import subprocess
 
-from program.bench import PROGRAM, SECONDS, TESTS, Done
+from program.bench import PROGRAM, SECONDS, TESTS, Done, beside
 
-from .running import beside
 
 # The status by which stop.c ends a process.
 ENDED = 99

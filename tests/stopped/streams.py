@@ -4,6 +4,8 @@ import errno
 import signal
 import time
 
+import pytest
+
 from machine.state import State
 from program.bench import Done
 from program.offices import SMALL
@@ -48,7 +50,8 @@ class Failing(Shim):
         return int(self.ask())
 
 
-def interrupt_replay(bench, times):
+@pytest.mark.parametrize("times", INTERRUPTIONS)
+def check_interrupt_replay(bench, times):
     """A replay whose reads of standard input are interrupted answers all lines, over a file and in memory."""
     content, state = small_office(bench)
     path, failing = lay(bench, content), Failing(bench)
@@ -63,8 +66,10 @@ def interrupt_replay(bench, times):
     return {"replays with interrupted reads": 2}
 
 
-def interrupt_server(bench, calls, times):
+@pytest.mark.parametrize("calls", ["accept", "recv", "send", "accept,recv,send"])
+def check_interrupt_server(bench, calls):
     """A server whose calls on sockets are interrupted replies as usual."""
+    times = INTERRUPTIONS[-1]
     content, state = small_office(bench)
     story = replay_story(state, [LINES[number] for number in SENT])
     path, failing = lay(bench, content), Failing(bench)
@@ -86,7 +91,7 @@ def pause(process):
     time.sleep(PAUSE)
 
 
-def pause_server(bench):
+def check_pause_server(bench):
     """A server that is stopped and continued while it waits for a client, and for each part of a request, replies."""
     content, state = small_office(bench)
     story = replay_story(state, LINES[:1])
@@ -104,7 +109,8 @@ def pause_server(bench):
     return {"servers that were stopped and went on": 1}
 
 
-def fail_to_listen(bench, call):
+@pytest.mark.parametrize("call", LISTENING)
+def check_fail_to_listen(bench, call):
     """A server that can't listen reports it in one line, but only if a call has failed, and the office stays as it is."""
     content, state = small_office(bench)
     path, failing = lay(bench, content), Failing(bench)
@@ -120,7 +126,8 @@ def fail_to_listen(bench, call):
     return {"servers that could not listen": len(ports)}
 
 
-def fail_to_accept(bench, like):
+@pytest.mark.parametrize("like", NOT_ACCEPTED)
+def check_fail_to_accept(bench, like):
     """A server that can't accept a connection reports it in one line and ends: it isn't counted as served."""
     content, state = small_office(bench)
     story = replay_story(state, [LINES[number] for number in SENT])
@@ -137,7 +144,8 @@ def fail_to_accept(bench, like):
     return {"connections that could not be accepted": len(requests)}
 
 
-def lose_connection(bench, call, like):
+@pytest.mark.parametrize("call, like", [(call, like) for call, causes in LOST.items() for like in causes])
+def check_lose_connection(bench, call, like):
     """A connection whose request can't be read, or whose reply can't be sent, counts as served, and the next is accepted.
 
     The command of a request is done in either case, if the request was read.
@@ -154,11 +162,3 @@ def lose_connection(bench, call, like):
     story = asked if call == "send" else replay_story(state, [asked.lines[0], asked.lines[2]])
     judge_office(bench, what, story, path, [len(story.lines)])
     return {"connections that were lost": 1}
-
-
-def jobs(_):
-    """Each kind of call, with each of its errors."""
-    found = [(interrupt_replay, times) for times in INTERRUPTIONS] + [(pause_server,)]
-    found += [(interrupt_server, calls, INTERRUPTIONS[-1]) for calls in ("accept", "recv", "send", "accept,recv,send")]
-    found += [(fail_to_listen, call) for call in LISTENING] + [(fail_to_accept, like) for like in NOT_ACCEPTED]
-    return found + [(lose_connection, call, like) for call, causes in LOST.items() for like in causes]

@@ -5,6 +5,8 @@ import os
 import random
 from collections import Counter
 
+import pytest
+
 from machine.drawing import WEIGHTS, Draws
 from machine.replaying import Replay
 from machine.state import authorized_roles
@@ -15,7 +17,7 @@ from . import wanted
 from .running import records, report, run_script
 
 # The number of offices, and the number of jobs that share them.
-OFFICES, JOBS = 200, 8
+OFFICES, EACH = 200, 25
 
 # How many random lines make an office, those that do not change it included.
 LINES = (100, 300)
@@ -291,15 +293,16 @@ def try_office(bench, seed):
     return counts
 
 
-def try_offices(bench, first, count):
-    """Tries `count` random offices, from this seed on."""
+@pytest.mark.parametrize("first", range(0, OFFICES, EACH))
+def check_offices(bench, first):
+    """Random offices, from this seed on."""
     counts = Counter()
-    for seed in range(first, first + count):
+    for seed in range(first, first + EACH):
         counts.update(try_office(bench, seed))
     return counts
 
 
-def try_odd_names(bench):
+def check_odd_names(bench):
     """An office with names that mean something in CSV, JSON, SQL, Graphviz, a shell or a spreadsheet."""
     office, lines = Office(bench), odd_lines()
     bench.same("the answers to odd names", answers(bench, office.path, lines), [{"ok": True}] * len(lines))
@@ -315,7 +318,7 @@ def try_odd_names(bench):
     compare_difference(bench, "odd names", ("", Replay().state), (text, state))
 
 
-def try_version_1(bench):
+def check_version_1(bench):
     """An office of version 1 has its own limits, and is rebuilt in version 2 by its dump."""
     office = Office(bench)
     office.replay([line for line in accepted(Building(1), 200) if b"lockUser" not in line])
@@ -327,9 +330,3 @@ def try_version_1(bench):
     office.change(["CREATE TABLE locked_row (a TEXT NOT NULL, PRIMARY KEY (a)) STRICT"])
     office.change([f"INSERT INTO locked_row VALUES ('{sorted(state.users)[0]}')"])
     bench.same("the dump without these locks", "lockUserAccount" in dump_of(bench, path), False)
-
-
-def jobs():
-    """The offices, shared by some jobs, and those of a special sort."""
-    count = OFFICES // JOBS
-    return [(try_odd_names,), (try_version_1,), *((try_offices, job * count, count) for job in range(JOBS))]

@@ -85,7 +85,7 @@ def write_files(bench, office):
     bench.write("logged-wal", b"\0" * 100)
 
 
-def refuses_files(bench):
+def check_refuses_files(bench):
     """What is no database, no office or a damaged database, and an office with a log."""
     office = small_office(bench)
     write_files(bench, office)
@@ -94,7 +94,7 @@ def refuses_files(bench):
         refused_as_evidence(bench, name, bench.path(name))
 
 
-def refuses_damages(bench):
+def check_refuses_damages(bench):
     """An office with rows or tables that `rbac check` refuses."""
     office = small_office(bench)
     known = {name: (NO_GOOD_OFFICE, statements) for name, (_, statements) in {**damaged.DAMAGES, **damaged.LOCKS}.items()}
@@ -105,7 +105,7 @@ def refuses_damages(bench):
         refused_as_evidence(bench, "a damaged office", path)
 
 
-def refuses_in_use(bench):
+def check_refuses_in_use(bench):
     """The file of a running server, which has a log: the file alone lacks what was done last."""
     office = small_office(bench)
     with Server(bench, office.path, 2) as server:
@@ -116,7 +116,7 @@ def refuses_in_use(bench):
         server.ends()
 
 
-def reads_copy_with_log(bench):
+def check_reads_copy_with_log(bench):
     """A copy with its log is refused until `rbac check` has merged the log, and then has all that was answered."""
     office = small_office(bench)
     with Server(bench, office.path, 2) as server:
@@ -131,7 +131,7 @@ def reads_copy_with_log(bench):
     bench.same("the user is in the dump", b'{"fn":"addUser","user":"zed"}\n' in done.out, True)
 
 
-def refuses_folder(bench):
+def check_refuses_folder(bench):
     """In another folder a tool does not find tools/office.sql, prints that, and reports nothing."""
     office = small_office(bench)
     for name in REPORTS:
@@ -139,7 +139,7 @@ def refuses_folder(bench):
         refuses(bench, f"another folder, {name}", done, 'cannot open "tools/office.sql"')
 
 
-def reads_odd_tables(bench):
+def check_reads_odd_tables(bench):
     """Tables of other programs beside those of an office are ignored, whatever their names."""
     office = small_office(bench)
     before = {name: run_tool(name, office.path) for name in REPORTS}
@@ -148,7 +148,7 @@ def reads_odd_tables(bench):
         bench.same(f"{name} beside tables of others", run_tool(name, office.path), before[name])
 
 
-def reads_only(bench):
+def check_reads_only(bench):
     """A file and a folder that may not be written are read."""
     office = small_office(bench)
     before = {name: run_tool(name, office.path) for name in REPORTS}
@@ -183,7 +183,7 @@ def agrees(bench, what, statements, tables, after=()):
     return checked.status == 0
 
 
-def agrees_on_changes(bench):
+def check_agrees_on_changes(bench):
     """Of offices with random changes of their rows a tool refuses those that `rbac check` refuses, and no others."""
     own = statements_of(small_office(bench, "new").path)
     counts = Counter()
@@ -199,7 +199,7 @@ def agrees_on_changes(bench):
     return counts
 
 
-def agrees_on_faults(bench):
+def check_agrees_on_faults(bench):
     """A tool refuses the faults that an opening looks for, each alone."""
     state, counts = small_state(2), Counter()
     one_in = {TYPED: ONE_VALUE_IN, NAMED: ONE_VALUE_IN}
@@ -210,21 +210,3 @@ def agrees_on_faults(bench):
             is_good = agrees(bench, fault.name, statements, tables, after)
             counts[f"single faults: {'good' if is_good else 'refused'}"] += 1
     return counts
-
-
-def jobs():
-    """Each of these."""
-    return [
-        (check,)
-        for check in (
-            refuses_files,
-            refuses_damages,
-            refuses_in_use,
-            reads_copy_with_log,
-            refuses_folder,
-            reads_odd_tables,
-            reads_only,
-            agrees_on_changes,
-            agrees_on_faults,
-        )
-    ]

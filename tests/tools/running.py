@@ -3,7 +3,6 @@
 import csv
 import io
 import re
-import shutil
 import subprocess
 from urllib.parse import quote
 
@@ -15,16 +14,8 @@ TOOLS = ROOT / "tools"
 # The tools that sqlite3 runs over an office.
 REPORTS = ["permissions", "near", "sessions", "room", "dump", "picture"]
 
-# The external programs that the tools need.
-NEEDED = ["sqlite3", "dot"]
-
 # The arguments that make sqlite3 show sessions by their names, as the header of tools/dump.sql says.
 NAMED = ["-cmd", ".parameter set @with_sessions 1"]
-
-
-def is_there(program):
-    """Returns whether an external program can be found."""
-    return shutil.which(program) is not None
 
 
 def run(words, given=b"", folder=ROOT):

@@ -271,17 +271,15 @@ func readRefusal(status int, text []byte) *Error {
 		}
 	}
 	r.need("}")
-	if !r.isBad && len(r.rest) == 0 && isStatusOf(status, code) {
+	wanted, isKnown := refusalNames[code]
+	if !r.isBad && len(r.rest) == 0 && isStatusOf(status, code) && (name == wanted || !isKnown) {
 		return refusal(code, name, details)
 	}
-	reason, isKnown := reasonsOfStatuses[status]
-	if !isKnown {
+	reason, isListed := reasonsOfStatuses[status]
+	if !isListed {
 		reason = Unexpected
 	}
-	if len(text) > 200 {
-		text = text[:200]
-	}
-	return failed(reason, true, fmt.Errorf("no answer of rbac: status %d, %q", status, text))
+	return failed(reason, true, fmt.Errorf("no answer of rbac: status %d, %d bytes", status, len(text)))
 }
 
 // isStatusOf reports whether a refusal with a code has a status.

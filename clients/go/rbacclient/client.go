@@ -5,31 +5,23 @@
 package rbacclient
 
 import (
-	"bytes"
 	"context"
 	"crypto/tls"
 	"errors"
 	"fmt"
-	"io"
 	"log"
-	"net"
 	"net/http"
-	"net/http/httptrace"
-	"net/url"
 	"strings"
 	"sync"
 	"sync/atomic"
 	"time"
 )
 
-// longestHead is how many bytes the head of an answer may have.
-const longestHead = 16 << 10
-
 // Config is what a client is made from. Addresses is required.
 type Config struct {
 	// Addresses are one or more of http://HOST:PORT, https://HOST:PORT and unix:PATH. One answers for all.
 	Addresses []string
-	// Token shows who asks, and TokenFunc returns the present one. At most one of them is given.
+	// Token shows who asks, and TokenFunc returns the present one. At most one of them is given. The end of a line after it is ignored.
 	Token     string
 	TokenFunc func() string
 	// Timeout limits a call as a whole, with all of its attempts. The default is 10 seconds.
@@ -40,14 +32,25 @@ type Config struct {
 	Pause time.Duration
 	// NoRepeats says that a command whose answer was lost is never sent again, even if docs/INTEGRATING.md, section 3, allows it.
 	NoRepeats bool
-	// Log gets a line for each decision that the office hasn't made. The default is the standard logger.
+	// Log gets lines about decisions that the office hasn't made: one for each change of the reason, and otherwise one a second, which
+	// counts the others. The default is the standard logger.
 	Log *log.Logger
+}
+
+// String and GoString show a configuration without its token.
+func (c Config) String() string {
+	return fmt.Sprintf("a client of %q", c.Addresses)
+}
+
+// GoString is String.
+func (c Config) GoString() string {
+	return c.String()
 }
 
 // Client asks a server, or several servers of one office. Goroutines may share it.
 type Client struct {
 	addresses []*address
-	token     func() string
+	token     func() (string, error)
 	timeout   time.Duration
 	pause     time.Duration
 	noRepeats bool
@@ -57,14 +60,9 @@ type Client struct {
 	// createsUntil is until when sessions are made by createSession, in nanoseconds, since the server opens none.
 	createsUntil atomic.Int64
 
+	lines  LogLines
 	mu     sync.Mutex
 	counts map[Reason]uint64
-}
-
-// address is where a server listens. Questions go over connections that are kept, commands over new ones.
-type address struct {
-	base        string
-	kept, fresh *http.Transport
 }
 
 // New makes a client. It connects when it is first used.
@@ -72,12 +70,9 @@ func New(config Config) (*Client, error) {
 	if len(config.Addresses) == 0 {
 		return nil, errors.New("rbacclient: there is no address")
 	}
-	token := config.TokenFunc
-	if config.Token != "" {
-		if token != nil {
-			return nil, errors.New("rbacclient: there is a Token and a TokenFunc")
-		}
-		token = func() string { return config.Token }
+	token, err := tokenOf(config)
+	if err != nil {
+		return nil, err
 	}
 	c := &Client{
 		token:     token,
@@ -106,48 +101,59 @@ func New(config Config) (*Client, error) {
 	return c, nil
 }
 
-// readAddress reads an address.
-func readAddress(text string, config *tls.Config) (*address, error) {
-	if path := strings.TrimPrefix(text, "unix:"); path != text && path != "" {
-		return &address{"http://localhost", transport(config, path, true), transport(config, path, false)}, nil
+// errToken is why a token can't be sent. It doesn't show it.
+var errToken = errors.New("rbacclient: a token is a text of visible ASCII characters without spaces")
+
+// tokenOf returns what returns the present token, or nil if there is none.
+func tokenOf(config Config) (func() (string, error), error) {
+	if config.Token == "" && config.TokenFunc != nil {
+		return func() (string, error) { return judged(config.TokenFunc()) }, nil
 	}
-	parsed, err := url.Parse(text)
-	if err != nil || parsed.Scheme != "http" && parsed.Scheme != "https" || parsed.Hostname() == "" ||
-		parsed.User != nil || strings.Trim(parsed.Path, "/") != "" || parsed.RawQuery != "" || parsed.Fragment != "" {
-		return nil, fmt.Errorf("rbacclient: %q is not an address such as https://localhost:8080 or unix:/run/rbac/office.sock", text)
+	if config.Token == "" {
+		return nil, nil
 	}
-	base := parsed.Scheme + "://" + parsed.Host
-	return &address{base, transport(config, "", true), transport(config, "", false)}, nil
+	if config.TokenFunc != nil {
+		return nil, errors.New("rbacclient: there is a Token and a TokenFunc")
+	}
+	token, err := judged(config.Token)
+	if err != nil {
+		return nil, err
+	}
+	return func() (string, error) { return token, nil }, nil
 }
 
-// transport makes a transport without proxies, compression and HTTP/2.
-func transport(config *tls.Config, path string, keeps bool) *http.Transport {
-	dialer := &net.Dialer{}
-	made := &http.Transport{
-		DialContext:            dialer.DialContext,
-		DisableCompression:     true,
-		DisableKeepAlives:      !keeps,
-		MaxIdleConnsPerHost:    16,
-		IdleConnTimeout:        time.Minute,
-		MaxResponseHeaderBytes: longestHead,
-		TLSClientConfig:        &tls.Config{MinVersion: tls.VersionTLS12},
-		TLSNextProto:           map[string]func(string, *tls.Conn) http.RoundTripper{},
+// judged returns a token without the end of the line that it may have, if it can be sent.
+func judged(token string) (string, error) {
+	if strings.HasSuffix(token, "\n") {
+		token = strings.TrimSuffix(token[:len(token)-1], "\r")
 	}
-	if config != nil {
-		made.TLSClientConfig = config.Clone()
-	}
-	if path != "" {
-		made.DialContext = func(ctx context.Context, _, _ string) (net.Conn, error) {
-			return dialer.DialContext(ctx, "unix", path)
+	for i := 0; i < len(token); i++ {
+		if token[i] <= ' ' || token[i] > '~' {
+			return "", errToken
 		}
 	}
-	return made
+	if token == "" {
+		return "", errToken
+	}
+	return token, nil
+}
+
+// present returns the token that shows who asks, or nothing.
+func (c *Client) present() (string, *Error) {
+	if c.token == nil {
+		return "", nil
+	}
+	token, err := c.token()
+	if err != nil {
+		return "", failed(InvalidRequest, false, err)
+	}
+	return token, nil
 }
 
 // Close closes the connections that are kept. A further call opens a new one.
 func (c *Client) Close() {
 	for _, one := range c.addresses {
-		one.kept.CloseIdleConnections()
+		one.closeIdle()
 	}
 }
 
@@ -182,9 +188,7 @@ func (c *Client) keep(decision Decision, operation, object string) Decision {
 	c.mu.Lock()
 	c.counts[decision.Reason]++
 	c.mu.Unlock()
-	if !decision.IsDecided() {
-		c.log.Printf("no decision about %q on %q: %s: %s", operation, object, decision.Reason, decision.Detail)
-	}
+	c.lines.Report(c.log, decision, operation, object)
 	return decision
 }
 
@@ -255,10 +259,7 @@ func (c *Client) call(ctx context.Context, function string, again int, arguments
 	}
 	course := newCourse(ctx, c, function, again)
 	for {
-		status, answer, failure := c.attempt(course, function, text)
-		if failure == nil {
-			failure = read(status, answer)
-		}
+		failure := c.attempt(course, function, text, read)
 		if failure == nil {
 			course.answered()
 			return nil
@@ -272,56 +273,54 @@ func (c *Client) call(ctx context.Context, function string, again int, arguments
 	}
 }
 
-// attempt sends a request once. A question whose kept connection was closed meanwhile is asked once more.
-func (c *Client) attempt(course *course, function string, text []byte) (int, []byte, *Error) {
-	ctx, cancel := context.WithDeadline(course.ctx, course.limit())
+// attempt sends a request once. A question is sent over a kept connection if there is one, and once more if that was closed meanwhile.
+func (c *Client) attempt(course *course, function string, text []byte, read func(status int, text []byte) *Error) *Error {
+	token, err := c.present()
+	if err != nil {
+		return err
+	}
+	method, path := targetOf(function)
+	address, limit := course.address(), course.limit()
+	request := address.request(method, path, token, text, course.isQuestion)
+	if course.isQuestion {
+		if kept := address.kept(); kept != nil {
+			err := c.exchange(course.ctx, address, kept, limit, request, read)
+			if err == nil || err.Reason != Unanswered || course.ctx.Err() != nil || !time.Now().Before(limit) {
+				return err
+			}
+		}
+	}
+	ctx, cancel := context.WithDeadline(course.ctx, limit)
 	defer cancel()
-	address := course.address()
-	if !course.isQuestion {
-		status, answer, _, err := c.exchange(ctx, address.fresh, address.base, function, text)
-		return status, answer, err
+	made, err := address.dial(ctx)
+	if err != nil {
+		return err
 	}
-	status, answer, isReused, err := c.exchange(ctx, address.kept, address.base, function, text)
-	if err != nil && err.Reason == Unanswered && isReused && ctx.Err() == nil {
-		status, answer, _, err = c.exchange(ctx, address.fresh, address.base, function, text)
-	}
-	return status, answer, err
+	return c.exchange(course.ctx, address, made, limit, request, read)
 }
 
-// exchange sends a request, and reads its answer. It also returns whether the connection had been used before.
-func (c *Client) exchange(ctx context.Context, over *http.Transport, base, function string, text []byte) (int, []byte, bool, *Error) {
-	var isConnected, isReused bool
-	trace := &httptrace.ClientTrace{GotConn: func(got httptrace.GotConnInfo) { isConnected, isReused = true, got.Reused }}
-	method, path := targetOf(function)
-	request, err := http.NewRequestWithContext(httptrace.WithClientTrace(ctx, trace), method, base+path, bytes.NewReader(text))
+// exchange sends a request, and reads its answer. The connection is kept only after an answer of the server: what comes on it after
+// another one would be taken for the next answer.
+func (c *Client) exchange(ctx context.Context, address *address, conn *conn, limit time.Time, request []byte,
+	read func(status int, text []byte) *Error) *Error {
+	response, answer, keeps, err := conn.exchange(ctx, limit, request)
 	if err != nil {
-		return 0, nil, false, failed(InvalidRequest, false, err)
+		conn.Close()
+		return err
 	}
-	request.Header["Content-Type"] = []string{"application/json"}
-	if c.token != nil {
-		request.Header["Authorization"] = []string{"Bearer " + c.token()}
+	err = read(response.StatusCode, answer)
+	if keeps && (err == nil || err.Code != 0) {
+		address.keep(conn)
+	} else {
+		conn.Close()
 	}
-	// A transport follows no redirect.
-	response, err := over.RoundTrip(request)
 	if err != nil {
-		return 0, nil, isReused, lost(err, isConnected)
-	}
-	defer response.Body.Close()
-	if response.ContentLength < 0 || response.ContentLength > longestAnswer {
-		return 0, nil, isReused, failed(Unexpected, true, fmt.Errorf("the answer has a length of %d", response.ContentLength))
-	}
-	answer := make([]byte, response.ContentLength)
-	if _, err := io.ReadFull(response.Body, answer); err != nil {
-		return 0, nil, isReused, failed(Unanswered, true, err)
-	}
-	// The transport keeps the connection once it has seen the end.
-	if _, err := response.Body.Read(make([]byte, 1)); err != io.EOF {
-		return 0, nil, isReused, failed(Unexpected, true, errors.New("there is more than an answer"))
+		return err
 	}
 	if revision, isThere := numberOf(response.Header, "Policy-Revision"); isThere {
 		c.saw(revision)
 	}
-	return response.StatusCode, answer, isReused, nil
+	return nil
 }
 
 // targetOf returns the method and the path of a function, or of what only the front does.
@@ -332,9 +331,15 @@ func targetOf(function string) (method, path string) {
 	return http.MethodPost, "/v1/" + function
 }
 
-// PolicyRevision returns the newest revision of the policy that an answer has had: Policy-Revision of docs/REQUESTS.md, or 0.
+// PolicyRevision returns the newest revision of the policy that an answer has had: Policy-Revision of docs/REQUESTS.md, or 0. It begins
+// anew if a replica of this client finds that the office may have been restored.
 func (c *Client) PolicyRevision() uint64 {
 	return c.revision.Load()
+}
+
+// ForgetRevision lets PolicyRevision begin anew: the revisions that come next may be smaller if the office was restored.
+func (c *Client) ForgetRevision() {
+	c.revision.Store(0)
 }
 
 // saw notes the revision of the policy that an answer had.
@@ -345,36 +350,4 @@ func (c *Client) saw(revision uint64) {
 			return
 		}
 	}
-}
-
-// lost returns the error of a request without an answer. Without a connection nothing was sent.
-func lost(err error, isConnected bool) *Error {
-	if isConnected {
-		if isOfConnection(err) {
-			return failed(Unanswered, true, err)
-		}
-		return failed(Unexpected, true, err)
-	}
-	if text := err.Error(); strings.Contains(text, "x509:") || strings.Contains(text, "tls:") {
-		return failed(Untrusted, false, err)
-	}
-	return failed(Unreachable, false, err)
-}
-
-// ofConnection are in the texts of the errors of net/http that don't wrap the error of the connection.
-var ofConnection = []string{"EOF", "server closed idle connection", "tls: ", "reset by peer", "broken pipe", "closed network connection"}
-
-// isOfConnection reports whether an error is that of a connection that was lost, or of a time limit.
-func isOfConnection(err error) bool {
-	var operation *net.OpError
-	if errors.Is(err, io.EOF) || errors.Is(err, io.ErrUnexpectedEOF) || errors.As(err, &operation) ||
-		errors.Is(err, context.DeadlineExceeded) || errors.Is(err, context.Canceled) {
-		return true
-	}
-	for _, text := range ofConnection {
-		if strings.Contains(err.Error(), text) {
-			return true
-		}
-	}
-	return false
 }

@@ -2,6 +2,7 @@ package rbacclient
 
 import (
 	"context"
+	"fmt"
 	"strings"
 	"time"
 )
@@ -85,7 +86,7 @@ func (r *course) after(err *Error) *Error {
 	}
 	err.MayBeDone = !r.isQuestion && (err.MayBeDone || r.isLost)
 	if isRefused || !isOfOneAddress(err.Reason) || r.ctx.Err() != nil || !time.Now().Before(r.deadline) {
-		return err
+		return r.last(err)
 	}
 	r.at++
 	if r.isQuestion {
@@ -95,7 +96,7 @@ func (r *course) after(err *Error) *Error {
 		}
 		return nil
 	}
-	if err.Reason == Unreachable || err.Reason == Untrusted {
+	if isUnsent(err) {
 		if r.unreached > 0 {
 			r.unreached--
 			return nil
@@ -113,6 +114,19 @@ func (r *course) after(err *Error) *Error {
 	return r.pause(err)
 }
 
+// last is what the call returns at its end: a command that was sent is unanswered, though nobody could be reached after that.
+func (r *course) last(err *Error) *Error {
+	if r.isLost && isUnsent(err) {
+		return failed(Unanswered, true, fmt.Errorf("the answer was lost, and then: %w", err))
+	}
+	return err
+}
+
+// isUnsent reports whether nothing was sent before an error.
+func isUnsent(err *Error) bool {
+	return err.Reason == Unreachable || err.Reason == Untrusted
+}
+
 // pause waits, each time longer, and returns the error if the call ends meanwhile.
 func (r *course) pause(err *Error) *Error {
 	timer := time.NewTimer(r.client.pause << r.sent)
@@ -122,7 +136,7 @@ func (r *course) pause(err *Error) *Error {
 	case <-timer.C:
 		return nil
 	case <-r.ctx.Done():
-		return err
+		return r.last(err)
 	}
 }
 

@@ -43,7 +43,8 @@ func (d Decision) IsDecided() bool {
 	return d.Reason == Allowed || d.Reason == Denied
 }
 
-// Error says why a call has no result. A command was not done unless MayBeDone.
+// Error says why a call has no result. A command was not done unless MayBeDone: after a lost answer that is unknown, and stays so if no
+// server can be reached afterwards. Its text has no name of a session, no token, and nothing of an answer but numbers.
 type Error struct {
 	Reason    Reason
 	MayBeDone bool
@@ -57,9 +58,16 @@ func (e *Error) Error() string {
 	if e.Code == 0 {
 		return fmt.Sprintf("rbacclient: %s: %v", e.Reason, e.Err)
 	}
-	text := fmt.Sprintf("rbacclient: refused: %d %s", e.Code, e.Name)
+	// What a server sends is no text of a log: the name is that of docs/API.md, and the name of a set is only in Details.
+	name, isKnown := refusalNames[e.Code]
+	if !isKnown {
+		name = "(a later refusal)"
+	}
+	text := fmt.Sprintf("rbacclient: refused: %d %s", e.Code, name)
 	for key, value := range e.Details {
-		text += fmt.Sprintf(" %s %v", key, value)
+		if number, isNumber := value.(int); isNumber {
+			text += fmt.Sprintf(" %s %d", key, number)
+		}
 	}
 	return text
 }

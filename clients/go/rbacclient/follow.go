@@ -8,7 +8,6 @@ import (
 	"fmt"
 	"io"
 	"net/http"
-	"net/http/httptrace"
 	"strconv"
 	"time"
 )
@@ -44,7 +43,6 @@ func (c *Client) Snapshot(ctx context.Context, place int) (*Snapshot, error) {
 	if err != nil {
 		return nil, err
 	}
-	defer response.Body.Close()
 	body, err := readBody(response, longestSnapshot)
 	if err != nil {
 		return nil, err
@@ -52,11 +50,12 @@ func (c *Client) Snapshot(ctx context.Context, place int) (*Snapshot, error) {
 	if response.StatusCode != http.StatusOK {
 		return nil, readRefusal(response.StatusCode, body)
 	}
-	number, isThere := numberOf(response.Header, "Office-Number")
-	if !isThere || len(body) > 0 && body[len(body)-1] != '\n' {
-		return nil, failed(Unexpected, false, errors.New("the answer to /snapshot is no snapshot"))
+	number, hasNumber := numberOf(response.Header, "Office-Number")
+	revision, hasRevision := numberOf(response.Header, "Policy-Revision")
+	if !hasNumber || !hasRevision || len(body) > 0 && body[len(body)-1] != '\n' {
+		return nil, failed(Unexpected, false, errors.New("no snapshot: it has no number, no revision, or half of a line"))
 	}
-	revision, _ := numberOf(response.Header, "Policy-Revision")
+	c.saw(revision)
 	lines := bytes.Split(body, []byte{'\n'})
 	return &Snapshot{Number: number, Revision: revision, Asked: asked, Lines: lines[:len(lines)-1]}, nil
 }
@@ -74,7 +73,6 @@ type Watch struct {
 	Asked time.Time // when it was asked for
 
 	cancel  context.CancelFunc
-	body    io.Closer
 	lines   *bufio.Scanner
 	timer   *time.Timer
 	silence time.Duration
@@ -92,7 +90,6 @@ func (c *Client) Watch(ctx context.Context, place int, after uint64, silence tim
 	}
 	if response.StatusCode != http.StatusOK {
 		defer w.Close()
-		defer response.Body.Close()
 		if response.StatusCode == http.StatusGone {
 			return nil, refusal(Outdated, "Outdated", nil)
 		}
@@ -102,7 +99,6 @@ func (c *Client) Watch(ctx context.Context, place int, after uint64, silence tim
 		}
 		return nil, readRefusal(response.StatusCode, body)
 	}
-	w.body = response.Body
 	if response.Header.Get("Content-Type") != "text/event-stream" || response.ContentLength >= 0 || len(response.TransferEncoding) > 0 {
 		w.Close()
 		return nil, failed(Unexpected, false, errors.New("the answer to /watch is no watch"))
@@ -116,77 +112,109 @@ func (c *Client) Watch(ctx context.Context, place int, after uint64, silence tim
 func (w *Watch) Close() {
 	w.timer.Stop()
 	w.cancel()
-	if w.body != nil {
-		_ = w.body.Close()
-	}
 }
 
 // Next returns the next event. The line is valid until the next call.
 func (w *Watch) Next() (Event, error) {
 	w.timer.Reset(w.silence)
-	var event Event
-	var isNewest bool
-	var number []byte
+	fields := map[string][]byte{}
 	for w.lines.Scan() {
 		line := w.lines.Bytes()
 		if len(line) == 0 {
-			return w.event(event, number, isNewest)
+			return w.event(fields)
 		}
-		name, value, _ := bytes.Cut(line, []byte(": "))
-		switch string(name) {
-		case "event":
-			isNewest = string(value) == "newest"
-		case "id":
-			number = append(number, value...)
-		case "data":
-			event.Line = append([]byte{}, value...) // An empty one is a command too: one that no office accepts.
-		case "elapsed":
-			milliseconds, err := strconv.ParseUint(string(value), 10, 62)
-			if err != nil {
-				return Event{}, failed(Unexpected, false, err)
-			}
-			event.Moment = w.Asked.Add(time.Duration(milliseconds) * time.Millisecond)
+		name, value, isField := bytes.Cut(line, []byte(": "))
+		if _, isThere := fields[string(name)]; !isField || isThere || !isWord(name) {
+			return Event{}, noEvent("a line is no field, or a field is there twice")
 		}
+		fields[string(name)] = append([]byte{}, value...)
 	}
 	err := w.lines.Err()
 	if errors.Is(err, bufio.ErrTooLong) {
 		return Event{}, failed(Unexpected, false, err)
 	}
-	return Event{}, failed(Unanswered, false, fmt.Errorf("the watch has ended: %v", err))
+	if err == nil {
+		err = io.EOF
+	}
+	return Event{}, failed(Unanswered, false, fmt.Errorf("the watch has ended: %w", shownError{err}))
 }
 
-// event returns an event whose fields were read.
-func (w *Watch) event(event Event, number []byte, isNewest bool) (Event, error) {
-	if isNewest {
-		number, event.Line = event.Line, nil
-		if event.Moment.IsZero() {
-			event.Moment = w.Asked
+// event returns the event that has these fields. Those with other names are ignored.
+func (w *Watch) event(fields map[string][]byte) (Event, error) {
+	data, isThere := fields["data"]
+	kind, isOther := fields["event"]
+	switch {
+	case !isThere:
+		return Event{}, noEvent("it has no command and no number")
+	case !isOther:
+		number, isNumber := parseNumber(string(fields["id"]))
+		if !isNumber {
+			return Event{}, noEvent("its number is none")
 		}
+		return Event{Number: number, Line: data}, nil
+	case string(kind) != "newest":
+		return Event{}, noEvent("its type is unknown")
 	}
-	var err error
-	if event.Number, err = strconv.ParseUint(string(number), 10, 63); err != nil {
-		return Event{}, failed(Unexpected, false, err)
+	event := Event{Moment: w.Asked}
+	var isNumber bool
+	if event.Number, isNumber = parseNumber(string(data)); !isNumber {
+		return Event{}, noEvent("its number is none")
 	}
-	if !isNewest && event.Line == nil {
-		return Event{}, failed(Unexpected, false, errors.New("an event without a command"))
+	if elapsed, isTold := fields["elapsed"]; isTold {
+		milliseconds, isNumber := parseNumber(string(elapsed))
+		if !isNumber {
+			return Event{}, noEvent("its time is none")
+		}
+		if milliseconds > longestElapsed {
+			milliseconds = longestElapsed
+		}
+		event.Moment = w.Asked.Add(time.Duration(milliseconds) * time.Millisecond)
 	}
 	return event, nil
 }
 
-// get sends a request without a body over a new connection.
+// longestElapsed is a year in milliseconds: what a front says that is longer than that is longer than any watch.
+const longestElapsed = 365 * 24 * 3_600_000
+
+// noEvent is the error of what isn't one event as the front writes it.
+func noEvent(why string) *Error {
+	return failed(Unexpected, false, errors.New("no event: "+why))
+}
+
+// isWord reports whether a name has letters alone.
+func isWord(name []byte) bool {
+	for _, one := range name {
+		if one|0x20 < 'a' || one|0x20 > 'z' {
+			return false
+		}
+	}
+	return len(name) > 0
+}
+
+// get sends a request without a body over a new connection, and returns the head of the answer. The connection is closed when the
+// context ends, which the caller has to do.
 func (c *Client) get(ctx context.Context, address *address, path string) (*http.Response, error) {
-	var isConnected bool
-	trace := &httptrace.ClientTrace{GotConn: func(httptrace.GotConnInfo) { isConnected = true }}
-	request, err := http.NewRequestWithContext(httptrace.WithClientTrace(ctx, trace), http.MethodGet, address.base+path, nil)
-	if err != nil {
-		return nil, failed(InvalidRequest, false, err)
+	token, failure := c.present()
+	if failure != nil {
+		return nil, failure
 	}
-	if c.token != nil {
-		request.Header["Authorization"] = []string{"Bearer " + c.token()}
+	conn, failure := address.dial(ctx)
+	if failure != nil {
+		return nil, failure
 	}
-	response, err := address.fresh.RoundTrip(request)
+	go func() {
+		<-ctx.Done()
+		conn.Close()
+	}()
+	if _, err := conn.Write(address.request(http.MethodGet, path, token, nil, false)); err != nil {
+		return nil, conn.lost(ctx, err)
+	}
+	response, err := conn.readHead()
 	if err != nil {
-		return nil, lost(err, isConnected)
+		return nil, conn.lost(ctx, err)
+	}
+	if !isHead(response.Header) {
+		return nil, failed(Unexpected, true, errors.New("no answer of rbac: a wrong head"))
 	}
 	return response, nil
 }
@@ -203,8 +231,17 @@ func readBody(response *http.Response, longest int64) ([]byte, error) {
 	return body, nil
 }
 
-// numberOf returns the number in a field of a head, and whether there is one.
+// numberOf returns the number in a field of a head, and whether there is exactly one.
 func numberOf(head http.Header, name string) (uint64, bool) {
-	number, err := strconv.ParseUint(head.Get(name), 10, 63)
-	return number, err == nil
+	values := head.Values(name)
+	if len(values) != 1 {
+		return 0, false
+	}
+	return parseNumber(values[0])
+}
+
+// parseNumber returns the number that a text of digits is.
+func parseNumber(text string) (uint64, bool) {
+	number, err := strconv.ParseUint(text, 10, 63)
+	return number, err == nil && len(text) <= 18
 }

@@ -5,6 +5,7 @@ import (
 	"crypto/rand"
 	"encoding/hex"
 	"errors"
+	"fmt"
 	"sync"
 	"time"
 )
@@ -70,6 +71,16 @@ func (c *Client) OpenSession(ctx context.Context, config SessionConfig) (*Sessio
 		return nil, err
 	}
 	return s, nil
+}
+
+// String and GoString show a session without its name.
+func (s *Session) String() string {
+	return fmt.Sprintf("a session of %q", s.config.User)
+}
+
+// GoString is String.
+func (s *Session) GoString() string {
+	return s.String()
 }
 
 // Name is the present name of the session. Whoever knows it can ask.

@@ -4,106 +4,185 @@ import (
 	"bufio"
 	"bytes"
 	"context"
-	"encoding/base64"
-	"encoding/json"
+	"errors"
+	"fmt"
 	"io"
 	"log"
 	"net"
 	"net/http"
 	"os"
+	"regexp"
 	"strings"
-	"sync"
 	"testing"
+	"time"
 )
 
-// server sends one answer after each request, or resets the connection.
-type server struct {
-	net.Listener
-	mu       sync.Mutex
-	answer   []byte
-	reset    bool
-	requests int
-}
+// harmless is one line of printable ASCII that isn't long.
+var harmless = regexp.MustCompile(`^[ -~]{0,400}\n?$`)
 
-// set says what the next answer is. It returns how many requests there were since the last call.
-func (s *server) set(answer []byte, reset bool) int {
-	s.mu.Lock()
-	defer s.mu.Unlock()
-	count := s.requests
-	s.answer, s.reset, s.requests = answer, reset, 0
-	return count
-}
-
-func serve(t *testing.T) *server {
-	t.Helper()
-	listener, err := net.Listen("tcp", "127.0.0.1:0")
-	if err != nil {
-		t.Fatal(err)
+// TestWrongAnswers sends what no client may take for a permission: clients/conformance/wrong_answers.json. Nothing that a client says
+// about it has the token or the name of the session.
+func TestWrongAnswers(t *testing.T) {
+	var data struct {
+		Token, Session string
+		Cases          []struct {
+			Name, Reason string
+			Answer       []interface{}
+			Reset        bool
+		}
 	}
-	s := &server{Listener: listener}
-	t.Cleanup(func() { listener.Close() })
-	go func() {
-		for {
+	shared(t, "wrong_answers.json", &data)
+	s := serve(t)
+	_, port, _ := net.SplitHostPort(s.Addr().String())
+	for _, test := range data.Cases {
+		t.Run(test.Name, func(t *testing.T) {
+			var said bytes.Buffer
+			office, err := New(Config{Addresses: []string{s.address()}, Token: data.Token, Log: log.New(&said, "", 0)})
+			if err != nil {
+				t.Fatal(err)
+			}
+			s.set(bytesOf(test.Answer, port), test.Reset)
+			decision := office.Check(context.Background(), data.Session, "open", "safe")
+			if decision.Allowed() || string(decision.Reason) != test.Reason {
+				t.Errorf("got %t, %s; want %s", decision.Allowed(), decision.Reason, test.Reason)
+			}
+			if requests, _ := s.set(bytesOf(test.Answer, port), test.Reset); len(requests) != 1 {
+				t.Errorf("%d requests", len(requests))
+			}
+			_, failure := office.SessionRoles(context.Background(), data.Session)
+			if failure == nil {
+				t.Fatal("the answer is taken for one")
+			}
+			texts := []string{said.String(), decision.Detail, failure.Error()}
+			for _, text := range append(texts, fmt.Sprintf("%+v %#v", decision, decision), fmt.Sprintf("%+v", failure)) {
+				if !harmless.MatchString(text) || strings.Contains(text, data.Token) || strings.Contains(text, data.Session) {
+					t.Errorf("it says %q", text)
+				}
+			}
+			for err := failure; err != nil; {
+				if strings.Contains(err.Error(), data.Token) || strings.Contains(err.Error(), data.Session) {
+					t.Errorf("what it wraps says %q", err)
+				}
+				wrapping, isWrapping := err.(interface{ Unwrap() error })
+				if !isWrapping {
+					break
+				}
+				err = wrapping.Unwrap()
+			}
+		})
+	}
+	var said bytes.Buffer
+	office, _ := New(Config{Addresses: []string{s.address()}, Token: data.Token, Log: log.New(&said, "", 0)})
+	s.set(right, false)
+	if decision := office.Check(context.Background(), data.Session, "open", "safe"); !decision.Allowed() || said.Len() > 0 {
+		t.Errorf("the right answer is %s: %s", decision.Reason, said.String())
+	}
+}
+
+// TestConnections keeps a connection after an answer of the server, and closes it after another one: clients/conformance/connections.json.
+func TestConnections(t *testing.T) {
+	var cases []struct {
+		Name, Answer, Reason string
+		Keeps                bool
+	}
+	shared(t, "connections.json", &cases)
+	s := serve(t)
+	s.mu.Lock()
+	s.keep = true
+	s.mu.Unlock()
+	for _, test := range cases {
+		office, err := New(Config{Addresses: []string{s.address()}, Log: log.New(io.Discard, "", 0)})
+		if err != nil {
+			t.Fatal(err)
+		}
+		s.set(test.Answer, false)
+		decision := office.Check(context.Background(), "s1", "open", "safe")
+		_, first := s.set(right, false)
+		isAllowed := office.May(context.Background(), "s1", "open", "safe")
+		_, second := s.set(right, false)
+		if string(decision.Reason) != test.Reason || first+second != map[bool]int{true: 1, false: 2}[test.Keeps] || !isAllowed {
+			t.Errorf("%s: %s, %d connections, %t", test.Name, decision.Reason, first+second, isAllowed)
+		}
+		office.Close()
+	}
+}
+
+// TestUnasked closes a connection on which something comes that nobody has asked for, and says nothing about it.
+func TestUnasked(t *testing.T) {
+	var said bytes.Buffer
+	log.SetOutput(&said)
+	defer log.SetOutput(os.Stderr)
+	for _, late := range []string{right, "HTTP/1.1 400 Bad Request\r\n\r\nBearer secret", ""} {
+		late := late
+		listener, err := net.Listen("tcp", "127.0.0.1:0")
+		if err != nil {
+			t.Fatal(err)
+		}
+		asked := make(chan struct{})
+		go func() {
 			conn, err := listener.Accept()
 			if err != nil {
 				return
 			}
-			if request, err := http.ReadRequest(bufio.NewReader(conn)); err == nil {
-				io.Copy(io.Discard, request.Body)
-				s.mu.Lock()
-				s.requests++
-				answer, reset := s.answer, s.reset
-				s.mu.Unlock()
-				if reset {
-					conn.(*net.TCPConn).SetLinger(0)
-				} else {
-					conn.Write(answer)
-				}
+			defer conn.Close()
+			_, _ = http.ReadRequest(bufio.NewReader(conn))
+			_, _ = io.WriteString(conn, right)
+			<-asked
+			_, _ = io.WriteString(conn, late)
+			if late != "" {
+				_, _ = conn.Read(make([]byte, 1)) // Until the client closes it.
 			}
-			conn.Close()
+		}()
+		office, err := New(Config{Addresses: []string{"http://" + listener.Addr().String()}})
+		if err != nil {
+			t.Fatal(err)
 		}
-	}()
-	return s
+		if !office.May(context.Background(), "s1", "open", "safe") {
+			t.Error("the right answer denies")
+		}
+		close(asked)
+		address := office.addresses[0]
+		for isKept := true; isKept; time.Sleep(time.Millisecond) {
+			address.mu.Lock()
+			isKept = len(address.idle) > 0
+			address.mu.Unlock()
+		}
+		listener.Close()
+	}
+	if said.Len() > 0 {
+		t.Errorf("the standard logger has %q", said.String())
+	}
 }
 
-// TestWrongAnswers sends what no client may take for a permission: clients/conformance/wrong_answers.json.
-func TestWrongAnswers(t *testing.T) {
-	text, err := os.ReadFile("../../conformance/wrong_answers.json")
-	if err != nil {
-		t.Fatal(err)
-	}
-	var cases []struct {
-		Name, Reason string
-		Answer       [][2]interface{}
-		Reset        bool
-	}
-	if err := json.Unmarshal(text, &cases); err != nil {
-		t.Fatal(err)
-	}
+// TestContext ends a call when its context does, and the connection isn't used again.
+func TestContext(t *testing.T) {
 	s := serve(t)
-	_, port, _ := net.SplitHostPort(s.Addr().String())
-	office, err := New(Config{Addresses: []string{"http://" + s.Addr().String()}, Log: log.New(io.Discard, "", 0)})
+	s.mu.Lock()
+	s.keep = true
+	s.mu.Unlock()
+	s.set("HTTP/1.1 200 OK\r\n", false)
+	office, err := New(Config{Addresses: []string{s.address()}, Log: log.New(io.Discard, "", 0)})
 	if err != nil {
 		t.Fatal(err)
 	}
-	for _, test := range cases {
-		t.Run(test.Name, func(t *testing.T) {
-			var answer []byte
-			for _, piece := range test.Answer {
-				text, err := base64.StdEncoding.DecodeString(piece[0].(string))
-				if err != nil {
-					t.Fatal(err)
-				}
-				answer = append(answer, bytes.Repeat([]byte(strings.ReplaceAll(string(text), "{port}", port)), int(piece[1].(float64)))...)
-			}
-			s.set(answer, test.Reset)
-			decision := office.Check(context.Background(), "s1", "open", "safe")
-			if decision.Allowed() || string(decision.Reason) != test.Reason {
-				t.Errorf("got %t, %s; want %s", decision.Allowed(), decision.Reason, test.Reason)
-			}
-			if count := s.set(nil, false); count != 1 {
-				t.Errorf("%d requests", count)
-			}
-		})
+	ctx, cancel := context.WithCancel(context.Background())
+	go func() {
+		for isAsked := false; !isAsked; time.Sleep(time.Millisecond) {
+			s.mu.Lock()
+			isAsked = len(s.requests) > 0
+			s.mu.Unlock()
+		}
+		cancel()
+	}()
+	_, err = office.CheckAccess(ctx, "s1", "open", "safe")
+	if asError(err).Reason != Unanswered || !errors.Is(err, context.Canceled) {
+		t.Errorf("a context that ends: %v", err)
+	}
+	if err := office.AddUser(ctx, "ann"); asError(err).Reason != Unreachable {
+		t.Errorf("a context that has ended: %v", err)
+	}
+	s.set(right, false)
+	if !office.May(context.Background(), "s1", "open", "safe") {
+		t.Error("the next question is denied")
 	}
 }

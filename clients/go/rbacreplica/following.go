@@ -83,15 +83,15 @@ func (r *Replica) troubled(err error) int {
 	}
 	r.mu.Lock()
 	defer r.mu.Unlock()
-	if r.trouble == nil || r.trouble.Error() != own.Error() {
-		r.config.Log.Printf("the replica is cut off: %v", own)
+	if end, isDue := r.cutOff.Due(time.Now(), own.Reason); isDue {
+		r.isTold = true
+		r.config.Log.Printf("the replica is cut off: %v%s", own, end)
 	}
-	if isNoRight(own.Reason) || errors.Is(err, errDiverged) {
+	if isNoRight(own.Reason) || own.Code == rbacclient.Outdated || errors.Is(err, errDiverged) {
+		// The office may have been restored: nobody decides by what was before, and revisions of before count for nothing.
+		r.config.Client.ForgetRevision()
 		r.forget()
 		r.hasChanged()
-	}
-	if own.Code == rbacclient.Outdated {
-		r.place = -1
 	}
 	r.trouble = own
 	r.failures++
@@ -195,7 +195,8 @@ func (r *Replica) newest(event rbacclient.Event) error {
 
 // isFresh notes that the copy had all that was accepted at a moment. The caller holds the lock.
 func (r *Replica) isFresh(at time.Time) {
-	if r.trouble != nil {
+	if r.isTold {
+		r.isTold = false
 		r.config.Log.Printf("the replica follows the front")
 	}
 	if r.fresh.isNever() || at.After(r.fresh.at) {

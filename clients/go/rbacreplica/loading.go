@@ -3,6 +3,7 @@ package rbacreplica
 import (
 	"bytes"
 	"encoding/json"
+	"strconv"
 	"sync"
 
 	"rbac/clients/go/rbacclient"
@@ -62,25 +63,102 @@ func (l *snapshotLine) rows() ([]rbacoffice.Row, bool) {
 	return nil, false
 }
 
+// read reads a line that may be written in any way.
+func (l *snapshotLine) read(text []byte) error {
+	return json.Unmarshal(text, l)
+}
+
+// lineKeys are the keys of the lines of a snapshot, in the order in which the front writes them.
+var lineKeys = map[string][]string{
+	"addUser":         {"user"},
+	"addRole":         {"role"},
+	"addInheritance":  {"asc", "desc"},
+	"addPermObj":      {"object"},
+	"addPermission":   {"object", "operation"},
+	"grantPermission": {"object", "operation", "role"},
+	"assignUser":      {"user", "role"},
+	"createSsdSet":    {"set", "roles", "cardinality"},
+	"createDsdSet":    {"set", "roles", "cardinality"},
+	"lockUserAccount": {"user"},
+	"createSession":   {"user", "roles", "session"},
+}
+
+// written returns the line as the front writes it. One that is written in another way may mean something else.
+func (l *snapshotLine) written() []byte {
+	text := append(append([]byte(`{"fn":"`), l.Fn...), '"')
+	for _, key := range lineKeys[l.Fn] {
+		text = append(append(append(text, `,"`...), key...), `":`...)
+		switch key {
+		case "cardinality":
+			text = strconv.AppendUint(text, uint64(l.Cardinality), 10)
+		case "roles":
+			text = append(text, '[')
+			for i, role := range l.Roles {
+				if i > 0 {
+					text = append(text, ',')
+				}
+				text = appendQuoted(text, role)
+			}
+			text = append(text, ']')
+		default:
+			text = appendQuoted(text, l.name(key))
+		}
+	}
+	return append(text, '}')
+}
+
+// name returns the value of a key whose value is a name.
+func (l *snapshotLine) name(key string) string {
+	switch key {
+	case "user":
+		return l.User
+	case "role":
+		return l.Role
+	case "asc":
+		return l.Asc
+	case "desc":
+		return l.Desc
+	case "object":
+		return l.Object
+	case "operation":
+		return l.Operation
+	case "set":
+		return l.Set
+	}
+	return l.Session
+}
+
+// appendQuoted appends a name as the front writes it: with a backslash before quotes and backslashes.
+func appendQuoted(text []byte, name string) []byte {
+	text = append(text, '"')
+	for i := 0; i < len(name); i++ {
+		if name[i] == '"' || name[i] == '\\' {
+			text = append(text, '\\')
+		}
+		text = append(text, name[i])
+	}
+	return append(text, '"')
+}
+
 // officeOf returns the office that the lines of a snapshot make: by its rows, since a large office is loaded faster by them.
 func officeOf(lines [][]byte) (*rbacoffice.Office, error) {
 	var rows []rbacoffice.Row
 	done := 0
 	for _, text := range lines {
 		var line snapshotLine
-		if err := json.Unmarshal(text, &line); err != nil {
-			return nil, diverged("the line %q of the snapshot: %v", cut(text), err)
+		if err := line.read(text); err != nil {
+			return nil, diverged("line %d of the snapshot is none", done+1)
 		}
 		more, isKnown := line.rows()
-		if !isKnown {
-			break
+		if !isKnown || !bytes.Equal(line.written(), text) {
+			break // The office judges it.
 		}
 		rows = append(rows, more...)
 		done++
 	}
 	office, err := rbacoffice.Load(append(rows, closure(rows)...), 0)
 	if err != nil {
-		return nil, diverged("the snapshot is none of an office: %v", err)
+		return nil, diverged("the snapshot is none of an office")
 	}
 	for _, text := range lines[done:] {
 		if err := do(office, text); err != nil {
@@ -129,17 +207,11 @@ func do(office *rbacoffice.Office, line []byte) error {
 	}
 	after, err := office.Revision()
 	if err != nil || after != before+1 || !bytes.HasPrefix(answer, []byte(`{"ok":true`)) {
-		return diverged("it doesn't accept %q: %q", cut(line), cut(answer))
+		var refusal struct{ Code int }
+		_ = json.Unmarshal(answer, &refusal) // Without a code it was no command.
+		return diverged("it doesn't accept a command: code %d", refusal.Code)
 	}
 	return nil
-}
-
-// cut returns the beginning of a text, as much as an error shows.
-func cut(text []byte) []byte {
-	if len(text) > 200 {
-		return text[:200]
-	}
-	return text
 }
 
 // mostDigests is how many digests of sessions are kept.

@@ -36,7 +36,8 @@ type Config struct {
 	Limit     time.Duration
 	// Silence is after how long without a word of the front the copy counts as cut off. The default is 5 seconds.
 	Silence time.Duration
-	// Log gets a line for each decision that the office hasn't made, and if the replica is cut off. The default is the standard logger.
+	// Log gets lines about decisions that the office hasn't made, and if the replica is cut off: one for each change of the reason, and
+	// otherwise one a second, which counts the others. The default is the standard logger.
 	Log *log.Logger
 }
 
@@ -71,15 +72,18 @@ type Replica struct {
 	stop   context.CancelFunc
 	ended  chan struct{}
 	names  digests
+	lines  rbacclient.LogLines
 
 	mu       sync.Mutex
 	office   *rbacoffice.Office // nil if there is no copy
 	number   uint64
 	revision uint64
-	place    int // the address that the copy is from; -1 if it is to be made anew
+	place    int // the address that the copy is from
 	fresh    moment
 	young    map[string]time.Time // when sessions came that may not have all of their roles yet
 	trouble  *rbacclient.Error
+	cutOff   rbacclient.LogLines
+	isTold   bool // whether the log has a line that it is cut off, and none after it
 	failures int
 	changed  chan struct{} // closed at the next change, if somebody waits for it
 	counts   map[rbacclient.Reason]uint64
@@ -229,9 +233,7 @@ func (r *Replica) decide(revision uint64, name, operation, object string) (Decis
 
 // report writes a line about a decision that the office hasn't made. It has no name of a session.
 func (r *Replica) report(decision Decision, operation, object string) {
-	if !decision.IsDecided() {
-		r.config.Log.Printf("no decision about %q on %q: %s: %s", operation, object, decision.Reason, decision.Detail)
-	}
+	r.lines.Report(r.config.Log, decision.Decision, operation, object)
 }
 
 // decisionOf returns the decision of the library.

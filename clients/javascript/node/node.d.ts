@@ -4,7 +4,7 @@ declare class Buffer extends Uint8Array {
   static byteLength(text: string): number;
   static concat(list: readonly Uint8Array[]): Buffer;
   equals(other: Uint8Array): boolean;
-  toString(encoding?: string): string;
+  toString(encoding?: string, start?: number, end?: number): string;
 }
 
 declare const performance: { now(): number };
@@ -41,7 +41,8 @@ declare module "node:http" {
     connecting: boolean;
     once(event: "connect" | "secureConnect", call: () => void): void;
     on(event: "data", call: () => void): void;
-    off(event: "data", call: () => void): void;
+    prependListener(event: "data", call: (piece: Buffer) => void): void;
+    off(event: "data", call: (piece: Buffer) => void): void;
     destroy(): void;
   }
   export class Agent {

@@ -1,7 +1,7 @@
 // The bodies of requests and of answers. An answer is read only if it is exactly one that `rbac` sends.
 
 import { OfficeError, REASONS_OF_STATUSES, RefusedError } from "./decision.js";
-import { AGAIN, STATUSES, VALUES } from "./functions.js";
+import { AGAIN, NAMES, STATUSES, VALUES } from "./functions.js";
 
 const ALLOWED = '{"ok":true,"value":true}';
 const DENIED = '{"ok":true,"value":false}';
@@ -74,13 +74,14 @@ export function readAnswer(name, status, bytes) {
   const { code, error, ...details } = answer;
   const isRefusal = Object.keys(answer).slice(0, 2).join() === "code,error" && isCount(code) && typeof error === "string";
   const [key, ...more] = Object.keys(details);
-  if (isRefusal && (key === undefined || DETAILS.includes(key)) && more.length === 0) {
+  if (isRefusal && (NAMES[code] ?? error) === error && (key === undefined || DETAILS.includes(key)) && more.length === 0) {
     if ((STATUSES[code] ?? [409]).includes(status)) {
       throw new RefusedError(code, error, /** @type {Record<string, string | number>} */ (details));
     }
   }
-  const shown = `no answer of rbac to ${name}: ${status} ${JSON.stringify(text.slice(0, 200))}`;
-  throw new OfficeError(REASONS_OF_STATUSES[status] ?? "unexpected", shown, true);
+  const what = name.startsWith(ENDS) ? ENDS : name;
+  const message = `no answer of rbac to ${what}: status ${status}, ${bytes.length} bytes`;
+  throw new OfficeError(REASONS_OF_STATUSES[status] ?? "unexpected", message, true);
 }
 
 /**

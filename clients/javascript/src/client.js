@@ -1,9 +1,10 @@
 // The client: the functions as methods, decisions, and sessions.
 
-import { ENDS, bodyOf, readAnswer } from "./answers.js";
+import { ENDS, bodyOf } from "./answers.js";
 import { Course } from "./course.js";
-import { Decision, undecided } from "./decision.js";
+import { Decision, OfficeError, undecided } from "./decision.js";
 import { Functions } from "./functions.js";
+import { LogLines, shown } from "./log.js";
 import { Session } from "./session.js";
 import { Address } from "./transport.js";
 
@@ -12,7 +13,8 @@ import { Address } from "./transport.js";
  *
  * @typedef {object} Options
  * @property {string | readonly string[]} addresses one or more of `http://HOST:PORT`, `https://HOST:PORT` and `unix:PATH`
- * @property {string | (() => string)} [token] shows who asks; a text, or a function that returns the present one
+ * @property {string | (() => string)} [token] shows who asks; a text, or a function that returns the present one. The end of a line
+ *   after it is ignored
  * @property {number} [timeout] how many milliseconds a call may take as a whole, with all of its attempts; 10,000 if absent
  * @property {string | Uint8Array} [ca] the certificates of the authorities that are trusted instead of those of Node
  * @property {string | Uint8Array} [certificate] the client's own certificate
@@ -20,19 +22,21 @@ import { Address } from "./transport.js";
  * @property {number} [pause] how many milliseconds pass before a command is sent again, each time twice as many; 100 if absent
  * @property {boolean} [repeats] whether a command whose answer was lost is sent again, if docs/INTEGRATING.md, section 3, says that it
  *   may be; true if absent
- * @property {(line: string) => void} [log] gets a line for each decision that the office hasn't made
+ * @property {(line: string) => void} [log] gets lines about decisions that the office hasn't made: one for each change of the reason, and
+ *   otherwise one a second, which counts the others
  */
 
 /** A server, or several servers of one office. */
 export class Client extends Functions {
   /** @type {{ addresses: Address[], timeout: number, pause: number, repeats: boolean, first: number }} */
   #settings;
-  /** @type {() => string | undefined} */
+  /** @type {() => string | undefined | null} */
   #token;
   /** @type {(line: string) => void} */
   #log;
   /** @type {Map<import("./decision.js").Reason, number>} */
   #counts = new Map();
+  #lines = new LogLines();
   /**
    * Until then sessions are made by createSession, since the server opens none.
    *
@@ -50,7 +54,11 @@ export class Client extends Functions {
       throw new TypeError("there is no address");
     }
     this.#settings = { addresses, timeout, pause, repeats, first: 0 };
-    this.#token = typeof token === "function" ? token : () => token;
+    const own = typeof token === "function" || token === undefined ? undefined : judged(token);
+    if (own === null) {
+      throw new TypeError(WRONG_TOKEN);
+    }
+    this.#token = typeof token === "function" ? () => judged(token()) : () => own;
     this.#log = options.log ?? ((line) => console.warn(line));
   }
 
@@ -114,7 +122,7 @@ export class Client extends Functions {
    */
   async endSession(digest) {
     if (!/^[0-9a-f]{32}$/.test(digest)) {
-      throw new TypeError(`${JSON.stringify(digest)} is not the digest of a session`);
+      throw new TypeError("this is not the digest of a session"); // It may be the name of one.
     }
     await this.call(`${ENDS}${digest}`, {});
   }
@@ -145,9 +153,9 @@ export class Client extends Functions {
    */
   keep(decision, operation, object) {
     this.#counts.set(decision.reason, (this.#counts.get(decision.reason) ?? 0) + 1);
-    if (!decision.isDecided) {
-      const about = `${JSON.stringify(operation)} on ${JSON.stringify(object)}`;
-      this.#log(`no decision about ${about}: ${decision.reason}: ${decision.detail}`);
+    const end = decision.isDecided ? undefined : this.#lines.due(decision.reason);
+    if (end !== undefined) {
+      this.#log(`no decision about ${shown(operation)} on ${shown(object)}: ${decision.reason}: ${decision.detail}${end}`);
     }
     return decision;
   }
@@ -166,8 +174,7 @@ export class Client extends Functions {
     const course = new Course(this.#settings, name, again);
     for (;;) {
       try {
-        const { status, body: bytes } = await this.#attempt(course, name, body);
-        const value = readAnswer(name, status, bytes);
+        const value = await this.#attempt(course, name, body);
         course.answered();
         return value;
       } catch (error) {
@@ -189,6 +196,9 @@ export class Client extends Functions {
    */
   #attempt(course, name, body) {
     const token = this.#token();
+    if (token === null) {
+      throw new OfficeError("invalid_request", WRONG_TOKEN, false);
+    }
     /** @type {Record<string, string>} */
     const headers = { "Content-Type": "application/json", "Content-Length": String(Buffer.byteLength(body)) };
     if (token !== undefined) {
@@ -198,4 +208,15 @@ export class Client extends Functions {
     const limit = course.limit();
     return course.isQuestion ? address.ask(name, body, headers, limit) : address.command(name, body, headers, limit);
   }
+}
+
+const WRONG_TOKEN = "a token is a text of visible ASCII characters without spaces";
+
+/**
+ * A token without the end of the line that it may have, or null if it can't be sent.
+ *
+ * @param {unknown} token
+ */
+function judged(token) {
+  return typeof token === "string" ? (/^([!-~]+)(?:\r?\n)?$/.exec(token)?.[1] ?? null) : null;
 }

@@ -63,7 +63,7 @@ export class Course {
     }
     error.mayBeDone = !this.isQuestion && (error.mayBeDone || this.isLost);
     if (isRefused || !OF_ONE_ADDRESS.includes(error.reason) || now() >= this.deadline) {
-      throw error;
+      throw this.last(error);
     }
     this.at += 1;
     if (this.isQuestion) {
@@ -76,9 +76,18 @@ export class Course {
     return this.afterCommand(error);
   }
 
+  /**
+   * What the call throws at its end: a command that was sent is unanswered, though nobody could be reached after that.
+   *
+   * @param {OfficeError} error
+   */
+  last(error) {
+    return this.isLost && isUnsent(error) ? new OfficeError("unanswered", `the answer was lost, and then: ${error.message}`, true) : error;
+  }
+
   /** @param {OfficeError} error */
   afterCommand(error) {
-    if (error.reason === "unreachable" || error.reason === "untrusted") {
+    if (isUnsent(error)) {
       if (this.unreached > 0) {
         this.unreached -= 1;
         return 0;
@@ -100,6 +109,15 @@ export class Course {
     this.sent += 1;
     return Math.min(this.settings.pause * 2 ** (this.sent - 1), Math.max(this.deadline - now(), 0));
   }
+}
+
+/**
+ * Whether nothing was sent before an error.
+ *
+ * @param {OfficeError} error
+ */
+function isUnsent(error) {
+  return error.reason === "unreachable" || error.reason === "untrusted";
 }
 
 /** The milliseconds of a clock that nobody sets. */

@@ -1,5 +1,8 @@
 // Decisions with their reasons, and the errors of calls without a result.
 
+import { NAMES } from "./functions.js";
+import { inOneLine } from "./log.js";
+
 /**
  * Why a decision allows or denies, or why a call has no result. docs/INTEGRATING.md, section 1, has what to do.
  *
@@ -32,7 +35,10 @@ export class Decision {
   }
 }
 
-/** A call has no result. A command wasn't done unless `mayBeDone`. */
+/**
+ * A call has no result. A command wasn't done unless `mayBeDone`: after a lost answer that is unknown, also if no server can be reached
+ * afterwards. The message has no name of a session, no token, and nothing of an answer but numbers.
+ */
 export class OfficeError extends Error {
   /**
    * @param {Reason} reason
@@ -55,12 +61,17 @@ export class RefusedError extends OfficeError {
    * @param {Record<string, string | number>} details
    */
   constructor(code, refusal, details) {
-    const more = Object.entries(details).map(([key, value]) => ` ${key} ${JSON.stringify(value)}`);
-    super(REASONS[code] ?? "refused", `${code} ${refusal}${more.join("")}`, [41, 60, 61].includes(code));
+    // What a server sends is no text of a log: the name is that of docs/API.md, and the name of a set is only in `details`.
+    const more = Object.entries(details).map(([key, value]) => (typeof value === "number" ? ` ${key} ${value}` : ""));
+    super(REASONS[code] ?? "refused", `${code} ${NAMES[code] ?? "(a later refusal)"}${more.join("")}`, [41, 60, 61].includes(code));
     this.name = "RefusedError";
     this.code = code;
-    this.refusal = refusal;
-    this.details = details;
+    /** @type {string} */
+    this.refusal = NAMES[code] ?? "";
+    /** @type {Record<string, string | number>} */
+    this.details = {};
+    Object.defineProperty(this, "refusal", { value: refusal, enumerable: false });
+    Object.defineProperty(this, "details", { value: details, enumerable: false });
   }
 }
 
@@ -110,7 +121,8 @@ export const REASONS_OF_STATUSES = {
  */
 export function undecided(error) {
   if (!(error instanceof OfficeError)) {
-    return new Decision("invalid_request", String(error));
+    // What other errors say isn't shown: it may have a name or a token.
+    return new Decision("invalid_request", error instanceof Error ? inOneLine(error.name) : typeof error);
   }
   // No other refusal is an answer to this question.
   const reason = error.reason === "refused" ? "unexpected" : error.reason;

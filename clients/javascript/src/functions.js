@@ -84,6 +84,66 @@ export const STATUSES = {
 };
 
 /**
+ * The names of the refusals, by their codes.
+ *
+ * @type {Readonly<Record<number, string>>}
+ */
+export const NAMES = {
+  1: "BadName",
+  2: "NoUser",
+  3: "UserExists",
+  4: "NoRole",
+  5: "RoleExists",
+  6: "NoObject",
+  7: "ObjectExists",
+  8: "NoPermission",
+  9: "PermissionExists",
+  10: "AlreadyAssigned",
+  11: "NotAssigned",
+  12: "AlreadyGranted",
+  13: "NotGranted",
+  14: "EdgeExists",
+  15: "NoEdge",
+  16: "Cycle",
+  17: "RoleInUse",
+  18: "ObjectInUse",
+  19: "SetExists",
+  20: "NoSet",
+  21: "MemberExists",
+  22: "NoMember",
+  23: "BadCardinality",
+  24: "StaticSeparation",
+  25: "DynamicSeparation",
+  26: "NoSession",
+  27: "SessionExists",
+  28: "NotOwner",
+  29: "NotAuthorized",
+  30: "AlreadyActive",
+  31: "NotActive",
+  32: "TooMany",
+  33: "NoOperation",
+  34: "BadRequest",
+  35: "UnknownFunction",
+  36: "BadCsv",
+  37: "UserLocked",
+  40: "Memory",
+  41: "Store",
+  42: "Closed",
+  50: "NotAnOffice",
+  51: "Version",
+  52: "Damaged",
+  60: "Unavailable",
+  61: "Diverged",
+  62: "Unauthorized",
+  63: "Forbidden",
+  64: "TooManyRequests",
+  65: "ForeignOrigin",
+  66: "ForeignHost",
+  67: "Outdated",
+  68: "Upgrading",
+};
+
+/**
  * The commands that may be repeated if their answer was lost. The code, if it isn't 0, then says that it was done.
  *
  * @type {Readonly<Record<string, number>>}

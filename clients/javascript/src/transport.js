@@ -3,16 +3,23 @@
 import * as http from "node:http";
 import * as https from "node:https";
 
-import { LONGEST_ANSWER } from "./answers.js";
+import { LONGEST_ANSWER, readAnswer } from "./answers.js";
 import { now } from "./course.js";
-import { OfficeError } from "./decision.js";
+import { OfficeError, RefusedError } from "./decision.js";
+import { inOneLine } from "./log.js";
 
 const LONGEST_HEAD = 16_384;
 
+// How an answer begins, in so many bytes, and the name of a field: some versions of Node read more than these.
+const START = /^HTTP\/1\.[01] \d{3} $/;
+const START_LENGTH = 13;
+const FIELD = /^[!#$%&'*+.^_`|~0-9A-Za-z-]+$/;
+
+// Statuses of answers without a body, whatever length they state.
+const WITHOUT_BODY = [204, 304];
+
 // The codes of errors of TLS begin with these.
 const OF_TLS = /^(ERR_TLS|ERR_SSL|CERT|DEPTH_ZERO|SELF_SIGNED|UNABLE_TO|EPROTO|HOSTNAME|INVALID_CA|INVALID_PURPOSE|PATH_LENGTH)/;
-
-/** @typedef {{ status: number, body: Uint8Array }} Reply */
 
 /** Where a server listens. Questions go over connections that are kept, and commands over new ones. */
 export class Address {
@@ -86,17 +93,20 @@ function closesAtData(socket) {
 /** @type {WeakMap<http.Socket, () => void>} */
 const ON_DATA = new WeakMap();
 
+// The text isn't shown: it may have a password.
+const NO_ADDRESS = "this is no address such as https://localhost:8080 or unix:/run/rbac/office.sock";
+
 /** @param {string} text */
 function urlOf(text) {
   let url;
   try {
     url = new URL(text);
   } catch {
-    throw new TypeError(`${JSON.stringify(text)} is not an address`);
+    throw new TypeError(NO_ADDRESS);
   }
   const isPlain = !url.username && !url.password && url.pathname === "/" && !url.search && !url.hash && url.hostname;
   if (!["http:", "https:"].includes(url.protocol) || !isPlain) {
-    throw new TypeError(`${JSON.stringify(text)} is not an address such as https://localhost:8080 or unix:/run/rbac/office.sock`);
+    throw new TypeError(NO_ADDRESS);
   }
   return url;
 }
@@ -112,6 +122,9 @@ class Exchange {
     this.isConnected = false;
     this.isReused = false;
     this.isOver = false;
+    this.start = "";
+    /** @type {http.Socket | undefined} */
+    this.socket = undefined;
   }
 
   /**
@@ -119,7 +132,7 @@ class Exchange {
    * @param {string} body
    * @param {Record<string, string>} headers
    * @param {number} limit
-   * @returns {Promise<Reply>}
+   * @returns {Promise<unknown>}
    */
   run(name, body, headers, limit) {
     return new Promise((resolve, reject) => {
@@ -137,7 +150,7 @@ class Exchange {
         clearTimeout(timer);
         reject(this.lost("the connection was closed before the answer ended"));
       });
-      request.on("response", (response) => this.receive(request, response, resolve, reject));
+      request.on("response", (response) => this.receive(name, request, response, resolve, reject));
       request.end(body);
     });
   }
@@ -147,6 +160,14 @@ class Exchange {
    * @param {http.ClientRequest} request
    */
   connected(socket, request) {
+    this.socket = socket;
+    const judge = (/** @type {Buffer} */ piece) => {
+      this.start += piece.toString("latin1", 0, START_LENGTH - this.start.length);
+      if (this.start.length === START_LENGTH) {
+        socket.off("data", judge);
+      }
+    };
+    socket.prependListener("data", judge);
     this.isReused = request.reusedSocket;
     const close = ON_DATA.get(socket);
     if (close) {
@@ -162,19 +183,21 @@ class Exchange {
   }
 
   /**
-   * Reads an answer. It has to state the length of its body in exactly one way.
+   * Reads an answer. It has to state the length of its body in exactly one way. The connection is kept only after an answer of the server.
    *
+   * @param {string} name
    * @param {http.ClientRequest} request
    * @param {http.IncomingMessage} response
-   * @param {(reply: Reply) => void} resolve
-   * @param {(error: Error) => void} reject
+   * @param {(value: unknown) => void} resolve
+   * @param {(error: unknown) => void} reject
    */
-  receive(request, response, resolve, reject) {
+  receive(name, request, response, resolve, reject) {
     const names = response.rawHeaders.map((text, place) => (place % 2 === 0 ? text.toLowerCase() : ""));
     const lengths = names.flatMap((name, place) => (name === "content-length" ? [response.rawHeaders[place + 1] ?? ""] : []));
     const length = lengths.length === 1 && /^\d{1,9}$/.test(lengths[0] ?? "") ? Number(lengths[0]) : LONGEST_ANSWER + 1;
-    if (length > LONGEST_ANSWER || names.includes("transfer-encoding")) {
-      reject(new OfficeError("unexpected", `the answer has a length of ${lengths}`, true));
+    const isHead = START.test(this.start) && names.every((name, place) => place % 2 === 1 || FIELD.test(name));
+    if (!isHead || length > LONGEST_ANSWER || names.includes("transfer-encoding") || WITHOUT_BODY.includes(response.statusCode ?? 0)) {
+      reject(new OfficeError("unexpected", "the answer has a wrong head, or doesn't state its length in one way, or is too long", true));
       request.destroy();
       return;
     }
@@ -184,10 +207,17 @@ class Exchange {
     response.on("error", (error) => reject(this.failure(error)));
     response.on("end", () => {
       const body = pieces.length === 1 ? /** @type {Buffer} */ (pieces[0]) : Buffer.concat(pieces);
-      if (response.complete && body.length === length) {
-        resolve({ status: response.statusCode ?? 0, body });
-      } else {
+      if (!response.complete || body.length !== length) {
         reject(this.lost("the connection was closed before the answer ended"));
+        return;
+      }
+      try {
+        resolve(readAnswer(name, response.statusCode ?? 0, body));
+      } catch (error) {
+        if (!(error instanceof RefusedError)) {
+          this.socket?.destroy();
+        }
+        reject(error);
       }
     });
   }
@@ -199,10 +229,11 @@ class Exchange {
    */
   failure(error) {
     const code = error.code ?? "";
+    const message = inOneLine(error.message);
     if (this.isConnected) {
-      return code.startsWith("HPE_") ? new OfficeError("unexpected", error.message, true) : this.lost(error.message);
+      return code.startsWith("HPE_") ? new OfficeError("unexpected", `no answer of rbac: ${code}`, true) : this.lost(message);
     }
-    return OF_TLS.test(code) ? new OfficeError("untrusted", error.message, false) : this.lost(error.message);
+    return OF_TLS.test(code) ? new OfficeError("untrusted", message, false) : this.lost(message);
   }
 
   /**

@@ -3,7 +3,8 @@
  *
  * @typedef {object} Options
  * @property {string | readonly string[]} addresses one or more of `http://HOST:PORT`, `https://HOST:PORT` and `unix:PATH`
- * @property {string | (() => string)} [token] shows who asks; a text, or a function that returns the present one
+ * @property {string | (() => string)} [token] shows who asks; a text, or a function that returns the present one. The end of a line
+ *   after it is ignored
  * @property {number} [timeout] how many milliseconds a call may take as a whole, with all of its attempts; 10,000 if absent
  * @property {string | Uint8Array} [ca] the certificates of the authorities that are trusted instead of those of Node
  * @property {string | Uint8Array} [certificate] the client's own certificate
@@ -11,7 +12,8 @@
  * @property {number} [pause] how many milliseconds pass before a command is sent again, each time twice as many; 100 if absent
  * @property {boolean} [repeats] whether a command whose answer was lost is sent again, if docs/INTEGRATING.md, section 3, says that it
  *   may be; true if absent
- * @property {(line: string) => void} [log] gets a line for each decision that the office hasn't made
+ * @property {(line: string) => void} [log] gets lines about decisions that the office hasn't made: one for each change of the reason, and
+ *   otherwise one a second, which counts the others
  */
 /** A server, or several servers of one office. */
 export class Client extends Functions {
@@ -104,7 +106,8 @@ export type Options = {
      */
     addresses: string | readonly string[];
     /**
-     * shows who asks; a text, or a function that returns the present one
+     * shows who asks; a text, or a function that returns the present one. The end of a line
+     * after it is ignored
      */
     token?: string | (() => string) | undefined;
     /**
@@ -133,7 +136,8 @@ export type Options = {
      */
     repeats?: boolean | undefined;
     /**
-     * gets a line for each decision that the office hasn't made
+     * gets lines about decisions that the office hasn't made: one for each change of the reason, and
+     * otherwise one a second, which counts the others
      */
     log?: ((line: string) => void) | undefined;
 };

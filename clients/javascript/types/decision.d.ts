@@ -26,7 +26,10 @@ export class Decision {
     /** Whether the office has decided. If not, the reason is to be reported. */
     get isDecided(): boolean;
 }
-/** A call has no result. A command wasn't done unless `mayBeDone`. */
+/**
+ * A call has no result. A command wasn't done unless `mayBeDone`: after a lost answer that is unknown, also if no server can be reached
+ * afterwards. The message has no name of a session, no token, and nothing of an answer but numbers.
+ */
 export class OfficeError extends Error {
     /**
      * @param {Reason} reason
@@ -46,7 +49,9 @@ export class RefusedError extends OfficeError {
      */
     constructor(code: number, refusal: string, details: Record<string, string | number>);
     code: number;
+    /** @type {string} */
     refusal: string;
+    /** @type {Record<string, string | number>} */
     details: Record<string, string | number>;
 }
 /**

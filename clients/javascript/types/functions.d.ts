@@ -11,6 +11,12 @@ export const VALUES: Readonly<Record<string, string>>;
  */
 export const STATUSES: Readonly<Record<number, number[]>>;
 /**
+ * The names of the refusals, by their codes.
+ *
+ * @type {Readonly<Record<number, string>>}
+ */
+export const NAMES: Readonly<Record<number, string>>;
+/**
  * The commands that may be repeated if their answer was lost. The code, if it isn't 0, then says that it was done.
  *
  * @type {Readonly<Record<string, number>>}

@@ -12,6 +12,8 @@ from ._lines import Lines
 from ._sessions import AsyncSession, Session, session_name
 from ._values import ImportReport, LeftOut, Permission, RefusedRecord, session_digest
 
+__version__ = "1.0.0"
+
 __all__ = [
     "AsyncClient",
     "AsyncSession",

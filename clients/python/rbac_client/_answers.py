@@ -3,9 +3,9 @@
 import json
 from typing import Any, Callable, Dict, List, Mapping, NoReturn, Optional, Set, Tuple
 
-from ._decision import REASONS_OF_STATUSES, Reason, Refused, Unexpected
+from ._decision import REASONS_OF_STATUSES, Reason, Refused, Unexpected, Unsendable
 from ._functions import AGAIN as OF_FUNCTIONS
-from ._functions import STATUSES, VALUES
+from ._functions import NAMES, STATUSES, VALUES
 from ._values import ImportReport, LeftOut, OpenedSession, Permission, RefusedRecord
 
 ALLOWED = b'{"ok":true,"value":true}'
@@ -23,7 +23,11 @@ _DETAILS: List[Set[str]] = [set(), {"set"}, {"kind"}, {"record"}, {"version"}, {
 
 def written(value: Any, is_sorted: bool = False) -> bytes:
     """A value as `rbac` writes it, if its keys are sorted. Raises `ValueError` for what can't be sent."""
-    return json.dumps(value, ensure_ascii=False, allow_nan=False, separators=(",", ":"), sort_keys=is_sorted).encode()
+    try:
+        return json.dumps(value, ensure_ascii=False, allow_nan=False, separators=(",", ":"), sort_keys=is_sorted).encode()
+    except (TypeError, ValueError):
+        # Their errors would show the names of the request.
+        raise Unsendable("a value is neither a text nor a number, or has half of a character") from None
 
 
 def target_of(function: str, arguments: Mapping[str, Any]) -> str:
@@ -39,10 +43,7 @@ def body_of(function: str, arguments: Mapping[str, Any]) -> Optional[bytes]:
         return str(arguments["csv"]).encode()
     if function == ENDS:
         return None
-    try:
-        return written(arguments)
-    except TypeError as error:
-        raise ValueError(str(error)) from error
+    return written(arguments)
 
 
 def read_answer(function: str, status: Optional[int], text: bytes) -> Any:
@@ -61,11 +62,12 @@ def raise_refusal(function: str, status: Optional[int], text: bytes, others: Tup
     """Raises `Refused` for a refusal, whose status may also be one of some others, and otherwise `Unexpected`."""
     answer = _read_exactly(text)
     code, name = answer.pop("code", None), answer.pop("error", None)
-    is_refusal = type(code) is int and isinstance(name, str) and set(answer) in _DETAILS
+    is_refusal = type(code) is int and isinstance(name, str) and set(answer) in _DETAILS and NAMES.get(code, name) == name
     if is_refusal and (status is None or status in (*STATUSES.get(code, (409,)), *others)):
         raise Refused(code, name, answer)
     reason = REASONS_OF_STATUSES.get(status or 0, Reason.UNEXPECTED)
-    raise Unexpected(f"no answer of rbac to {function}: {status or ''} {text[:200]!r}", reason)
+    status_text = "" if status is None else f"status {status}, "
+    raise Unexpected(f"no answer of rbac to {function}: {status_text}{len(text)} bytes", reason)
 
 
 def _read_exactly(text: bytes) -> Dict[str, Any]:

@@ -9,7 +9,7 @@ from typing import Any, Dict, List, Optional, Sequence, Tuple, Union
 
 from ._answers import ENDS, body_of, read_answer, target_of
 from ._course import Course, Settings, remaining
-from ._decision import Decision, Error, Reason, Unanswered, Unexpected, Unreachable
+from ._decision import Decision, Error, Reason, Refused, Unanswered, Unexpected, Unreachable
 from ._functions import AsyncFunctions
 from ._http import Address, Reply, Token, request
 from ._office import Decisions, decided, undecided
@@ -60,7 +60,7 @@ class AsyncOffice(AsyncFunctions):
     async def end_session(self, digest: str) -> None:
         """Ends the session that has this digest, as lists and records of the front show it."""
         if not re.fullmatch("[0-9a-f]{32}", digest):
-            raise ValueError(f"{digest!r} is not the digest of a session")
+            raise ValueError("this is not the digest of a session")  # It may be the name of one.
         await self._call(ENDS, {"digest": digest})
 
     async def _call(self, function: str, arguments: Dict[str, Any], again: Optional[int] = None) -> Any:
@@ -109,8 +109,7 @@ class AsyncClient(AsyncOffice):
         course = Course(self._settings, function, again)
         while True:
             try:
-                reply = await self._attempt(course, target, body)
-                value = read_answer(function, reply.status, reply.body)
+                value = await self._attempt(course, function, target, body)
             except Error as error:
                 pause = course.after(error)
                 if pause is None:
@@ -118,50 +117,60 @@ class AsyncClient(AsyncOffice):
                 await asyncio.sleep(pause)
             else:
                 course.answered()
-                self._settings.saw(reply.revision)
                 return value
 
-    async def _attempt(self, course: Course, target: str, body: Optional[bytes]) -> Reply:
+    async def _attempt(self, course: Course, function: str, target: str, body: Optional[bytes]) -> Any:
         """Sends a request once. A question is sent over a kept connection if there is one, and a command over a new one."""
         address, limit = course.address, course.limit()
         text = request(address, target, body, self._settings.token, course.is_question)
         kept = self._kept(address) if course.is_question else None
         if kept is not None:
             try:
-                return await self._exchange(address, kept, text, limit)
+                return await self._exchange(address, kept, function, text, limit)
             except Unanswered:
                 remaining(limit)  # The server may have closed it: this question is asked once more.
-        return await self._exchange(address, await self._connected(address, limit), text, limit)
+        return await self._exchange(address, await self._connected(address, limit), function, text, limit)
 
-    async def _exchange(self, address: Address, connection: "_Connection", text: bytes, limit: float) -> Reply:
+    async def _exchange(self, address: Address, connection: "_Connection", function: str, text: bytes, limit: float) -> Any:
+        """Sends a request, and reads its answer. The connection is kept only after an answer of the server."""
+        reply, is_of_server = Reply(), False
         try:
-            reply = await asyncio.wait_for(connection.exchange(text), remaining(limit))
-        except asyncio.TimeoutError as error:
-            connection.close()
-            raise Unanswered("no complete answer came in time") from error
-        except BaseException:
-            connection.close()
+            seconds = remaining(limit)
+            reply = await asyncio.wait_for(connection.exchange(text), seconds)
+            value = read_answer(function, reply.status, reply.body)
+            is_of_server = True
+        except Refused:
+            is_of_server = True
             raise
-        if reply.keeps and connection.is_open and len(self._idle) < _MOST_IDLE:
-            self._idle.append((address, connection))
-        else:
-            connection.close()
-        return reply
+        except asyncio.TimeoutError as error:
+            raise Unanswered("no complete answer came in time") from error
+        finally:
+            if is_of_server and reply.keeps and connection.is_open and len(self._idle) < _MOST_IDLE:
+                self._idle.append((address, connection))
+            else:
+                connection.close()
+        self._settings.saw(reply.revision)
+        return value
 
     async def _connected(self, address: Address, limit: float) -> "_Connection":
         loop = asyncio.get_running_loop()
+
+        def made() -> _Connection:
+            return _Connection(loop)
+
         try:
+            seconds = remaining(limit)
             if address.path:
-                made = loop.create_unix_connection(lambda: _Connection(loop), address.path)
-                _, connection = await asyncio.wait_for(made, remaining(limit))
+                _, connection = await asyncio.wait_for(loop.create_unix_connection(made, address.path), seconds)
                 return connection
             context = self._settings.context if address.is_tls else None
-            opened = loop.create_connection(lambda: _Connection(loop), address.host, address.port, ssl=context)
-            _, connection = await asyncio.wait_for(opened, remaining(limit))
+            # If one of the host's addresses is silent, the next one is tried beside it.
+            opened = loop.create_connection(made, address.host, address.port, ssl=context, happy_eyeballs_delay=0.25)
+            _, connection = await asyncio.wait_for(opened, seconds)
             return connection
         except (OSError, ValueError, asyncio.TimeoutError, Unanswered) as error:
             reason = Reason.UNTRUSTED if isinstance(error, ssl.SSLError) else Reason.UNREACHABLE
-            raise Unreachable(str(error) or "no connection was made in time", reason) from error
+            raise Unreachable(ascii(str(error))[1:-1] or "no connection was made in time", reason) from error
 
     def _kept(self, address: Address) -> Optional["_Connection"]:
         """A connection to the address that is open, and on which nothing has come meanwhile."""

@@ -11,8 +11,9 @@ import time
 from typing import Any, Dict, List, Optional, Sequence, Tuple, Union
 
 from ._answers import ENDS, body_of, read_answer, target_of
+from ._connecting import connected
 from ._course import Course, Settings, remaining
-from ._decision import Decision, Error, Reason, Unanswered, Unexpected, Unreachable
+from ._decision import Decision, Error, Reason, Refused, Unanswered
 from ._functions import Functions
 from ._http import Address, Reply, Token, request
 from ._office import Decisions, decided, undecided
@@ -64,7 +65,7 @@ class Office(Functions):
     def end_session(self, digest: str) -> None:
         """Ends the session that has this digest, as lists and records of the front show it."""
         if not re.fullmatch("[0-9a-f]{32}", digest):
-            raise ValueError(f"{digest!r} is not the digest of a session")
+            raise ValueError("this is not the digest of a session")  # It may be the name of one.
         self._call(ENDS, {"digest": digest})
 
     def _call(self, function: str, arguments: Dict[str, Any], again: Optional[int] = None) -> Any:
@@ -88,9 +89,8 @@ class Client(Office):
     ) -> None:
         """`addresses`: one or more of `http://HOST:PORT`, `https://HOST:PORT` and `unix:PATH`; one answers for all.
 
-        `token`: shows who asks; a text, or a function that returns the present one.
-        `timeout`: how many seconds a call may take as a whole, with all of its attempts. Only the system limits how long it looks
-        for the address of a host.
+        `token`: shows who asks; a text, or a function that returns the present one. The end of a line after it is ignored.
+        `timeout`: how many seconds a call may take as a whole, with all of its attempts.
         `ca`: the file of the authorities that may have issued the server's certificate, instead of those of the system.
         `certificate`, `key`: the files of the client's own certificate and key.
         `pause`: how many seconds pass before a command is sent again. Each further pause is twice as long.
@@ -136,7 +136,10 @@ class Client(Office):
 
     @property
     def policy_revision(self) -> int:
-        """The newest revision of the policy that an answer has had: `Policy-Revision` of docs/REQUESTS.md, or 0."""
+        """The newest revision of the policy that an answer has had: `Policy-Revision` of docs/REQUESTS.md, or 0.
+
+        It begins anew if a replica of this client finds that the office may have been restored.
+        """
         return self._settings.revision
 
     def close(self) -> None:
@@ -151,8 +154,7 @@ class Client(Office):
         course = Course(self._settings, function, again)
         while True:
             try:
-                reply = self._attempt(course, target, body)
-                value = read_answer(function, reply.status, reply.body)
+                value = self._attempt(course, function, target, body)
             except Error as error:
                 pause = course.after(error)
                 if pause is None:
@@ -160,53 +162,40 @@ class Client(Office):
                 time.sleep(pause)
             else:
                 course.answered()
-                self._settings.saw(reply.revision)
                 return value
 
-    def _attempt(self, course: Course, target: str, body: Optional[bytes]) -> Reply:
+    def _attempt(self, course: Course, function: str, target: str, body: Optional[bytes]) -> Any:
         """Sends a request once. A question is sent over a kept connection if there is one, and a command over a new one."""
         address, limit = course.address, course.limit()
         text = request(address, target, body, self._settings.token, course.is_question)
         kept = self._kept(address) if course.is_question else None
         if kept is not None:
             try:
-                return self._exchange(address, kept, text, limit)
+                return self._exchange(address, kept, function, text, limit)
             except Unanswered:
                 remaining(limit)  # The server may have closed it: this question is asked once more.
-        return self._exchange(address, self._connected(address, limit), text, limit)
+        return self._exchange(address, self._connected(address, limit), function, text, limit)
 
-    def _exchange(self, address: Address, connection: socket.socket, text: bytes, limit: float) -> Reply:
-        reply = Reply()
+    def _exchange(self, address: Address, connection: socket.socket, function: str, text: bytes, limit: float) -> Any:
+        """Sends a request, and reads its answer. The connection is kept only after an answer of the server."""
+        reply, is_of_server = Reply(), False
         try:
             _exchange(connection, text, reply, limit)
-        except BaseException:
-            connection.close()
+            value = read_answer(function, reply.status, reply.body)
+            is_of_server = True
+        except Refused:
+            is_of_server = True
             raise
-        if reply.keeps:
-            self._keep(address, connection)
-        else:
-            connection.close()
-        return reply
+        finally:
+            if is_of_server and reply.keeps:
+                self._keep(address, connection)
+            else:
+                connection.close()
+        self._settings.saw(reply.revision)
+        return value
 
     def _connected(self, address: Address, limit: float) -> socket.socket:
-        connection: Optional[socket.socket] = None
-        try:
-            if address.path:
-                connection = socket.socket(socket.AF_UNIX)
-                connection.settimeout(remaining(limit))
-                connection.connect(address.path)
-                return connection
-            connection = socket.create_connection((address.host, address.port), remaining(limit))
-            connection.setsockopt(socket.IPPROTO_TCP, socket.TCP_NODELAY, 1)
-            if not address.is_tls or self._settings.context is None:
-                return connection
-            connection.settimeout(remaining(limit))
-            return self._settings.context.wrap_socket(connection, server_hostname=address.host)
-        except (OSError, ValueError, Unanswered) as error:
-            if connection is not None:
-                connection.close()
-            reason = Reason.UNTRUSTED if isinstance(error, ssl.SSLError) else Reason.UNREACHABLE
-            raise Unreachable(str(error), reason) from error
+        return connected(address, self._settings.context if address.is_tls else None, limit)
 
     def _keep(self, address: Address, connection: socket.socket) -> None:
         with self._lock:
@@ -244,9 +233,11 @@ def _exchange(connection: socket.socket, text: bytes, reply: Reply, limit: float
     """Sends a request, and reads its answer."""
     broken: Optional[OSError] = None
     try:
-        connection.settimeout(remaining(limit))
         try:
-            connection.sendall(text)
+            rest = memoryview(text)
+            while rest:
+                connection.settimeout(remaining(limit))
+                rest = rest[connection.send(rest) :]
         except OSError as error:  # A server may refuse a request that it hasn't read to the end.
             broken = error
         while True:

@@ -8,7 +8,7 @@ from typing import List, Optional, Sequence, Union
 
 from ._decision import Error, Reason, Refused, Unanswered, Unreachable
 from ._answers import AGAIN, KINDS
-from ._http import Address, Token
+from ._http import Address, Token, judged
 
 # How often a command is sent at most, and for what a question is asked at the next address.
 MOST_ATTEMPTS = 4
@@ -51,6 +51,8 @@ class Settings:
         read = [Address.read(one) for one in ([addresses] if isinstance(addresses, str) else addresses)]
         if not read:
             raise ValueError("there is no address")
+        if token is not None and not callable(token):
+            token = judged(token)
         context = None
         if any(one.is_tls for one in read):
             context = ssl.create_default_context(cafile=ca)
@@ -64,6 +66,11 @@ class Settings:
         if revision > self.revision:
             with self.lock:
                 self.revision = max(self.revision, revision)
+
+    def forget_revision(self) -> None:
+        """Forgets the revision: those that come next may be smaller, since the office may have been restored."""
+        with self.lock:
+            self.revision = 0
 
 
 class Course:
@@ -110,7 +117,7 @@ class Course:
                 return None
         error.may_be_done = not self.is_question and (error.may_be_done or self._lost)
         if is_refused or error.reason not in _OF_ONE_ADDRESS or time.monotonic() >= self.deadline:
-            raise error
+            raise self._last(error)
         if isinstance(error, Unreachable):
             return self._elsewhere(error)
         self._left -= 1
@@ -122,6 +129,12 @@ class Course:
             return 0.0
         self._sent += 1
         return self._pause(self._sent)
+
+    def _last(self, error: Error) -> Error:
+        """What the call raises at its end: a command that was sent is unanswered, though nobody could be reached after that."""
+        if self._lost and isinstance(error, Unreachable):
+            return Unanswered(f"the answer was lost, and then: {error}")
+        return error
 
     def _elsewhere(self, error: Error) -> float:
         """The next address, since nothing was sent to this one. A command whose answer was lost waits for a server."""

@@ -4,6 +4,8 @@ import enum
 from dataclasses import dataclass
 from typing import Any, Dict, Optional
 
+from ._functions import NAMES
+
 
 class Reason(str, enum.Enum):
     """Why a decision allows or denies, or why a call has no result. docs/INTEGRATING.md, section 1, has what to do."""
@@ -46,10 +48,20 @@ class Decision:
 
 
 class Error(Exception):
-    """The call has no result. `may_be_done` is whether a command may have been done, and `reason` why there is no result."""
+    """The call has no result. `may_be_done` is whether a command may have been done, and `reason` why there is no result.
+
+    Its text has no name of a session, no token, and nothing of an answer but numbers.
+    """
 
     reason = Reason.UNEXPECTED
     may_be_done = True
+
+    def __repr__(self) -> str:
+        return f"{type(self).__name__}({str(self)!r})"
+
+
+class Unsendable(ValueError):
+    """What can't be sent. Its text has no name and no token."""
 
 
 class Refused(Error):
@@ -65,17 +77,22 @@ class Refused(Error):
         self.reason, self.may_be_done = REASONS.get(code, Reason.REFUSED), code in (41, 60, 61)
 
     def __str__(self) -> str:
-        return " ".join([str(self.code), self.name, *(f"{key} {value!r}" for key, value in self.details.items())])
+        # What a server sends is no text of a log: the name is that of docs/API.md, and the name of a set is only in `details`.
+        more = [f"{key} {value}" for key, value in self.details.items() if type(value) is int]
+        return " ".join([str(self.code), NAMES.get(self.code, "(a later refusal)"), *more])
 
 
 class Unanswered(Error):
-    """No complete answer came: a timeout, or a lost connection. A command may or may not have been done."""
+    """No complete answer came: a timeout, or a lost connection. Whether a command was done is unknown: it may have been done.
+
+    A command that was sent stays unanswered if no server can be reached afterwards.
+    """
 
     reason = Reason.UNANSWERED
 
 
 class Unreachable(Error):
-    """There is no server, or not the right one: `reason` is `unreachable` or `untrusted`. Nothing was sent or done."""
+    """There is no server, or not the right one: `reason` is `unreachable` or `untrusted`. The request was never sent."""
 
     may_be_done = False
 
@@ -88,7 +105,7 @@ class Unreachable(Error):
 
 
 class Unexpected(Error):
-    """The answer isn't one that `rbac` sends. A command may or may not have been done."""
+    """The answer isn't one that `rbac` sends. Whether a command was done is unknown: it may have been done."""
 
     def __init__(self, detail: str, reason: Reason = Reason.UNEXPECTED) -> None:
         super().__init__(detail, reason)

@@ -4,7 +4,7 @@ import socket
 import time
 from collections import deque
 from dataclasses import dataclass, field
-from typing import Deque, Iterator, List, Optional
+from typing import Deque, Dict, Iterator, List, Optional
 
 from ._answers import raise_refusal
 from ._course import remaining
@@ -42,10 +42,11 @@ def read_snapshot(reply: Reply, asked: float) -> Snapshot:
     """Reads the answer to a request for a snapshot."""
     if reply.status != 200:
         raise_refusal("/snapshot", reply.status, reply.body)
-    number, body = number_of(reply.head, b"Office-Number"), reply.body
-    if b"\nOffice-Number: " not in reply.head or (body and not body.endswith(b"\n")):
-        raise Unexpected(f"no snapshot: {reply.head[:200]!r}")
-    return Snapshot(number, reply.revision, asked, body.split(b"\n")[:-1])
+    number, revision = number_of(reply.head, b"Office-Number"), number_of(reply.head, b"Policy-Revision")
+    body = reply.body
+    if number is None or revision is None or (body and not body.endswith(b"\n")):
+        raise Unexpected("no snapshot: it has no number, no revision, or half of a line")
+    return Snapshot(number, revision, asked, body.split(b"\n")[:-1])
 
 
 @dataclass(frozen=True)
@@ -96,9 +97,9 @@ class Watch:
         """Reads the head of the answer. Any other answer is a refusal."""
         head = b""
         while not head.endswith(b"\r\n\r\n"):
-            head += self._line(LONGEST_HEAD) + b"\n"
+            head += self._ended(LONGEST_HEAD) + b"\n"
             if len(head) > LONGEST_HEAD or not head.startswith(b"HTTP/1."):
-                raise Unexpected(f"no answer of rbac to /watch: {head[:200]!r}")
+                raise Unexpected("no answer of rbac to /watch")
         fields = head.lower()
         if head.startswith(b"HTTP/1.1 200 ") and b"\ncontent-type: text/event-stream\r" in fields:
             if b"\ncontent-length:" in fields or b"\ntransfer-encoding:" in fields:
@@ -110,19 +111,30 @@ class Watch:
         raise_refusal("/watch", reply.status, reply.body, (410,))
 
     def _event(self) -> Event:
-        """The next event. Fields with other names are ignored."""
-        fields = {}
+        """The next event. Fields with other names are ignored; what isn't one event as the front writes it is no event."""
+        fields: Dict[bytes, bytes] = {}
         while line := self._line(_LONGEST_LINE):
-            name, _, value = line.partition(b": ")
+            name, colon, value = line.partition(b": ")
+            if not colon or not name.isalpha() or name in fields:
+                raise Unexpected("no event: a line is no field, or a field is there twice")
             fields[name] = value
-        if fields.get(b"event") == b"newest":
-            elapsed = fields.get(b"elapsed")
-            moment = None if elapsed is None else self.asked + _number(elapsed) / 1_000
-            return Event(_number(fields.get(b"data", b"")), None, moment)
-        return Event(_number(fields.get(b"id", b"")), fields.get(b"data", b""))
+        if b"event" not in fields:
+            if b"data" not in fields:
+                raise Unexpected("no event: it has no command")
+            return Event(_number(fields.get(b"id", b"")), fields[b"data"])
+        if fields[b"event"] != b"newest":
+            raise Unexpected("no event: its type is unknown")
+        elapsed = fields.get(b"elapsed")
+        moment = None if elapsed is None else self.asked + _number(elapsed) / 1_000
+        return Event(_number(fields.get(b"data", b"")), None, moment)
 
     def _line(self, longest: int) -> bytes:
-        """The next line, without its end."""
+        """The next line, without its end: LF, or CR LF."""
+        line = self._ended(longest)
+        return line[:-1] if line.endswith(b"\r") else line
+
+    def _ended(self, longest: int) -> bytes:
+        """The next line, without its LF."""
         while not self._lines:
             if len(self._rest) > longest:
                 raise Unexpected("a line of the watch is too long")
@@ -144,5 +156,5 @@ class Watch:
 
 def _number(text: bytes) -> int:
     if not text.isdigit() or len(text) > 18:
-        raise Unexpected(f"no number of an event: {text[:200]!r}")
+        raise Unexpected("no event: its number is none")
     return int(text)

@@ -5,9 +5,18 @@ from dataclasses import dataclass
 from typing import Callable, Optional, Union
 
 from ._answers import LONGEST_ANSWER
-from ._decision import Unexpected
+from ._decision import Unexpected, Unsendable
 
 LONGEST_HEAD = 16_384
+
+# The head of an answer: a status line, and fields.
+_HEAD = re.compile(
+    rb"HTTP/1\.([01]) (\d{3}) [\t\x20-\x7e\x80-\xff]*\r\n(?:[!#$%&'*+.^_`|~0-9A-Za-z-]+:[\t\x20-\x7e\x80-\xff]*\r\n)*"
+)
+_LENGTH = re.compile(rb"(?i)\ncontent-length[ \t]*:[ \t]*([^\r\n]*)\r")
+_OTHERS = re.compile(rb"(?i)\n(?:(transfer-encoding)|connection:[^\r\n]*(close))")
+
+_NUMBERS = {name: re.compile(rb"(?i)\n%s:[ \t]*([^\r\n]*)\r" % name) for name in (b"Office-Number", b"Policy-Revision")}
 
 # A token, or what returns the present one.
 Token = Union[str, Callable[[], str]]
@@ -29,7 +38,8 @@ class Address:
             return cls("localhost", path=text[5:])
         parts = re.fullmatch(r"(https?)://([^\s/:@?#\[\]]+|\[[0-9A-Fa-f:.]+\])(?::(\d{1,5}))?/?", text)
         if not parts or int(parts[3] or 0) > 65_535:
-            raise ValueError(f"{text!r} is not an address such as https://localhost:8080 or unix:/run/rbac/office.sock")
+            # The text isn't shown: it may have a password.
+            raise ValueError("this is no address such as https://localhost:8080 or unix:/run/rbac/office.sock")
         is_tls = parts[1] == "https"
         return cls(parts[2].strip("[]"), int(parts[3] or (443 if is_tls else 80)), is_tls)
 
@@ -40,11 +50,17 @@ class Address:
         return host if self.path else f"{host}:{self.port}"
 
 
+def judged(token: str) -> str:
+    """A token without the end of the line that it may have. Raises `ValueError` if it can't be sent."""
+    found = re.fullmatch(r"([\x21-\x7e]+)(?:\r?\n)?", token) if isinstance(token, str) else None
+    if found is None:
+        raise Unsendable("a token is a text of visible ASCII characters without spaces")
+    return found[1]
+
+
 def request(address: Address, target: str, body: Optional[bytes], token: Optional[Token], keeps: bool) -> bytes:
     """The bytes of a request for a method and a path. The connection is kept after it if `keeps`."""
-    shown = token() if callable(token) else token
-    if shown is not None and not re.fullmatch(r"[\x21-\x7e]+", shown):
-        raise ValueError("the token has a space, or a character that is not ASCII")
+    shown = judged(token()) if callable(token) else token
     fields = f"{target} HTTP/1.1\r\nHost: {address.field}\r\n"
     if body is not None:
         kind = "text/csv" if target.endswith("importAssignments") else "application/json"
@@ -54,12 +70,10 @@ def request(address: Address, target: str, body: Optional[bytes], token: Optiona
     return f"{fields}{'' if keeps else 'Connection: close' + chr(13) + chr(10)}\r\n".encode() + (body or b"")
 
 
-def number_of(head: bytes, name: bytes) -> int:
-    """The number that a field of the head of an answer states, such as `Policy-Revision`, or 0."""
-    before = b"\n" + name + b": "
-    at = head.find(before) + len(before)
-    digits = head[at : head.find(b"\r", at)] if at >= len(before) else b""
-    return int(digits) if len(digits) < 19 and digits.isdigit() else 0
+def number_of(head: bytes, name: bytes) -> Optional[int]:
+    """The number that a field of the head of an answer states, such as `Policy-Revision`, or None."""
+    found = _NUMBERS[name].findall(head)
+    return int(found[0]) if len(found) == 1 and re.fullmatch(rb"[0-9]{1,18}", found[0]) else None
 
 
 class Reply:
@@ -81,7 +95,7 @@ class Reply:
         self._received += piece
         if not self._end:
             if not self._received.startswith(b"HTTP/1."[: len(self._received)]):
-                raise Unexpected(f"no HTTP: {bytes(self._received[:200])!r}")
+                raise Unexpected("no HTTP")
             at = self._received.find(b"\r\n\r\n")
             if at < 0:
                 if len(self._received) > LONGEST_HEAD:
@@ -93,15 +107,15 @@ class Reply:
         return len(self._received) == self._end
 
     def _read_head(self, head: bytes, start: int) -> None:
-        status = re.match(rb"HTTP/1\.([01]) (\d{3}) [^\r\n]*\r\n", head)
-        lengths = re.findall(rb"(?i)\ncontent-length[ \t]*:[ \t]*([^\r\n]*)\r", head)
+        status, lengths = _HEAD.fullmatch(head), _LENGTH.findall(head)
         if not status or len(lengths) != 1 or not re.fullmatch(rb"\d{1,9}", lengths[0].strip()) or len(head) > LONGEST_HEAD:
-            raise Unexpected(f"no answer of rbac: {head[:200]!r}")
-        if re.search(rb"(?i)\ntransfer-encoding", head):
+            raise Unexpected("no answer of rbac: a wrong head")
+        others = _OTHERS.findall(head)
+        if any(encoding for encoding, _ in others):
             raise Unexpected("the answer states its length in two ways")
         self.status, length = int(status[2]), int(lengths[0])
         if length > self._longest:
             raise Unexpected(f"the answer has {length} bytes")
         self._start, self._end = start, start + length
-        self.revision, self.head = number_of(head, b"Policy-Revision"), head
-        self.keeps = status[1] == b"1" and not re.search(rb"(?i)\nconnection[ \t]*:[^\r\n]*close", head)
+        self.revision, self.head = number_of(head, b"Policy-Revision") or 0, head
+        self.keeps = status[1] == b"1" and not others

@@ -48,10 +48,7 @@ class Lines(Office):
             return self._child.wait()
 
     def _call(self, function: str, arguments: Dict[str, Any], again: Optional[int] = None) -> Any:
-        try:
-            line = written({**arguments, "fn": function})
-        except TypeError as error:
-            raise ValueError(str(error)) from error
+        line = written({**arguments, "fn": function})
         if len(line) > LONGEST_LINE:
             raise ValueError(f"the line has more than {LONGEST_LINE} bytes")
         with self._lock:
@@ -88,7 +85,7 @@ class Lines(Office):
         if not end:
             raise Unanswered("the child ended before its answer did")
         if more:
-            raise Unexpected(f"more than an answer: {more[:200]!r}")
+            raise Unexpected("more than an answer")
         return answer
 
     def _received(self, line: bytes, limit: float) -> bytes:

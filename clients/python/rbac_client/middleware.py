@@ -1,7 +1,8 @@
 """Guards for applications of WSGI and of ASGI: a request passes only if the session may do what it asks for."""
 
 import functools
-from typing import Any, Awaitable, Callable, Dict, Iterable, List, Mapping, MutableMapping, Optional, Tuple, TypeVar
+import inspect
+from typing import Any, Awaitable, Callable, Dict, Iterable, List, MutableMapping, Optional, Tuple, TypeVar, Union
 
 from ._async import AsyncOffice
 from ._client import Office
@@ -16,9 +17,19 @@ _PLAIN = [("Content-Type", "text/plain; charset=utf-8"), ("Cache-Control", "no-s
 
 def status_of(decision: Optional[Decision]) -> int:
     """The status of the answer to a request that doesn't pass. Without a session there is no decision."""
-    if decision is None or decision.reason is Reason.ENDED_SESSION:
+    if decision is None or (isinstance(decision, Decision) and decision.reason is Reason.ENDED_SESSION):
         return 401
-    return 403 if decision.is_decided else 503
+    return 403 if isinstance(decision, Decision) and decision.is_decided else 503
+
+
+def passes(decision: Any) -> bool:
+    """Whether to let a request pass. Nothing else that is true does, such as what was not awaited."""
+    return isinstance(decision, Decision) and decision.allowed is True
+
+
+def _is_awaited(office: Any) -> bool:
+    """Whether the decisions of an office are awaited."""
+    return inspect.iscoroutinefunction(office.check)
 
 
 Environ = Dict[str, Any]
@@ -37,6 +48,8 @@ class WsgiGuard:
         session: Callable[[Environ], Optional[str]],
     ) -> None:
         """`need` returns what a request needs, and `session` the name of its session, which the application keeps."""
+        if _is_awaited(office):
+            raise TypeError("the decisions of this office are awaited: WsgiGuard needs a Client, AsgiGuard an AsyncClient")
         self._app, self._office, self._need, self._session = app, office, need, session
 
     def __call__(self, environ: Environ, start_response: StartResponse) -> Iterable[bytes]:
@@ -44,7 +57,7 @@ class WsgiGuard:
         if need is not None:
             name = self._session(environ)
             decision = self._office.check(name, *need) if name else None
-            if not decision:
+            if not passes(decision):
                 status = status_of(decision)
                 start_response(f"{status} {_WORDS[status]}", list(_PLAIN))
                 return [f"{_WORDS[status]}\n".encode()]
@@ -68,6 +81,8 @@ class AsgiGuard:
         session: Callable[[Scope], Optional[str]],
     ) -> None:
         """`need` returns what a request needs, and `session` the name of its session, which the application keeps."""
+        if not _is_awaited(office):
+            raise TypeError("the decisions of this office aren't awaited: AsgiGuard needs an AsyncClient, WsgiGuard a Client")
         self._app, self._office, self._need, self._session = app, office, need, session
 
     async def __call__(self, scope: Scope, receive: Receive, send: Send) -> None:
@@ -75,7 +90,7 @@ class AsgiGuard:
         if need is not None:
             name = self._session(scope)
             decision = await self._office.check(name, *need) if name else None
-            if not decision:
+            if not passes(decision):
                 await _refuse(scope, send, status_of(decision))
                 return
         await self._app(scope, receive, send)
@@ -103,19 +118,35 @@ Result = TypeVar("Result")
 
 
 def needs(
-    office: Office, session: Callable[[], Optional[str]], operation: str, object: str
+    office: Union[Office, AsyncOffice], session: Callable[[], Optional[str]], operation: str, object: str
 ) -> Callable[[Callable[..., Result]], Callable[..., Result]]:
-    """A decorator: the function runs only if the session may do the operation on the object. Otherwise it raises `NotAllowed`."""
+    """A decorator: the function runs only if the session may do the operation on the object. Otherwise it raises `NotAllowed`.
 
-    def decorated(function: Callable[..., Result]) -> Callable[..., Result]:
+    With an `AsyncClient` the function is one to await.
+    """
+
+    def decorated(function: Callable[..., Any]) -> Callable[..., Any]:
         @functools.wraps(function)
-        def guarded(*given: Any, **named: Any) -> Result:
+        def guarded(*given: Any, **named: Any) -> Any:
             name = session()
-            decision = office.check(name, operation, object) if name else None
-            if not decision:
+            decision: Any = office.check(name, operation, object) if name else None
+            if not passes(decision):
                 raise NotAllowed(decision)
             return function(*given, **named)
 
-        return guarded
+        @functools.wraps(function)
+        async def awaited(*given: Any, **named: Any) -> Any:
+            name = session()
+            check: Callable[..., Any] = office.check
+            decision = await check(name, operation, object) if name else None
+            if not passes(decision):
+                raise NotAllowed(decision)
+            return await function(*given, **named)
+
+        if not _is_awaited(office):
+            return guarded
+        if not inspect.iscoroutinefunction(function):
+            raise TypeError("the decisions of this office are awaited, so the function has to be one with async def")
+        return awaited
 
     return decorated

@@ -22,7 +22,7 @@ import rbac_office
 from ._client import Client, Office
 from ._decision import REASONS, Decision, Error, Reason, Refused, Unexpected
 from ._following import OUTDATED, Event, Watch, now
-from ._office import decided, undecided
+from ._office import LogLines, decided, undecided
 from ._rows import answer_to, office_of
 from ._values import session_digest
 
@@ -121,6 +121,7 @@ class Replica(Office):
         self._young: Dict[str, float] = {}
         self._trouble: Optional[Error] = Unexpected("nothing was loaded yet", Reason.UNAVAILABLE)
         self._failures = 0
+        self._lines, self._is_told = LogLines(), True
         # How many decisions `may` has made by itself: those that deny, and those that allow.
         self._made = [0, 0]
         self._watch: Optional[Watch] = None
@@ -202,7 +203,7 @@ class Replica(Office):
                 decision = self._decide_there(session, operation, object)
             return decision
         except Exception as error:  # Whatever it is, it doesn't allow.
-            return ReplicaDecision(Reason.INVALID_REQUEST, str(error))
+            return ReplicaDecision(Reason.INVALID_REQUEST, undecided(error).detail)
 
     def _decide_here(self, name: str, operation: str, object: str, at_least: int) -> Tuple[ReplicaDecision, bool]:
         """The decision of the copy, and whether nothing else is to be tried."""
@@ -272,7 +273,7 @@ class Replica(Office):
                 if self._failures > 1:
                     place = (place + 1) % self._client.places
             except Exception as error:  # Such as a failed allocation: the copy may have done half of it.
-                self._troubled(_Diverged(repr(error)))
+                self._troubled(_Diverged(type(error).__name__))
 
     def _pause(self) -> float:
         """How long to wait before the next attempt: longer after each that failed."""
@@ -284,14 +285,17 @@ class Replica(Office):
         if self._closing.is_set():
             return
         self._failures += 1
-        if self._trouble is None or str(error) != str(self._trouble):
-            LOGGER.warning("the replica is cut off: %s: %s", error.reason.value, error)
-        if error.reason in _NO_RIGHT or isinstance(error, _Diverged):
+        end = self._lines.due(error.reason)
+        if end is not None:
+            self._is_told = True
+            LOGGER.warning("the replica is cut off: %s: %s%s", error.reason.value, error, end)
+        is_outdated = isinstance(error, Refused) and error.code == OUTDATED
+        if error.reason in _NO_RIGHT or is_outdated or isinstance(error, _Diverged):
+            # The office may have been restored: nobody decides by what was before, and revisions of before count for nothing.
+            self._client._settings.forget_revision()
             self._drop(error)
         with self._lock:
             self._trouble = error
-            if self._copy is not None and isinstance(error, Refused) and error.code == OUTDATED:
-                self._copy.place = -1  # It is made anew.
 
     def _load(self, place: int) -> None:
         """Makes the copy by a snapshot of the front."""
@@ -300,6 +304,7 @@ class Replica(Office):
         with self._changed:
             if not self._closing.is_set():
                 self._copy, self._fresh = made, snapshot.asked
+                self._client._settings.saw(snapshot.revision)
                 self._young.clear()
                 for line in snapshot.lines:
                     self._note_session(line)
@@ -337,7 +342,8 @@ class Replica(Office):
 
     def _is_fresh(self, moment: float) -> None:
         """The copy had all that was accepted at a moment. The caller has the lock."""
-        if self._trouble is not None:
+        if self._is_told:
+            self._is_told = False
             LOGGER.info("the replica follows the front")
         self._fresh, self._trouble, self._failures = max(self._fresh, moment), None, 0
         self._changed.notify_all()
@@ -354,7 +360,7 @@ class Replica(Office):
                 answer_to(copy.office, line)
             except Exception as error:  # Nobody may decide by what is left.
                 self._copy, self._fresh = None, -math.inf
-                raise _Diverged(str(error) or repr(error)) from error
+                raise _Diverged(str(error) if isinstance(error, Unexpected) else type(error).__name__) from None
             copy.number = event.number
             copy.revision += not line.startswith(_ABOUT_SESSIONS)
             self._note_session(line)

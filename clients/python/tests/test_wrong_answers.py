@@ -1,63 +1,60 @@
-"""What no client may take for a permission: clients/conformance/wrong_answers.json. `pytest`, in clients/python."""
+"""What no client may take for a permission, and what it says about it: clients/conformance/wrong_answers.json."""
 
-import base64
-import json
-import socket
-import struct
-import threading
-from pathlib import Path
+import re
+import traceback
 
 import pytest
 
 import rbac_client
 
-CASES = json.loads((Path(__file__).parents[2] / "conformance/wrong_answers.json").read_text())
+from fake import RIGHT, bytes_of, shared
+
+DATA = shared("wrong_answers.json")
+SECRETS = DATA["token"], DATA["session"]
 
 
-class Server:
-    """Sends one answer after each request, or resets the connection."""
-
-    def __init__(self):
-        self.listener = socket.create_server(("127.0.0.1", 0))
-        self.port = self.listener.getsockname()[1]
-        self.answer, self.requests = b"", 0
-        threading.Thread(target=self.run, daemon=True).start()
-
-    def run(self):
-        while True:
-            client, _ = self.listener.accept()
-            with client:
-                request = b""
-                while b"\r\n\r\n" not in request or len(request.partition(b"\r\n\r\n")[2]) < self.length(request):
-                    request += client.recv(65_536)
-                self.requests += 1
-                if self.answer is None:
-                    client.setsockopt(socket.SOL_SOCKET, socket.SO_LINGER, struct.pack("ii", 1, 0))
-                else:
-                    try:
-                        client.sendall(self.answer)
-                    except OSError:
-                        pass
-
-    @staticmethod
-    def length(request):
-        return next((int(line[15:]) for line in request.split(b"\r\n") if line.lower().startswith(b"content-length:")), 0)
+def is_harmless(text):
+    """Whether a text is one line of printable ASCII, not long, and has neither the token nor the session's name."""
+    return re.fullmatch(r"[\x20-\x7e]{0,400}", text) and not any(secret in text for secret in SECRETS)
 
 
-@pytest.fixture(scope="module")
-def server():
-    return Server()
+@pytest.fixture
+def office(server, made):
+    return made(server.address, token=DATA["token"], pause=0.001)
 
 
-@pytest.fixture(scope="module")
-def office(server):
-    return rbac_client.Client(f"http://127.0.0.1:{server.port}")
+@pytest.mark.parametrize("case", DATA["cases"], ids=[case["name"][:50] for case in DATA["cases"]])
+def test_wrong_answer(server, office, case, caplog):
+    server.answer = None if case.get("reset") else bytes_of(case["answer"], server.port)
+    decision = office.check(DATA["session"], "open", "safe")
+    assert (decision.allowed, decision.reason.value, len(server.requests)) == (False, case["reason"], 1)
+    assert [record.name for record in caplog.records] == ["rbac_client"]
+    for text in caplog.messages[0], decision.detail, repr(decision):
+        assert is_harmless(text), text
+    with pytest.raises(rbac_client.Error) as raised:
+        office.session_roles(DATA["session"])
+    assert is_harmless(str(raised.value)) and is_harmless(repr(raised.value)), repr(raised.value)
+    shown = "".join(traceback.format_exception(raised.type, raised.value, raised.tb))
+    assert not any(secret in shown for secret in SECRETS), shown
 
 
-@pytest.mark.parametrize("case", CASES, ids=[case["name"][:50] for case in CASES])
-def test_wrong_answer(server, office, case):
-    port = str(server.port).encode()
-    pieces = [base64.b64decode(text).replace(b"{port}", port) * times for text, times in case.get("answer", [])]
-    server.answer, server.requests = None if case.get("reset") else b"".join(pieces), 0
-    decision = office.check("s1", "open", "safe")
-    assert (decision.allowed, decision.reason.value, server.requests) == (False, case["reason"], 1)
+def test_right_answer(server, office, caplog):
+    server.answer = RIGHT
+    assert office.check(DATA["session"], "open", "safe").allowed is True
+    assert caplog.records == []
+    assert f"Bearer {DATA['token']}".encode() in server.requests[0]
+
+
+CONNECTIONS = shared("connections.json")
+
+
+@pytest.mark.parametrize("case", CONNECTIONS, ids=[case["name"] for case in CONNECTIONS])
+def test_connection_is_kept(server, made, case):
+    """clients/conformance/connections.json."""
+    office = made(server.address)
+    server.keeps, server.answer = True, case["answer"].encode()
+    assert office.check("s1", "open", "safe").reason.value == case["reason"]
+    server.answer = RIGHT
+    assert office.may("s1", "open", "safe") is True
+    assert server.connections == (1 if case["keeps"] else 2)
+    office.close()

@@ -7,6 +7,7 @@ import (
 	"errors"
 	"fmt"
 	"net/http"
+	"net/url"
 	"os"
 	"path/filepath"
 	"strings"
@@ -44,7 +45,7 @@ func (s *clusterSettings) connect() (*clientv3.Client, error) {
 		DialOptions: []grpc.DialOption{grpc.WithReturnConnectionError()},
 	}
 	var err error
-	if config.TLS, err = s.etcdTLS.Client(); err != nil {
+	if config.TLS, err = s.etcdTLS.Client(hostsOf(config.Endpoints)...); err != nil {
 		return nil, err
 	}
 	if s.passwordFile != "" {
@@ -55,6 +56,16 @@ func (s *clusterSettings) connect() (*clientv3.Client, error) {
 		config.Password = strings.TrimSpace(string(password))
 	}
 	return clientv3.New(config)
+}
+
+// hostsOf returns the names and addresses in URLs.
+func hostsOf(urls []string) (hosts []string) {
+	for _, one := range urls {
+		if at, err := url.Parse(one); err == nil {
+			hosts = append(hosts, at.Hostname())
+		}
+	}
+	return hosts
 }
 
 // isChosen reports whether the command line names members of etcd.
@@ -145,11 +156,10 @@ func (s *clusterSettings) serveNode(ctx context.Context, shared *ledger.Ledger, 
 		return err
 	}
 	defer lock.Close()
-	config, err := s.peerTLS.Client()
-	if err != nil {
+	if _, err := s.peerTLS.Client(); err != nil {
 		return fmt.Errorf("other nodes: %w", err)
 	}
-	s.Fetch = &http.Client{Timeout: snapshotTimeout, Transport: &http.Transport{TLSClientConfig: config}}
+	s.Fetch = &http.Client{Timeout: snapshotTimeout, Transport: &http.Transport{DialTLSContext: s.peerTLS.Dial}}
 	addresses, err := s.common.listenOr("127.0.0.1:8080")
 	if err != nil {
 		return err
@@ -158,7 +168,7 @@ func (s *clusterSettings) serveNode(ctx context.Context, shared *ledger.Ledger, 
 		s.common.refused = filepath.Join(s.Data, "refused")
 	}
 	registry := &metrics.Registry{}
-	registry.AddProcess()
+	registry.AddProcess(version)
 	f, err := front.New(ctx, s.common.frontOptions(addresses, events, registry))
 	if err != nil {
 		return err

@@ -8,6 +8,8 @@
 //	rbac-node record verify|show|head|cut|adopt --office FILE
 //	rbac-node backup --office FILE FOLDER
 //	rbac-node health SOCKET
+//	rbac-node --version
+//	rbac-node --help
 //
 // See docs/FRONT.md, and docs/CLUSTER.md for several machines.
 package main
@@ -23,10 +25,29 @@ import (
 	"syscall"
 )
 
+// version is that of the file VERSION.
+const version = "1.0.0"
+
 // mostMemory is from how much memory on garbage is collected more often.
 const mostMemory = 1 << 30
 
-var errUsage = errors.New("usage: rbac-node serve|adopt|callers|record|backup|health [options]; see rbac-node serve --help")
+var errUsage = errors.New("usage: rbac-node serve|adopt|callers|record|backup|health [options]; see rbac-node --help")
+
+// help is what --help prints.
+const help = `rbac-node answers clients from an office.
+
+  rbac-node serve --office FILE [options]        serves an office of this machine; it is made if it doesn't exist
+  rbac-node serve --etcd URL,.. [options]        serves an office of several machines
+  rbac-node adopt --etcd URL,.. [options] FILE   makes an office the beginning of one of several machines
+  rbac-node callers FILE                         prints who may do what
+  rbac-node callers --check [options]            checks the files of the callers
+  rbac-node record verify|show|head|cut|adopt    works with the record of an office
+  rbac-node backup --office FILE FOLDER          copies an office and its record
+  rbac-node health SOCKET                        asks whether the front at a socket is ready
+  rbac-node --version                            prints the version
+
+rbac-node COMMAND --help prints the options of a command. The page FRONT.md explains them.
+`
 
 func main() {
 	if os.Getenv("GOGC") == "" {
@@ -48,6 +69,14 @@ func main() {
 func run(words []string) error {
 	if len(words) == 0 {
 		return errUsage
+	}
+	switch words[0] {
+	case "--version", "-version", "version":
+		fmt.Println("rbac-node", version)
+		return nil
+	case "--help", "-help", "-h", "help":
+		fmt.Print(help)
+		return nil
 	}
 	if words[0] == "record" || words[0] == "backup" {
 		syscall.Umask(0o077)

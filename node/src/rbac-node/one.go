@@ -24,11 +24,14 @@ func (s *settings) serveOne(ctx context.Context) error {
 			return errNotLocal
 		}
 	}
+	if err := single.CheckFile(ctx, s.program, s.office); err != nil {
+		return err
+	}
 	if s.refused == "" {
 		s.refused = s.office + ".refused"
 	}
 	log, registry := logs.New(os.Stderr), &metrics.Registry{}
-	registry.AddProcess()
+	registry.AddProcess(version)
 	options := s.frontOptions(addresses, log, registry)
 	options.IsHostChecked, options.HasMetrics = true, true
 	f, err := front.New(ctx, options)

@@ -100,9 +100,17 @@ func (c *recordCommand) define(flags *flag.FlagSet, name string) {
 		flags.StringVar(&c.filter.Object, "object", "", "only commands that name this object")
 		flags.StringVar(&c.filter.Function, "function", "", "only commands of this function")
 		flags.StringVar(&c.filter.Caller, "caller", "", "only commands of this caller")
-		flags.StringVar(&c.filter.Since, "since", "", "only commands from this time on, such as 2026-11-27T09")
-		flags.StringVar(&c.filter.Until, "until", "", "only commands before this time")
+		flags.Func("since", "only commands from this time on, such as 2026-11-27T09", timeOf(&c.filter.Since))
+		flags.Func("until", "only commands before this time", timeOf(&c.filter.Until))
 		flags.BoolVar(&c.filter.IsRefused, "refused", false, "only commands that were refused")
+	}
+}
+
+// timeOf returns a function that reads a time of a filter into a place.
+func timeOf(place *string) func(text string) error {
+	return func(text string) (err error) {
+		*place, err = recorded.ParseTime(text)
+		return err
 	}
 }
 

@@ -19,8 +19,12 @@ import (
 	"rbac-node/web"
 )
 
-// defaultConnections is how many connections of clients there may be, if the descriptors allow as many.
-const defaultConnections = 20_000
+const (
+	// defaultConnections is how many connections of clients there may be, if the descriptors allow as many.
+	defaultConnections = 20_000
+	// defaultCallerRequests is how many requests of one caller there may be at once.
+	defaultCallerRequests = 64
+)
 
 // settings are what the command line chooses for an office, on one machine or on several.
 type settings struct {
@@ -28,7 +32,7 @@ type settings struct {
 	publicURL                                 string
 	sessionAge, sessionIdle                   time.Duration
 	answerTimeout, hangTimeout                time.Duration
-	connections                               int
+	connections, callerRequests               int
 	tls                                       web.TLS
 	callers                                   callers.Files
 	isCheck                                   bool
@@ -70,6 +74,7 @@ func (s *settings) define(flags *flag.FlagSet) {
 	flags.DurationVar(&s.answerTimeout, "timeout", 10*time.Second, "how long a request waits for its answer")
 	flags.DurationVar(&s.hangTimeout, "hang-timeout", time.Minute, "how long the replay may answer nothing before it is killed")
 	flags.IntVar(&s.connections, "connections", allowedConnections(), "how many connections of clients there may be at once")
+	flags.IntVar(&s.callerRequests, "caller-requests", defaultCallerRequests, "how many requests of one caller there may be at once")
 	flags.StringVar(&s.tls.Cert, "tls-cert", "", "certificate for clients")
 	flags.StringVar(&s.tls.Key, "tls-key", "", "key of that certificate")
 	flags.StringVar(&s.tls.CA, "tls-ca", "", "authority of the certificates of clients")
@@ -82,7 +87,7 @@ func (s *settings) define(flags *flag.FlagSet) {
 	flags.DurationVar(&s.sessionAge, "session-age", 0, "after how much time a session ends (default: never)")
 	flags.DurationVar(&s.sessionIdle, "session-idle", 0, "after how much time without a use a session ends (default: never), for one machine")
 	flags.StringVar(&s.publicURL, "public-url", "", "where clients find the front: https://HOST:PORT, for AuthZEN's metadata")
-	flags.StringVar(&s.origins, "origin", "", "origins of pages whose requests are answered, separated by commas")
+	flags.StringVar(&s.origins, "origin", "", "origins from which browsers may send requests, separated by commas; it sets no CORS fields")
 	flags.StringVar(&s.refused, "refused", "", "file for requests that are refused with 401, 403 or 421 (default: OFFICE.refused)")
 	flags.BoolVar(&s.record.isOff, "no-record", false, "don't record commands")
 	flags.Int64Var(&s.record.every, "record-base", 10_000, "commands between two copies of the office, from which a start does them again")
@@ -111,8 +116,13 @@ func (s *settings) check() error {
 		return fmt.Errorf("--session-age and --session-idle: %w", state.ErrUnavailable)
 	case s.record.every < 1:
 		return errors.New("--record-base must be at least 1")
+	case web.MaxConnections() < 1:
+		return fmt.Errorf("the limit of open files is too low for any connection: raise it by %d or more (ulimit -n, or LimitNOFILE= of systemd)",
+			1-web.MaxConnections())
 	case s.connections < 1 || s.connections > web.MaxConnections():
 		return fmt.Errorf("--connections must be from 1 to %d, as the limit of file descriptors allows", web.MaxConnections())
+	case s.callerRequests < 1:
+		return errors.New("--caller-requests must be at least 1")
 	case files.Callers == "" && files.Tokens+files.Keys != "":
 		return errors.New("--tokens and --oidc-keys need --callers")
 	case s.tls.CA != "" && s.tls.Cert == "":
@@ -132,7 +142,7 @@ func (s *settings) listenOr(other string) ([]front.Address, error) {
 // frontOptions returns the options of the front.
 func (s *settings) frontOptions(addresses []front.Address, log *logs.Logger, registry *metrics.Registry) front.Options {
 	options := front.Options{
-		Addresses: addresses, TLS: s.tls, Connections: s.connections, AnswerTimeout: s.answerTimeout, Refused: s.refused,
+		Addresses: addresses, TLS: s.tls, Connections: s.connections, CallerRequests: s.callerRequests, AnswerTimeout: s.answerTimeout, Refused: s.refused,
 		PublicURL: strings.TrimSuffix(s.publicURL, "/"),
 		Log:       log, Metrics: registry,
 		Callers: callers.Options{

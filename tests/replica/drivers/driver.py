@@ -37,7 +37,8 @@ class Driver:
     def status(self):
         status = self.replica.status
         reason = status.reason.value if status.reason else ""
-        return {"number": status.number, "revision": status.revision, "age": min(status.age, 1e9), "reason": reason}
+        seen = self.client.policy_revision
+        return {"number": status.number, "revision": status.revision, "age": min(status.age, 1e9), "reason": reason, "seen": seen}
 
     def call(self, user):
         self.client.add_user(user)

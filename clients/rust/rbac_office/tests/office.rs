@@ -20,3 +20,62 @@ fn refusals_have_codes() {
     assert_eq!(office.check("s", "p", "o"), Err(Error::Refused { code: 26, name: "NoSession" }));
     assert_eq!(office.check("", "p", "o"), Err(Error::Refused { code: 1, name: "BadName" }));
 }
+
+/// An office in which ann may open the safe in the session s1, and bob has the session s2 without roles.
+fn decided() -> Office {
+    let office = Office::new().unwrap();
+    for line in [
+        r#"{"fn":"addUser","user":"ann"}"#,
+        r#"{"fn":"addUser","user":"bob"}"#,
+        r#"{"fn":"addRole","role":"boss"}"#,
+        r#"{"fn":"addPermObj","object":"safe"}"#,
+        r#"{"fn":"addPermission","object":"safe","operation":"open"}"#,
+        r#"{"fn":"grantPermission","object":"safe","operation":"open","role":"boss"}"#,
+        r#"{"fn":"assignUser","user":"ann","role":"boss"}"#,
+        r#"{"fn":"createSession","user":"ann","session":"s1","roles":["boss"]}"#,
+        r#"{"fn":"createSession","user":"bob","session":"s2","roles":[]}"#,
+    ] {
+        answers(&office, line, r#"{"ok":true}"#);
+    }
+    office
+}
+
+#[test]
+fn decisions_allow_deny_and_refuse() {
+    let office = decided();
+    assert_eq!(office.check("s1", "open", "safe"), Ok(true));
+    assert_eq!(office.check("s2", "open", "safe"), Ok(false));
+    assert_eq!(office.check("s3", "open", "safe"), Err(Error::Refused { code: 26, name: "NoSession" }));
+    assert_eq!(office.check("s1", "burn", "safe"), Err(Error::Refused { code: 33, name: "NoOperation" }));
+    assert_eq!(office.check("s1", "open", "vault"), Err(Error::Refused { code: 6, name: "NoObject" }));
+    answers(&office, r#"{"fn":"deassignUser","user":"ann","role":"boss"}"#, r#"{"ok":true}"#);
+    assert_eq!(office.check("s1", "open", "safe"), Err(Error::Refused { code: 26, name: "NoSession" }));
+}
+
+#[test]
+fn threads_share_an_office() {
+    let office = decided();
+    std::thread::scope(|scope| {
+        for _ in 0..4 {
+            scope.spawn(|| {
+                for _ in 0..1_000 {
+                    assert_eq!(office.check("s1", "open", "safe"), Ok(true));
+                    assert_eq!(office.check("s2", "open", "safe"), Ok(false));
+                }
+            });
+        }
+    });
+}
+
+#[test]
+fn blank_and_long_lines_are_refused() {
+    let office = Office::new().unwrap();
+    let bad = r#"{"code":34,"error":"BadRequest"}"#;
+    let user = r#"{"fn":"addUser","user":"ann"}"#;
+    for line in ["", " ", "\t\r"] {
+        answers(&office, line, bad);
+    }
+    let long = |size| user.to_string() + &" ".repeat(size - user.len());
+    answers(&office, &long(65_537), bad);
+    answers(&office, &long(65_536), r#"{"ok":true}"#);
+}

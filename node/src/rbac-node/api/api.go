@@ -6,6 +6,7 @@ import (
 	"context"
 	"encoding/json"
 	"errors"
+	"fmt"
 	"io"
 	"net/http"
 	"strconv"
@@ -64,37 +65,53 @@ func (p Point) SetHead(head http.Header) {
 	}
 }
 
-// A Refusal is what is answered without the office: an HTTP status, a code and its name.
+// A Refusal is what is answered without the office: an HTTP status, a code and its name, and what is wrong with the request, if more is
+// to be said than that.
 type Refusal struct {
 	Status, Code int
-	Name         string
+	Name, Why    string
 }
 
 func (r Refusal) Error() string { return r.Name }
 
 var (
 	// Unavailable means that there was no answer in time. A command may be done or not.
-	Unavailable = Refusal{http.StatusServiceUnavailable, 60, "Unavailable"}
+	Unavailable = Refusal{Status: http.StatusServiceUnavailable, Code: 60, Name: "Unavailable"}
 	// Diverged means that the snapshot of this node is not that of most nodes at the same revision.
-	Diverged = Refusal{http.StatusServiceUnavailable, 61, "Diverged"}
+	Diverged = Refusal{Status: http.StatusServiceUnavailable, Code: 61, Name: "Diverged"}
 	// Unauthorized means that the request doesn't show who asks.
-	Unauthorized = Refusal{http.StatusUnauthorized, 62, "Unauthorized"}
+	Unauthorized = Refusal{Status: http.StatusUnauthorized, Code: 62, Name: "Unauthorized"}
 	// Forbidden means that the caller may not do this.
-	Forbidden = Refusal{http.StatusForbidden, 63, "Forbidden"}
+	Forbidden = Refusal{Status: http.StatusForbidden, Code: 63, Name: "Forbidden"}
 	// TooManyRequests means that the caller has too many requests at once.
-	TooManyRequests = Refusal{http.StatusTooManyRequests, 64, "TooManyRequests"}
+	TooManyRequests = Refusal{Status: http.StatusTooManyRequests, Code: 64, Name: "TooManyRequests"}
 	// ForeignOrigin means that a page of a foreign site has made a browser send the request.
-	ForeignOrigin = Refusal{http.StatusForbidden, 65, "ForeignOrigin"}
+	ForeignOrigin = Refusal{Status: http.StatusForbidden, Code: 65, Name: "ForeignOrigin"}
 	// ForeignHost means that the request was sent to a name that isn't one of this machine.
-	ForeignHost = Refusal{http.StatusMisdirectedRequest, 66, "ForeignHost"}
+	ForeignHost = Refusal{Status: http.StatusMisdirectedRequest, Code: 66, Name: "ForeignHost"}
 	// Outdated means that the policy has changed since the revision that the request names.
-	Outdated = Refusal{http.StatusPreconditionFailed, 67, "Outdated"}
+	Outdated = Refusal{Status: http.StatusPreconditionFailed, Code: 67, Name: "Outdated"}
 	// Upgrading means that a node has an earlier program, which can't judge this: it can be done when all nodes have a later one.
-	Upgrading       = Refusal{http.StatusServiceUnavailable, 68, "Upgrading"}
-	unknownFunction = Refusal{http.StatusNotFound, 35, "UnknownFunction"}
+	Upgrading       = Refusal{Status: http.StatusServiceUnavailable, Code: 68, Name: "Upgrading"}
+	unknownFunction = Refusal{Status: http.StatusNotFound, Code: 35, Name: "UnknownFunction"}
 )
 
-func badRequest(status int) Refusal { return Refusal{status, 34, "BadRequest"} }
+func badRequest(status int) Refusal { return Refusal{Status: status, Code: 34, Name: "BadRequest"} }
+
+// badRequestSince is badRequest with what is wrong.
+func badRequestSince(status int, why string, values ...any) Refusal {
+	refused := badRequest(status)
+	refused.Why = fmt.Sprintf(why, values...)
+	return refused
+}
+
+// tooLong is the refusal of a body with more bytes than it may have.
+func tooLong(most int64) Refusal {
+	return badRequestSince(http.StatusRequestEntityTooLarge, "the body has more than %d bytes", most)
+}
+
+// whyField is the field of an answer that says what is wrong with a request.
+const whyField = "Office-Why"
 
 // An Office does batches of calls. An error that is no Refusal is answered as Unavailable.
 type Office interface {
@@ -103,7 +120,7 @@ type Office interface {
 }
 
 // These are limits of `rbac serve`. A longer import, which it accepts, would make a line that no replay accepts.
-const maxBodyBytes, maxFields = 65_536, 64
+const MaxBodyBytes, maxFields = 65_536, 64
 
 // A Handler answers requests from an office.
 type Handler struct {
@@ -111,6 +128,8 @@ type Handler struct {
 	office  Office
 	answers *metrics.Counter
 	seconds *metrics.Histogram
+	// decisions counts what was denied and what was allowed.
+	decisions *metrics.Tally
 }
 
 // NewHandler returns a handler. It answers until the context ends, also if the client has ended its side of the connection, as
@@ -122,21 +141,27 @@ func NewHandler(ctx context.Context, office Office, registry *metrics.Registry) 
 	}
 	return &Handler{
 		ctx: ctx, office: office,
-		answers: registry.Counter("rbac_node_answers_total", "Requests that were answered.", "kind", "status"),
-		seconds: registry.Histogram("rbac_node_answer_seconds", "How long requests took.", "kind", bounds),
+		answers:   registry.Counter("rbac_node_answers_total", "Requests that were answered.", "kind", "status"),
+		seconds:   registry.Histogram("rbac_node_answer_seconds", "How long requests took.", "kind", bounds),
+		decisions: registry.Tally("rbac_node_decisions_total", "Decisions about access.", "decision", "denied", "allowed"),
 	}
 }
 
-// A Judge decides whether a call may be done. An error refuses it.
-type Judge func(ctx context.Context, call *Call) error
+// A Judge decides what may be done. An error refuses it.
+type Judge interface {
+	// MayAny refuses a request for a function, before a body that isn't small is read, if no call of the function may be done.
+	MayAny(ctx context.Context, function string) error
+	// May refuses a call.
+	May(ctx context.Context, call *Call) error
+}
 
-// Serve answers a request for a function that the judge lets through. Without a judge that is every one. done is called when
-// the office has nothing more to do for the request, before the client gets the answer.
+// Serve answers a request for a function that the judge lets through. done is called when the office has nothing more to do for the
+// request, before the client gets the answer.
 func (h *Handler) Serve(w http.ResponseWriter, r *http.Request, judge Judge, done func()) {
 	start := time.Now()
-	kind, call, err := read(r)
-	if err == nil && judge != nil {
-		err = judge(h.ctx, call)
+	kind, call, err := read(r, func(function string) error { return judge.MayAny(h.ctx, function) })
+	if err == nil {
+		err = judge.May(h.ctx, call)
 	}
 	var answers Answers
 	var rule Rule
@@ -148,8 +173,24 @@ func (h *Handler) Serve(w http.ResponseWriter, r *http.Request, judge Judge, don
 	}
 	done()
 	status := respond(w, answers, err)
+	if err == nil && call.Function == checkAccess {
+		allowed := 0
+		if string(answers.Texts[0]) == Allowed {
+			allowed = 1
+		}
+		h.Decided(allowed, 1-allowed)
+	}
 	h.answers.Add(string(kind), strconv.Itoa(status))
 	h.seconds.Observe(string(kind), time.Since(start).Seconds())
+}
+
+// checkAccess is the function that decides, and Allowed what it answers if it allows something.
+const checkAccess, Allowed = "checkAccess", `{"ok":true,"value":true}`
+
+// Decided counts decisions: how many were allowed and how many denied. One that the office refuses to make denies.
+func (h *Handler) Decided(allowed, denied int) {
+	h.decisions.Add(0, uint64(denied))
+	h.decisions.Add(1, uint64(allowed))
 }
 
 // respond writes the answer to a call or an error, and returns its status.
@@ -167,6 +208,9 @@ func respond(w http.ResponseWriter, answers Answers, err error) int {
 // Refuse answers a request without the office, and returns the status. If nothing else is said, only POST is allowed.
 func Refuse(w http.ResponseWriter, refused Refusal, methods ...string) int {
 	head := w.Header()
+	if refused.Why != "" {
+		head[whyField] = []string{refused.Why}
+	}
 	switch refused.Status {
 	case http.StatusUnauthorized:
 		head.Set("WWW-Authenticate", "Bearer")
@@ -175,12 +219,14 @@ func Refuse(w http.ResponseWriter, refused Refusal, methods ...string) int {
 			methods = []string{http.MethodPost}
 		}
 		head.Set("Allow", strings.Join(methods, ", "))
-	case http.StatusNotImplemented:
-		// Nobody may take what follows for the next request.
-		head.Set("Connection", "close")
+	case http.StatusNotImplemented, http.StatusLengthRequired:
+		Close(w)
 	}
 	return write(w, refused.Status, RefusalText(refused.Code, refused.Name))
 }
+
+// Close ends the connection behind the answer: nobody may take what follows for the next request.
+func Close(w http.ResponseWriter) { w.Header().Set("Connection", "close") }
 
 func write(w http.ResponseWriter, status int, text []byte) int {
 	head := w.Header()
@@ -207,8 +253,12 @@ func StatusOf(answer []byte) int {
 	return http.StatusConflict
 }
 
-// read judges the head of a request in the order of `rbac serve`, reads the body, and makes a call of the two.
-func read(r *http.Request) (Kind, *Call, error) {
+// SmallBody is how many bytes of a body are read before it is known whether the caller may do anything of that kind.
+const SmallBody = 4096
+
+// read judges the head of a request in the order of `rbac serve`, reads the body if it is small or the function may be asked for, and
+// makes a call of the two.
+func read(r *http.Request, may func(function string) error) (Kind, *Call, error) {
 	// A ServeMux would redirect paths that it would write differently.
 	name := strings.TrimPrefix(r.RequestURI, "/v1/")
 	called, known := functions[name]
@@ -222,6 +272,11 @@ func read(r *http.Request) (Kind, *Call, error) {
 	}
 	if kind == Question {
 		kind = kindOf(r)
+	}
+	if r.ContentLength > SmallBody {
+		if err := may(name); err != nil {
+			return kind, nil, err
+		}
 	}
 	body, err := io.ReadAll(r.Body)
 	if err != nil {
@@ -270,8 +325,8 @@ func judgeHead(r *http.Request, known bool) error {
 		return badRequest(http.StatusMethodNotAllowed)
 	case r.ContentLength < 0 || r.ContentLength == 0 && r.Header.Get("Content-Length") == "" && r.ProtoMajor == 1:
 		return badRequest(http.StatusLengthRequired)
-	case r.ContentLength > maxBodyBytes:
-		return badRequest(http.StatusRequestEntityTooLarge)
+	case r.ContentLength > MaxBodyBytes:
+		return tooLong(MaxBodyBytes)
 	case !isConsistency(r.Header.Get(consistencyField)):
 		return badRequest(http.StatusBadRequest)
 	}

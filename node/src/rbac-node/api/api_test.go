@@ -32,7 +32,7 @@ func (f *fakeOffice) ServeHealth(http.ResponseWriter, *http.Request) {}
 func said(t *testing.T, office Office, text string) string {
 	handler := NewHandler(context.Background(), office, &metrics.Registry{})
 	server := httptest.NewServer(http.HandlerFunc(func(w http.ResponseWriter, r *http.Request) {
-		handler.Serve(w, r, nil, func() {})
+		handler.Serve(w, r, everybody{}, func() {})
 	}))
 	defer server.Close()
 	conn, err := net.Dial("tcp", server.Listener.Addr().String())
@@ -92,12 +92,12 @@ func TestRead(t *testing.T) {
 		{"GET", "/v1/fly", "", http.StatusNotFound},
 		{"GET", "/v1/addUser", "{}", http.StatusMethodNotAllowed},
 		{"POST", "/v1/addUser", "[]", http.StatusBadRequest},
-		{"POST", "/v1/addUser", `{"user":"` + strings.Repeat("a", maxBodyBytes) + `"}`, http.StatusRequestEntityTooLarge},
-		{"POST", "/v1/addUser", `{"user":"` + strings.Repeat("a", maxBodyBytes-11) + `"}`, http.StatusRequestEntityTooLarge},
-		{"POST", "/v1/importAssignments", strings.Repeat("a", maxBodyBytes+1), http.StatusRequestEntityTooLarge},
+		{"POST", "/v1/addUser", `{"user":"` + strings.Repeat("a", MaxBodyBytes) + `"}`, http.StatusRequestEntityTooLarge},
+		{"POST", "/v1/addUser", `{"user":"` + strings.Repeat("a", MaxBodyBytes-11) + `"}`, http.StatusRequestEntityTooLarge},
+		{"POST", "/v1/importAssignments", strings.Repeat("a", MaxBodyBytes+1), http.StatusRequestEntityTooLarge},
 		{"POST", "/v1/importAssignments", strings.Repeat("a", office.MaxLineBytes-100), 0},
 	} {
-		_, _, err := read(httptest.NewRequest(one.method, one.target, strings.NewReader(one.body)))
+		_, _, err := read(httptest.NewRequest(one.method, one.target, strings.NewReader(one.body)), func(string) error { return nil })
 		var r Refusal
 		status := 0
 		if errors.As(err, &r) {
@@ -106,6 +106,26 @@ func TestRead(t *testing.T) {
 		if status != one.status {
 			t.Errorf("%s %s %.20s: %d and not %d", one.method, one.target, one.body, status, one.status)
 		}
+	}
+}
+
+// An everybody lets all through.
+type everybody struct{}
+
+func (everybody) MayAny(context.Context, string) error { return nil }
+func (everybody) May(context.Context, *Call) error     { return nil }
+
+// A body that isn't small isn't read if no call of the function may be done.
+func TestUnread(t *testing.T) {
+	body := strings.NewReader(strings.Repeat(" ", SmallBody) + `{"user":"ann"}`)
+	_, _, err := read(httptest.NewRequest("POST", "/v1/addUser", body), func(function string) error {
+		if function != "addUser" {
+			t.Errorf("the function is %s", function)
+		}
+		return Forbidden
+	})
+	if err != Forbidden || body.Len() < SmallBody {
+		t.Errorf("%v, and %d bytes are left", err, body.Len())
 	}
 }
 

@@ -82,7 +82,8 @@ func ParseBatch(body []byte) (calls []*Call, err error) {
 		}
 		calls = append(calls, call)
 		if len(calls) > MaxBatchLines || commands > MaxBatchCommands {
-			return nil, &LineError{number, badRequest(http.StatusRequestEntityTooLarge)}
+			why := "a batch has at most %d lines, of which at most %d are commands"
+			return nil, &LineError{number, badRequestSince(http.StatusRequestEntityTooLarge, why, MaxBatchLines, MaxBatchCommands)}
 		}
 	}
 	return calls, nil

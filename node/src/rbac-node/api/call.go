@@ -98,15 +98,16 @@ func newCall(name string, found map[string]json.RawMessage) (*Call, error) {
 		switch value := found[key]; key {
 		case "cardinality":
 			if len(value) == 0 || len(bytes.Trim(value, "0123456789")) > 0 {
-				err = badRequest(http.StatusBadRequest)
+				return nil, badRequestSince(http.StatusBadRequest, "%s has to be a number", key)
 			}
 		case "roles":
-			call.Roles, err = textsOf(value)
+			if call.Roles, err = textsOf(value); err != nil {
+				return nil, badRequestSince(http.StatusBadRequest, "%s has to be a list of texts", key)
+			}
 		default:
-			call.Texts[key], err = textOf(value)
-		}
-		if err != nil {
-			return nil, err
+			if call.Texts[key], err = textOf(value); err != nil {
+				return nil, badRequestSince(http.StatusBadRequest, "%s has to be a text", key)
+			}
 		}
 	}
 	return call, call.write(found["cardinality"])
@@ -136,7 +137,7 @@ func (c *Call) write(cardinality []byte) error {
 	}
 	c.Line = append(line, '}')
 	if len(c.Line) > office.MaxLineBytes {
-		return badRequest(http.StatusRequestEntityTooLarge)
+		return badRequestSince(http.StatusRequestEntityTooLarge, "the request makes a line of more than %d bytes", office.MaxLineBytes)
 	}
 	return nil
 }

@@ -5,10 +5,13 @@ import (
 	"errors"
 	"fmt"
 	"math/rand"
+	"net/http/httptest"
 	"os"
 	"os/exec"
 	"strings"
 	"testing"
+
+	"rbac-node/office"
 )
 
 func TestParseBody(t *testing.T) {
@@ -57,7 +60,8 @@ func TestParseBody(t *testing.T) {
 		t.Run(one.name, func(t *testing.T) {
 			call, err := parseBody(one.function, []byte(one.body))
 			if one.line == "" {
-				if !errors.Is(err, badRequest(400)) {
+				refused := Refusal{}
+				if !errors.As(err, &refused) || refused.Status != 400 || refused.Code != 34 {
 					t.Fatalf("%v, %v", call, err)
 				}
 				return
@@ -197,4 +201,21 @@ func (o oddLines) line() []byte {
 		line = []byte("{}")
 	}
 	return line
+}
+
+// A refusal names the key that is wrong, or the limit.
+func TestWhy(t *testing.T) {
+	for line, why := range map[string]string{
+		`{"fn":"addUser","user":7}`:                                                           "user has to be a text",
+		`{"fn":"assignUser","user":"ann","Role":"clerk"}`:                                     "role has to be a text",
+		`{"fn":"createSession","user":"a","session":"s","roles":"r"}`:                         "roles has to be a list of texts",
+		`{"fn":"setSsdSetCardinality","set":"s","cardinality":"2"}`:                           "cardinality has to be a number",
+		`{"fn":"importAssignments","csv":"` + strings.Repeat("x", office.MaxLineBytes) + `"}`: "the request makes a line of more than 65536 bytes",
+	} {
+		_, err := ParseLine([]byte(line))
+		refused := Refusal{}
+		if w := httptest.NewRecorder(); !errors.As(err, &refused) || Refuse(w, refused) != refused.Status || w.Header().Get("Office-Why") != why {
+			t.Errorf("%.80s: %q, %v", line, w.Header().Get("Office-Why"), err)
+		}
+	}
 }

@@ -29,7 +29,7 @@ func ReadBody(r *http.Request, most int64) ([]byte, error) {
 	case r.ContentLength < 0:
 		return nil, badRequest(http.StatusLengthRequired)
 	case r.ContentLength > most:
-		return nil, badRequest(http.StatusRequestEntityTooLarge)
+		return nil, tooLong(most)
 	}
 	body, err := io.ReadAll(r.Body)
 	if err != nil {

@@ -68,6 +68,45 @@ func (s *Set) May(ctx context.Context, caller string, calls ...*api.Call) error 
 	return nil
 }
 
+// MayAny refuses a caller that has none of some operations, in no scope. So what it asks for needn't be read.
+func (s *Set) MayAny(ctx context.Context, caller string, operations ...string) error {
+	if !s.names[caller] {
+		return api.Forbidden
+	}
+	has, err := s.operationsOf(ctx, caller)
+	if err != nil {
+		return err
+	}
+	for _, one := range operations {
+		if has[one] {
+			return nil
+		}
+	}
+	return api.Forbidden
+}
+
+// operationsOf returns the operations that a caller has in some scope.
+func (s *Set) operationsOf(ctx context.Context, caller string) (map[string]bool, error) {
+	if found, isKept := s.operations.Load(caller); isKept {
+		has, _ := found.(map[string]bool)
+		return has, nil
+	}
+	within, cancel := context.WithTimeout(ctx, s.answerTimeout)
+	defer cancel()
+	grants, err := s.grantsOf(within, caller)
+	if err != nil {
+		return nil, err
+	}
+	has := map[string]bool{}
+	for _, one := range grants {
+		for _, operation := range one.Functions {
+			has[operation] = true
+		}
+	}
+	s.operations.Store(caller, has)
+	return has, nil
+}
+
 // find returns which of some rights a caller has. Those that the office of the callers doesn't know are left out: it would refuse
 // to answer.
 func (s *Set) find(ctx context.Context, caller string, wanted []right) (map[right]bool, error) {

@@ -10,18 +10,19 @@ import (
 	"rbac-node/api"
 )
 
-// mostAtOnce is how many requests of one caller may be at hand at once.
-const mostAtOnce = 64
-
 // A Guard has the set of callers that is in force.
 type Guard struct {
-	mutex  sync.Mutex
-	set    *Set
+	mutex sync.Mutex
+	set   *Set
+	// atOnce counts the requests in flight of each caller, of which it has at most as many as this.
 	atOnce map[string]int
+	most   int
 }
 
-// NewGuard returns a guard with a set that is in force at once.
-func NewGuard(set *Set) *Guard { return &Guard{set: set, atOnce: map[string]int{}} }
+// NewGuard returns a guard with a set that is in force at once. A caller may have so many requests in flight.
+func NewGuard(set *Set, most int) *Guard {
+	return &Guard{set: set, atOnce: map[string]int{}, most: most}
+}
 
 // A Visit is a request of a caller.
 type Visit struct {
@@ -45,7 +46,7 @@ func (g *Guard) Enter(r *http.Request) (visit *Visit, why, refused error) {
 	}
 	g.mutex.Lock()
 	defer g.mutex.Unlock()
-	if g.atOnce[caller] == mostAtOnce {
+	if g.atOnce[caller] == g.most {
 		g.leaveLocked(set)
 		return nil, nil, api.TooManyRequests
 	}
@@ -56,6 +57,11 @@ func (g *Guard) Enter(r *http.Request) (visit *Visit, why, refused error) {
 // May reports whether the caller may do all of some calls.
 func (v *Visit) May(ctx context.Context, calls ...*api.Call) error {
 	return v.set.May(ctx, v.Caller, calls...)
+}
+
+// MayAny refuses the caller if it has none of some operations, in no scope.
+func (v *Visit) MayAny(ctx context.Context, operations ...string) error {
+	return v.set.MayAny(ctx, v.Caller, operations...)
 }
 
 // MayRead reports whether the caller may do an operation that isn't a function of the office.
@@ -123,6 +129,17 @@ func (g *Guard) Replace(ctx context.Context, set *Set, ask func(context.Context)
 		return fmt.Errorf("requests that the earlier callers sent are still at hand: %w", ctx.Err())
 	}
 	return ask(ctx)
+}
+
+// Knows reports whether a request shows who asks.
+func (g *Guard) Knows(r *http.Request) bool {
+	g.mutex.Lock()
+	set := g.set
+	set.using++
+	g.mutex.Unlock()
+	defer g.leave(set)
+	_, err := set.identify(r)
+	return err == nil
 }
 
 // Why returns why the office of the callers gives no answer now, or an empty text.

@@ -32,7 +32,7 @@ func twoSets(t *testing.T) (sets [2]*Set) {
 
 func TestReplace(t *testing.T) {
 	sets := twoSets(t)
-	g := NewGuard(sets[0])
+	g := NewGuard(sets[0], 64)
 	call := callOf(t, `{"fn":"addUser","user":"ann"}`)
 	old, _, err := g.Enter(requestOf("a"))
 	if err != nil {
@@ -94,7 +94,7 @@ func (g *Guard) current() *Set {
 
 func TestReplaceThatTakesTooLong(t *testing.T) {
 	sets := twoSets(t)
-	g := NewGuard(sets[0])
+	g := NewGuard(sets[0], 64)
 	visit, _, err := g.Enter(requestOf("a"))
 	if err != nil {
 		t.Fatal(err)
@@ -110,9 +110,9 @@ func TestReplaceThatTakesTooLong(t *testing.T) {
 }
 
 func TestAtOnce(t *testing.T) {
-	g := NewGuard(twoSets(t)[0])
+	g := NewGuard(twoSets(t)[0], 3)
 	var visits []*Visit
-	for i := 0; i < mostAtOnce; i++ {
+	for i := 0; i < 3; i++ {
 		visit, _, err := g.Enter(requestOf("a"))
 		if err != nil {
 			t.Fatal(i, err)
@@ -142,7 +142,7 @@ func TestAtOnce(t *testing.T) {
 }
 
 func TestEnterWithoutIdentity(t *testing.T) {
-	g := NewGuard(twoSets(t)[0])
+	g := NewGuard(twoSets(t)[0], 3)
 	visit, why, err := g.Enter(requestOf("c"))
 	if visit != nil || why == nil || err != error(api.Unauthorized) || g.current().using != 0 {
 		t.Errorf("%v, %v, %v", visit, why, err)
@@ -153,7 +153,7 @@ func TestEnterWithoutIdentity(t *testing.T) {
 func TestManyReplaces(t *testing.T) {
 	options := optionsOf(t, policy(map[string][]right{"token:a": {{"addUser", "office"}}})...)
 	options.Tokens = write(t, "tokens", sumOf("a")+" a\n")
-	g := NewGuard(load(t, options))
+	g := NewGuard(load(t, options), 64)
 	call := callOf(t, `{"fn":"addUser","user":"ann"}`)
 	stop := make(chan struct{})
 	var clients sync.WaitGroup

@@ -160,13 +160,7 @@ func (s *Set) ofCertificates(chain []*x509.Certificate) (name string, until time
 	if s.authority == nil {
 		return "", until, errors.New("there is no authority for certificates")
 	}
-	between := x509.NewCertPool()
-	for _, one := range chain[1:] {
-		between.AddCert(one)
-	}
-	found, err := chain[0].Verify(x509.VerifyOptions{
-		Roots: s.authority, Intermediates: between, KeyUsages: []x509.ExtKeyUsage{x509.ExtKeyUsageClientAuth},
-	})
+	found, err := web.VerifyChain(chain, s.authority, x509.ExtKeyUsageClientAuth)
 	if err != nil {
 		return "", until, fmt.Errorf("certificate: %w", err)
 	}

@@ -3,6 +3,7 @@
 package callers
 
 import (
+	"bytes"
 	"crypto/ecdsa"
 	"crypto/rand"
 	"crypto/rsa"
@@ -10,12 +11,16 @@ import (
 	"encoding/base64"
 	"encoding/json"
 	"encoding/pem"
+	"io"
+	"math/big"
 	"strings"
 	"testing"
 	"time"
 
 	jose "gopkg.in/square/go-jose.v2"
 	"gopkg.in/square/go-jose.v2/jwt"
+
+	"rbac-node/logs"
 )
 
 // set returns the text of some keys.
@@ -60,7 +65,7 @@ func TestJWT(t *testing.T) {
 	}
 	ring, err := newVerifier(Files{Issuer: "https://id", Audience: "rbac", Subject: "sub", Keys: write(t, "keys", setOf(t,
 		jose.JSONWebKey{Key: &key.PublicKey, KeyID: "k1", Algorithm: "ES256", Use: "sig"},
-		jose.JSONWebKey{Key: &slow.PublicKey, KeyID: "k2"}))})
+		jose.JSONWebKey{Key: &slow.PublicKey, KeyID: "k2"}))}, logs.New(io.Discard))
 	if err != nil {
 		t.Fatal(err)
 	}
@@ -150,21 +155,74 @@ func TestKeys(t *testing.T) {
 		{"a secret", setOf(t, jose.JSONWebKey{Key: []byte("secret"), KeyID: "k"}), "isn't a public key"},
 		{"no kid", setOf(t, jose.JSONWebKey{Key: &key.PublicKey}), "has no kid"},
 		{"a kid twice", setOf(t, public, public), "another key has its kid"},
-		{"a key for encryption", setOf(t, jose.JSONWebKey{Key: &key.PublicKey, KeyID: "k", Use: "enc"}), "isn't for signatures"},
+		{"a key for encryption beside it", setOf(t, public, jose.JSONWebKey{Key: &short.PublicKey, Algorithm: "RSA-OAEP", KeyID: "k2", Use: "enc"}), ""},
+		{"only a key for encryption", setOf(t, jose.JSONWebKey{Key: &key.PublicKey, KeyID: "k", Use: "enc"}), "has none for signatures"},
+		{"a key for something else", setOf(t, jose.JSONWebKey{Key: &key.PublicKey, KeyID: "k", Use: "x"}), "isn't for signatures"},
+		{"an unknown sort of key beside it", strings.Replace(setOf(t, public), "[", `[{"kty":"AKP","kid":"k3","alg":"ML-DSA-44"},`, 1), ""},
+		{"only an unknown sort", `{"keys":[{"kty":"AKP","kid":"k3"}]}`, "has none for signatures"},
+		{"a large key", setOf(t, jose.JSONWebKey{Key: &rsa.PublicKey{N: new(big.Int).Lsh(big.NewInt(1), 8192), E: 65537}, KeyID: "k"}), "8193 bits"},
 		{"an algorithm with a secret", setOf(t, jose.JSONWebKey{Key: &key.PublicKey, KeyID: "k", Algorithm: "HS256"}), "isn't accepted"},
 		{"a short key", setOf(t, jose.JSONWebKey{Key: &short.PublicKey, KeyID: "k"}), "fewer than 2048 bits"},
 	} {
 		t.Run(test.name, func(t *testing.T) {
-			_, err := newVerifier(Files{Keys: write(t, "keys", test.text), Issuer: "i", Audience: "a", Subject: "sub"})
+			log := &bytes.Buffer{}
+			_, err := newVerifier(Files{Keys: write(t, "keys", test.text), Issuer: "i", Audience: "a", Subject: "sub"}, logs.New(log))
+			if isBeside := strings.Contains(test.name, "beside"); isBeside != strings.Contains(log.String(), "a key is left out") && test.says == "" {
+				t.Errorf("the log: %s", log)
+			}
 			if test.says == "" && err != nil || test.says != "" && (err == nil || !strings.Contains(err.Error(), test.says)) {
 				t.Errorf("%v and not %q", err, test.says)
 			}
 		})
 	}
-	if _, err := newVerifier(Files{Keys: write(t, "keys", setOf(t, public)), Issuer: "i", Subject: "sub"}); err == nil {
+	if _, err := newVerifier(Files{Keys: write(t, "keys", setOf(t, public)), Issuer: "i", Subject: "sub"}, logs.New(io.Discard)); err == nil {
 		t.Error("no audience")
 	}
-	if ring, err := newVerifier(Files{}); ring != nil || err != nil {
+	if ring, err := newVerifier(Files{}, logs.New(io.Discard)); ring != nil || err != nil {
 		t.Error(ring, err)
+	}
+}
+
+// A claim that users may set makes a caller only if the issuer has verified it, and those that nobody verifies are warned of.
+func TestSettableClaims(t *testing.T) {
+	key := newKey(t)
+	keys := write(t, "keys", setOf(t, jose.JSONWebKey{Key: &key.PublicKey, KeyID: "k"}))
+	now := time.Now()
+	for _, test := range []struct {
+		subject string
+		more    map[string]any
+		want    string
+		isSaid  string
+	}{
+		{"email", map[string]any{"email_verified": true}, "carla@example.com", ""},
+		{"email", map[string]any{"email_verified": false}, "", "hasn't verified"},
+		{"email", nil, "", "hasn't verified"},
+		{"email", map[string]any{"email_verified": "true"}, "", "hasn't verified"},
+		{"email", map[string]any{"email_verified": 1}, "", "hasn't verified"},
+		{"email", map[string]any{"EMAIL_VERIFIED": true}, "", "hasn't verified"},
+		{"phone_number", map[string]any{"email_verified": true}, "", "hasn't verified"},
+		{"phone_number", map[string]any{"phone_number_verified": true}, "carla@example.com", ""},
+		{"preferred_username", nil, "carla@example.com", "users may often set"},
+		{"name", nil, "carla@example.com", "users may often set"},
+		{"sub", nil, "carla@example.com", ""},
+	} {
+		log := &bytes.Buffer{}
+		ring, err := newVerifier(Files{Keys: keys, Issuer: "i", Audience: "a", Subject: test.subject}, logs.New(log))
+		if err != nil {
+			t.Fatal(err)
+		}
+		claims := map[string]any{"iss": "i", "aud": "a", "exp": now.Unix() + 60, test.subject: "carla@example.com"}
+		for name, value := range test.more {
+			claims[name] = value
+		}
+		token := sign(t, jose.ES256, key, map[jose.HeaderKey]any{"kid": "k"}, claims)
+		for i := 0; i < 2; i++ {
+			if name, err := ring.caller(token, now); name != test.want || (err == nil) != (test.want != "") {
+				t.Errorf("%s, %v: %q, %v", test.subject, test.more, name, err)
+			}
+		}
+		if said := strings.Count(log.String(), "\n"); test.isSaid != "" && !strings.Contains(log.String(), test.isSaid) || said > 1 || test.isSaid == "" && said > 0 {
+			t.Errorf("%s, %v: %s", test.subject, test.more, log)
+		}
 	}
 }

@@ -11,6 +11,7 @@ import (
 	"os"
 	"sort"
 	"strings"
+	"sync"
 	"time"
 
 	"rbac-node/api"
@@ -49,6 +50,8 @@ type Options struct {
 type Set struct {
 	feed *feed.Feed
 	kept kept
+	// operations has those that callers have in some scope: they never change while the set is in force.
+	operations sync.Map
 	// names has the callers, and rights the operations and scopes that the office has. It would refuse to answer for others.
 	names     map[string]bool
 	rights    map[right]bool
@@ -86,7 +89,7 @@ func Load(ctx context.Context, options Options) (*Set, error) {
 	if s.authority, err = web.ReadAuthority(options.Authority); err != nil {
 		return nil, err
 	}
-	if s.verifier, err = newVerifier(options.Files); err != nil {
+	if s.verifier, err = newVerifier(options.Files, options.Log); err != nil {
 		return nil, err
 	}
 	lines, err := s.readLines(options.Callers)

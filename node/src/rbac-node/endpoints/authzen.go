@@ -2,6 +2,7 @@ package endpoints
 
 import (
 	"encoding/json"
+	"fmt"
 	"net/http"
 	"strings"
 
@@ -44,11 +45,14 @@ func (e *Endpoints) evaluateOne(r *request, fields map[string]json.RawMessage) (
 	if err != nil {
 		return 0, err
 	}
-	q, err := asked.query()
-	if err != nil {
+	if err := asked.check(); err != nil {
 		return 0, err
 	}
-	decisions, err := e.decideAll(r, []query{q})
+	q, isKnown := asked.query()
+	if !isKnown {
+		return 0, errNotRead
+	}
+	decisions, err := e.decideAll(r, api.Rule{}, []query{q})
 	if err != nil {
 		return 0, err
 	}
@@ -57,7 +61,12 @@ func (e *Endpoints) evaluateOne(r *request, fields map[string]json.RawMessage) (
 
 // evaluations answers several evaluations at one place in the order. A body without any is one evaluation.
 func (e *Endpoints) evaluations(r *request) (int, error) {
-	fields, err := readObject(r)
+	var fields map[string]json.RawMessage
+	leave, err := e.readLarge(r, func(body []byte) (err error) {
+		fields, err = api.Fields(body)
+		return err
+	})
+	defer leave()
 	if err != nil {
 		return 0, err
 	}
@@ -77,15 +86,40 @@ func (e *Endpoints) evaluations(r *request) (int, error) {
 	if err != nil {
 		return 0, err
 	}
-	queries, err := readQueries(fields, list)
+	evaluations, err := readEvaluations(fields, list)
 	if err != nil {
 		return 0, err
 	}
-	decisions, err := e.decideAll(r, queries)
+	decisions, err := e.evaluateAll(r, evaluations)
 	if err != nil {
 		return 0, err
 	}
 	return r.reply(http.StatusOK, textOf(decisions, wanted)), nil
+}
+
+// evaluateAll decides evaluations. One about a subject or a resource of an unknown sort is refused by itself.
+func (e *Endpoints) evaluateAll(r *request, evaluations []evaluation) ([]decision, error) {
+	decisions := make([]decision, len(evaluations))
+	var queries []query
+	var places []int
+	for i, one := range evaluations {
+		if q, isKnown := one.query(); isKnown {
+			queries, places = append(queries, q), append(places, i)
+		} else {
+			decisions[i].code, decisions[i].name = errNotRead.Code, errNotRead.Name
+		}
+	}
+	if len(queries) == 0 {
+		return decisions, nil
+	}
+	found, err := e.decideAll(r, api.Rule{}, queries)
+	if err != nil {
+		return nil, err
+	}
+	for i, place := range places {
+		decisions[place] = found[i]
+	}
+	return decisions, nil
 }
 
 // textOf returns the answer to several evaluations.
@@ -111,13 +145,13 @@ func (d decision) appendTo(text []byte) []byte {
 	case d.code == 0:
 		return append(text, `{"decision":false}`...)
 	}
-	context, _ := json.Marshal(map[string]any{"code": d.code, "error": d.name}) // Both can be written.
-	return append(append(append(text, `{"context":`...), context...), `,"decision":false}`...)
+	status := api.StatusOf(api.RefusalText(d.code, d.name))
+	return append(text, fmt.Sprintf(`{"context":{"code":%d,"error":{"message":"%s","status":%d}},"decision":false}`, d.code, d.name, status)...)
 }
 
-// readObject reads the body of a request, which is an object of JSON.
+// readObject reads the body of a request about one thing, which is an object of JSON.
 func readObject(r *request) (map[string]json.RawMessage, error) {
-	body, err := api.ReadBody(r.Request, api.MaxBatchBytes)
+	body, err := api.ReadBody(r.Request, api.MaxBodyBytes)
 	if err != nil {
 		return nil, err
 	}
@@ -148,27 +182,26 @@ func readSemantic(options json.RawMessage) (wanted semantic, err error) {
 	return wanted, nil
 }
 
-// readQueries reads the evaluations of a list. What one of them leaves out is taken from the body.
-func readQueries(fields map[string]json.RawMessage, list []json.RawMessage) ([]query, error) {
+// readEvaluations reads the evaluations of a list. What one of them leaves out is taken from the body.
+func readEvaluations(fields map[string]json.RawMessage, list []json.RawMessage) ([]evaluation, error) {
 	general, err := readEvaluation(fields, evaluation{})
 	if err != nil {
 		return nil, err
 	}
-	queries := make([]query, len(list))
+	evaluations := make([]evaluation, len(list))
 	for i, one := range list {
 		fields, err := api.Fields(one)
 		if err != nil {
 			return nil, err
 		}
-		asked, err := readEvaluation(fields, general)
-		if err != nil {
+		if evaluations[i], err = readEvaluation(fields, general); err != nil {
 			return nil, err
 		}
-		if queries[i], err = asked.query(); err != nil {
+		if err := evaluations[i].check(); err != nil {
 			return nil, err
 		}
 	}
-	return queries, nil
+	return evaluations, nil
 }
 
 // readEvaluation reads an evaluation. What it leaves out is taken from another one.
@@ -206,17 +239,19 @@ func readEntity(value json.RawMessage) (read entity, err error) {
 	return read, err
 }
 
-// query returns what the office decides. The object is the id of the resource if its type is "object", and otherwise TYPE:ID. So a type
-// has no colon: otherwise two resources could be one object.
-func (asked evaluation) query() (q query, err error) {
+// check refuses an evaluation that lacks a part.
+func (asked evaluation) check() error {
 	for _, text := range []string{asked.subject.kind, asked.subject.id, asked.action, asked.resource.kind, asked.resource.id} {
 		if text == "" {
-			return q, errNotRead
+			return errNotRead
 		}
 	}
-	if strings.Contains(asked.resource.kind, ":") {
-		return q, errNotRead
-	}
+	return nil
+}
+
+// query returns what the office decides, or false if it knows no such subjects or resources. The object is the id of the resource if its
+// type is "object", and otherwise TYPE:ID. So a type has no colon: otherwise two resources could be one object.
+func (asked evaluation) query() (q query, isKnown bool) {
 	q.operation, q.object = asked.action, asked.resource.id
 	if asked.resource.kind != "object" {
 		q.object = asked.resource.kind + ":" + asked.resource.id
@@ -226,10 +261,8 @@ func (asked evaluation) query() (q query, err error) {
 		q.session = asked.subject.id
 	case "user":
 		q.user = asked.subject.id
-	default:
-		return q, errNotRead
 	}
-	return q, nil
+	return q, q.session+q.user != "" && !strings.Contains(asked.resource.kind, ":")
 }
 
 // configurationPath is where clients of AuthZEN look for the end points.

@@ -16,11 +16,12 @@ func (e *Endpoints) batch(r *request) (int, error) {
 	if err != nil {
 		return 0, err
 	}
-	body, err := api.ReadBody(r.Request, api.MaxBatchBytes)
-	if err != nil {
-		return 0, err
-	}
-	calls, err := api.ParseBatch(body)
+	var calls []*api.Call
+	leave, err := e.readLarge(r, func(body []byte) (err error) {
+		calls, err = api.ParseBatch(body)
+		return err
+	})
+	defer leave()
 	var at *api.LineError
 	if errors.As(err, &at) {
 		r.w.Header().Set("Office-Line", strconv.Itoa(at.Number))
@@ -74,6 +75,7 @@ func (e *Endpoints) do(r *request, rule api.Rule, lines []*api.Call) ([][]byte, 
 		return nil, err
 	}
 	var answers [][]byte
+	allowed, denied := 0, 0
 	for i := 0; len(found) > 0; i++ {
 		if queries[i] == nil {
 			answers, found = append(answers, found[0]), found[1:]
@@ -84,10 +86,17 @@ func (e *Endpoints) do(r *request, rule api.Rule, lines []*api.Call) ([][]byte, 
 			}
 			answers, found = append(answers, decided.text()), found[askedOfUser:]
 		}
+		switch isDecision := lines[i].Function == checkAccess || queries[i] != nil; {
+		case isDecision && string(answers[i]) == api.Allowed:
+			allowed++
+		case isDecision:
+			denied++
+		}
 		if rule.IsStopped && !api.IsAccepted(answers[i]) {
 			break
 		}
 	}
+	e.Decided(allowed, denied)
 	return answers, nil
 }
 

@@ -18,12 +18,15 @@ type decision struct {
 // A query is what is to be decided: may a session, or a user in some session, do an operation on an object? One of the two is empty.
 type query struct{ session, user, operation, object string }
 
+// checkAccess is the function that decides about a session.
+const checkAccess = "checkAccess"
+
 // call returns the call that has to be allowed to the visitor.
 func (q query) call() (*api.Call, error) {
 	if q.user != "" {
 		return api.NewOther(api.DecideByUser, "user", q.user, "operation", q.operation, "object", q.object), nil
 	}
-	return api.NewCall("checkAccess", "session", q.session, "operation", q.operation, "object", q.object)
+	return api.NewCall(checkAccess, "session", q.session, "operation", q.operation, "object", q.object)
 }
 
 // readQuery reads a query about what is at one of some keys, of which one has to be there.
@@ -48,8 +51,8 @@ func readQuery(fields map[string]json.RawMessage, keys ...string) (q query, err 
 	return q, nil
 }
 
-// decideAll decides queries of a visitor at one place in the order.
-func (e *Endpoints) decideAll(r *request, queries []query) ([]decision, error) {
+// decideAll decides queries of a visitor at one place in the order, if the policy is as a rule says.
+func (e *Endpoints) decideAll(r *request, rule api.Rule, queries []query) ([]decision, error) {
 	calls, views := make([]*api.Call, len(queries)), make([]view, len(queries))
 	var asked []*api.Call
 	for i := range queries {
@@ -70,11 +73,19 @@ func (e *Endpoints) decideAll(r *request, queries []query) ([]decision, error) {
 	if err := r.may(calls...); err != nil {
 		return nil, err
 	}
-	answers, err := e.ask(r, api.Rule{}, asked...)
+	answers, err := e.ask(r, rule, asked...)
 	if err != nil {
 		return nil, err
 	}
-	return decisionsOf(queries, answers, views)
+	decisions, err := decisionsOf(queries, answers, views)
+	allowed := 0
+	for _, one := range decisions {
+		if one.allowed {
+			allowed++
+		}
+	}
+	e.Decided(allowed, len(decisions)-allowed)
+	return decisions, err
 }
 
 // questionsAbout returns what is asked for a query about a user, and notes what is known of the office at its place.
@@ -110,7 +121,7 @@ func decisionsOf(queries []query, answers [][]byte, views []view) ([]decision, e
 
 // decisionOf returns the decision that an answer of the office to checkAccess is.
 func decisionOf(answer []byte) (d decision) {
-	d.allowed = string(answer) == `{"ok":true,"value":true}`
+	d.allowed = string(answer) == api.Allowed
 	d.code, d.name = api.CodeOf(answer)
 	return d
 }
@@ -130,7 +141,7 @@ func (e *Endpoints) decide(r *request) (int, error) {
 	if asked.session+asked.user == "" {
 		return r.status(http.StatusForbidden), nil // Nobody has logged in.
 	}
-	decisions, err := e.decideAll(r, []query{asked})
+	decisions, err := e.decideAll(r, api.Rule{}, []query{asked})
 	if err != nil {
 		return 0, err
 	}

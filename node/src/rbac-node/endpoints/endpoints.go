@@ -26,8 +26,10 @@ type Office interface {
 
 // A Visitor is who asks, if there are callers.
 type Visitor interface {
-	// May reports whether the caller may do all of some calls. An error is a refusal.
+	// May reports whether the caller may do all of some calls. An error is a refusal. MayAny refuses a caller that has none of some
+	// operations, in no scope.
 	May(ctx context.Context, calls ...*api.Call) error
+	MayAny(ctx context.Context, operations ...string) error
 	// Done says that the office has nothing more to do for the request.
 	Done()
 	// Name returns the name of the caller, and Rights what it may do.
@@ -43,6 +45,8 @@ type Options struct {
 	PublicURL string
 	// Note is called after each answer, with its kind and status, and when the request began.
 	Note func(kind api.Kind, status int, start time.Time)
+	// Decided is called with how many decisions about access have allowed something and how many have denied it.
+	Decided func(allowed, denied int)
 	// Sign writes on a command who asks for it and why, or refuses it.
 	Sign func(r *http.Request, visitor Visitor, call *api.Call) error
 	// Denied is called if a caller may not do something.
@@ -56,13 +60,15 @@ type Endpoints struct {
 	life   context.Context
 	office Office
 	at     map[string]endpoint
-	// tickets let reports be read.
-	tickets *tickets
+	// tickets let reports be read, and slots large answers be made. bodies has slots for large bodies.
+	tickets       *tickets
+	slots, bodies *slots
+	snapshotted   snapshotted
 }
 
 // New returns endpoints that answer until the context ends.
 func New(life context.Context, office Office, options Options) *Endpoints {
-	e := &Endpoints{Options: options, life: life, office: office, tickets: newTickets()}
+	e := &Endpoints{Options: options, life: life, office: office, tickets: newTickets(), slots: newSlots(), bodies: newSlots()}
 	e.add()
 	return e
 }
@@ -79,32 +85,41 @@ type request struct {
 }
 
 // An endpoint is what is at a path: how a request is counted, its methods, and what answers it and returns the status, or an error
-// that is answered.
+// that is answered. A caller needs one of the operations before a body that isn't small is read, if there are any: what the body names
+// is judged later.
 type endpoint struct {
-	kind    api.Kind
-	methods []string
-	answer  func(*request) (int, error)
+	kind       api.Kind
+	methods    []string
+	answer     func(*request) (int, error)
+	operations []string
 }
+
+// What needs some right to what a body may name.
+var (
+	deciding   = []string{checkAccess, api.DecideByUser}
+	explaining = append(state.SeparatingFunctions(), deciding...)
+	batching   = append(api.Functions(), api.DecideByUser)
+)
 
 // add adds what the endpoints are.
 func (e *Endpoints) add() {
 	e.at = map[string]endpoint{
-		"/v1/batch":              {"batch", post, e.batch},
-		"/v1/decideByUser":       {"decision", post, e.decideByUser},
-		"/decide":                {"decision", getOrPost, e.decide},
-		"/access/v1/evaluation":  {"decision", post, e.evaluation},
-		"/access/v1/evaluations": {"batch", post, e.evaluations},
-		"/explain":               {"question", post, e.explain},
-		"/sessions":              {"command", post, e.makeSession},
-		severalLists:             {"list", post, e.lists},
-		"/snapshot":              {"list", get, e.snapshot},
-		"/watch":                 {"watch", get, e.watch},
-		"/caller":                {"question", get, e.caller},
-		"/record":                {"list", get, e.record},
-		"/room":                  {"list", get, e.room},
-		"/picture":               {"picture", get, e.picture},
-		"/what-if":               {"trial", post, e.whatIf},
-		"/reviews":               {"command", post, e.endReview},
+		"/v1/batch":              {"batch", post, e.batch, batching},
+		"/v1/decideByUser":       {"decision", post, e.decideByUser, deciding[1:]},
+		"/decide":                {"decision", getOrPost, e.decide, nil},
+		"/access/v1/evaluation":  {"decision", post, e.evaluation, deciding},
+		"/access/v1/evaluations": {"batch", post, e.evaluations, deciding},
+		"/explain":               {"question", post, e.explain, explaining},
+		"/sessions":              {"command", post, e.makeSession, []string{"createSession"}},
+		severalLists:             {"list", post, e.lists, nil},
+		"/snapshot":              {"list", get, e.snapshot, nil},
+		"/watch":                 {"watch", get, e.watch, nil},
+		"/caller":                {"question", get, e.caller, nil},
+		"/record":                {"list", get, e.record, nil},
+		"/room":                  {"list", get, e.room, nil},
+		"/picture":               {"picture", get, e.picture, nil},
+		"/what-if":               {"trial", post, e.whatIf, nil},
+		"/reviews":               {"command", post, e.endReview, nil},
 	}
 }
 
@@ -112,13 +127,13 @@ func (e *Endpoints) add() {
 func (e *Endpoints) find(target string) (found endpoint, has bool) {
 	path, _, _ := strings.Cut(target, "?")
 	if strings.HasPrefix(path, sessionsPath) {
-		return endpoint{"command", []string{http.MethodDelete}, e.deleteSession}, true
+		return endpoint{"command", []string{http.MethodDelete}, e.deleteSession, nil}, true
 	}
 	if strings.HasPrefix(path, listsPath) {
-		return endpoint{"list", get, e.list}, true
+		return endpoint{"list", get, e.list, nil}, true
 	}
 	if strings.HasPrefix(path, reportsPath) {
-		return endpoint{"report", post, e.report}, true
+		return endpoint{"report", post, e.report, nil}, true
 	}
 	found, has = e.at[path]
 	return found, has
@@ -139,16 +154,15 @@ func (e *Endpoints) Serve(w http.ResponseWriter, r *http.Request, visitor Visito
 	sign := func(call *api.Call) error { return e.Sign(r, visitor, call) }
 	kind, err := api.KindOfQuestions(r)
 	asked := &request{r, sign, w, e.life, visitor, kind}
-	if id := r.Header.Get("X-Request-ID"); id != "" && strings.HasPrefix(r.URL.Path, "/access/") {
-		w.Header().Set("X-Request-ID", id)
-	}
 	status := 0
 	switch {
 	case err != nil:
-	case has(at.methods, r.Method):
-		status, err = at.answer(asked)
-	default:
+	case !has(at.methods, r.Method):
 		err = api.BadRequest(http.StatusMethodNotAllowed)
+	default:
+		if err = asked.mayAny(at.operations); err == nil {
+			status, err = at.answer(asked)
+		}
 	}
 	asked.done()
 	if err != nil {
@@ -198,6 +212,14 @@ func (e *Endpoints) ask(r *request, rule api.Rule, calls ...*api.Call) ([][]byte
 	}
 	answers.SetHead(r.w.Header())
 	return answers.Texts, nil
+}
+
+// mayAny refuses the request of a visitor that has none of some operations, if there are any, unless its body is small.
+func (r *request) mayAny(operations []string) error {
+	if r.visitor == nil || operations == nil || r.ContentLength <= api.SmallBody {
+		return nil
+	}
+	return r.visitor.MayAny(r.ctx, operations...)
 }
 
 // may refuses calls unless the visitor may do all of them.

@@ -20,11 +20,11 @@ type explanation struct {
 }
 
 // A source is a role to which the permission is granted directly, with the roles that the user is assigned to or that were activated
-// in the session, and that are the role or a senior of it.
+// in the session, and that are the role or a senior of it. Assigned is nil if the caller may not know it, which isn't an empty list.
 type source struct {
-	Activated []string `json:"activated,omitempty"`
-	Assigned  []string `json:"assigned"`
-	Role      string   `json:"role"`
+	Activated []string  `json:"activated,omitempty"`
+	Assigned  *[]string `json:"assigned,omitempty"`
+	Role      string    `json:"role"`
 }
 
 // A blocked role is one that has too many members of a dynamic set among itself and its juniors.
@@ -100,7 +100,8 @@ func (e *Endpoints) explainedUser(r *request, q query) (shown *explanation, refu
 	// To whom a lock is shown is the one who may change it: no function answers it.
 	shown.Locked = found.isLocked && r.mayAsk("lockUserAccount", q)
 	for _, role := range found.by {
-		shown.By = append(shown.By, source{Assigned: above(seen.graph, assigned, role), Role: role})
+		by := above(seen.graph, assigned, role)
+		shown.By = append(shown.By, source{Assigned: &by, Role: role})
 	}
 	hasSets := r.mayAsk("dsdRoleSetRoles", q)
 	for _, role := range found.blocked {
@@ -174,9 +175,9 @@ func (shown *explanation) addSources(granted, roles []byte, from sources) error 
 	}
 	for _, role := range all {
 		assigned := above(from.graph, from.assigned, role)
-		one := source{Activated: above(from.graph, from.activated, role), Assigned: []string{}, Role: role}
+		one := source{Activated: above(from.graph, from.activated, role), Role: role}
 		if from.showsRoles {
-			one.Assigned = assigned
+			one.Assigned = &assigned
 		}
 		switch {
 		case has(own, role):

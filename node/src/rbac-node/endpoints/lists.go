@@ -45,11 +45,21 @@ func (e *Endpoints) list(r *request) (int, error) {
 	if err != nil {
 		return 0, err
 	}
-	found, err := e.page(r, s, query)
+	leave, err := e.slot(r)
 	if err != nil {
 		return 0, err
 	}
-	return r.reply(http.StatusOK, found.text()), nil
+	defer leave()
+	var text []byte
+	err = e.slots.make(r.ctx, func() error {
+		found, err := e.page(r, s, query)
+		text = found.text()
+		return err
+	})
+	if err != nil {
+		return 0, err
+	}
+	return r.reply(http.StatusOK, text), nil
 }
 
 // lists answers parts of several lists, a line for each. The head of the answer says which revision of the policy all are from, if
@@ -74,7 +84,29 @@ func (e *Endpoints) lists(r *request) (int, error) {
 	if err != nil {
 		return 0, err
 	}
-	before, answers := s.Numbers(), make([][]byte, len(queries))
+	leave, err := e.slot(r)
+	if err != nil {
+		return 0, err
+	}
+	defer leave()
+	before, answers := s.Numbers(), [][]byte(nil)
+	err = e.slots.make(r.ctx, func() error {
+		answers, err = e.pages(r, s, queries)
+		return err
+	})
+	if err != nil {
+		return 0, err
+	}
+	if s.Numbers().Policy != before.Policy {
+		api.ForgetPolicy(r.w.Header())
+	}
+	r.done()
+	return writeLines(r.w, answers), nil
+}
+
+// pages returns the answers to queries of several lists.
+func (e *Endpoints) pages(r *request, s *state.State, queries []listQuery) ([][]byte, error) {
+	answers := make([][]byte, len(queries))
 	for i, query := range queries {
 		found, err := e.page(r, s, query)
 		var refused api.Refusal
@@ -84,14 +116,10 @@ func (e *Endpoints) lists(r *request) (int, error) {
 		case errors.As(err, &refused) && refused.Status == http.StatusConflict:
 			answers[i] = api.RefusalText(refused.Code, refused.Name)
 		default:
-			return 0, err
+			return nil, err
 		}
 	}
-	if s.Numbers().Policy != before.Policy {
-		api.ForgetPolicy(r.w.Header())
-	}
-	r.done()
-	return writeLines(r.w, answers), nil
+	return answers, nil
 }
 
 // page returns the rows of a list that are wanted.

@@ -74,6 +74,13 @@ func (r *request) replyRecord(page recorded.Page) (int, error) {
 	return r.replyValue(value)
 }
 
+// wrongFilter returns the refusal of a filter that chooses nothing as it is written.
+func wrongFilter(why string) error {
+	refused := errNotRead
+	refused.Why = why
+	return refused
+}
+
 // readRecordQuery reads which entries are wanted.
 func readRecordQuery(text string) (query recorded.Query, err error) {
 	values, err := url.ParseQuery(text)
@@ -81,35 +88,50 @@ func readRecordQuery(text string) (query recorded.Query, err error) {
 		return query, errNotRead
 	}
 	query.Limit = usualRows
-	texts := map[string]*string{
-		"user": &query.User, "role": &query.Role, "object": &query.Object, "function": &query.Function, "caller": &query.Caller,
-		"since": &query.Since, "until": &query.Until,
-	}
 	for key, given := range values {
 		if len(given) != 1 {
-			return query, errNotRead
+			return query, wrongFilter(strconv.QuoteToASCII(key) + " is there more than once")
 		}
-		switch place, isText := texts[key]; {
-		case isText:
-			*place = given[0]
-		case key == "refused":
-			query.IsRefused = given[0] == "true"
-			if !query.IsRefused && given[0] != "false" {
-				return query, errNotRead
-			}
-		case key == "limit":
-			query.Limit, err = strconv.Atoi(given[0])
-			if err != nil || query.Limit < 1 || query.Limit > mostRows {
-				return query, errNotRead
-			}
-		case key == "before":
-			query.Before, err = strconv.ParseInt(given[0], 10, 64)
-			if err != nil || query.Before < 1 {
-				return query, errNotRead
-			}
-		default:
-			return query, errNotRead
+		if err := setFilter(&query, key, given[0]); err != nil {
+			return query, err
 		}
 	}
 	return query, nil
+}
+
+// setFilter sets what a key of a query chooses.
+func setFilter(query *recorded.Query, key, text string) (err error) {
+	texts := map[string]*string{
+		"user": &query.User, "role": &query.Role, "object": &query.Object, "caller": &query.Caller, "function": &query.Function,
+	}
+	times := map[string]*string{"since": &query.Since, "until": &query.Until}
+	switch {
+	case texts[key] != nil:
+		*texts[key] = text
+		if _, isKnown := api.KindOf(text); key == "function" && text != "" && !isKnown {
+			return wrongFilter("there is no function " + strconv.QuoteToASCII(text))
+		}
+	case times[key] != nil:
+		if *times[key], err = recorded.ParseTime(text); err != nil {
+			return wrongFilter(key + ": " + err.Error())
+		}
+	case key == "refused":
+		query.IsRefused = text == "true"
+		if text != "true" && text != "false" {
+			return wrongFilter("refused is true or false")
+		}
+	case key == "limit":
+		query.Limit, err = strconv.Atoi(text)
+		if err != nil || query.Limit < 1 || query.Limit > mostRows {
+			return wrongFilter("limit is a number from 1 to " + strconv.Itoa(mostRows))
+		}
+	case key == "before":
+		query.Before, err = strconv.ParseInt(text, 10, 64)
+		if err != nil || query.Before < 1 {
+			return wrongFilter("before is the number of an entry")
+		}
+	default:
+		return wrongFilter("the record has no filter " + strconv.QuoteToASCII(key))
+	}
+	return nil
 }

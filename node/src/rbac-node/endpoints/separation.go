@@ -51,7 +51,14 @@ func (e *Endpoints) explainCommand(r *request, line json.RawMessage) (int, error
 	if err != nil {
 		return 0, err
 	}
-	found := s.Conflicts(call)
+	var found []state.Conflict
+	err = e.slots.make(r.ctx, func() error {
+		found = s.Conflicts(call)
+		return nil
+	})
+	if err != nil {
+		return 0, err
+	}
 	shown := separation{Refused: len(found) > 0}
 	for _, one := range found {
 		if r.mayAskAll(setFunctions(one.IsStatic)...) {

@@ -101,7 +101,11 @@ func (e *Endpoints) decideByUser(r *request) (int, error) {
 	if err != nil {
 		return 0, err
 	}
-	decisions, err := e.decideAll(r, []query{q})
+	rule, err := api.RuleOf(r.Request, e.office)
+	if err != nil {
+		return 0, err
+	}
+	decisions, err := e.decideAll(r, rule, []query{q})
 	if err != nil {
 		return 0, err
 	}

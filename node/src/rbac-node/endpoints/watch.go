@@ -36,7 +36,20 @@ func (e *Endpoints) snapshot(r *request) (int, error) {
 	if err != nil {
 		return 0, err
 	}
-	text, numbers := s.Snapshot()
+	leave, err := e.slots.enterSnapshot(r.ctx, r.caller())
+	if err != nil {
+		return 0, err
+	}
+	defer leave()
+	var text []byte
+	var numbers state.Numbers
+	err = e.slots.make(r.ctx, func() error {
+		text, numbers = e.snapshotted.of(s)
+		return nil
+	})
+	if err != nil {
+		return 0, err
+	}
 	r.isAt(numbers)
 	r.done()
 	head := r.w.Header()

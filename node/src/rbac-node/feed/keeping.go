@@ -3,6 +3,8 @@ package feed
 import (
 	"sync"
 	"time"
+
+	"rbac-node/faults"
 )
 
 const (
@@ -43,6 +45,9 @@ func newKeeping(keeper Keeper, units chan<- *Unit, resting *sync.Mutex) *keeping
 func (k *keeping) answer(u *Unit) {
 	k.mutex.Lock()
 	k.answered = append(k.answered, u)
+	if last := len(k.answered) - 1; faults.Has(faults.MixesUp) {
+		k.answered[0], k.answered[last] = k.answered[last], k.answered[0]
+	}
 	k.open -= len(u.Lines)
 	k.mutex.Unlock()
 	select {
@@ -151,6 +156,11 @@ func (k *keeping) keep(answered, asked []*Unit) error {
 		}
 		wanted = append(wanted, u)
 	}
+	left := wanted
+	if faults.Has(faults.SendsEarly) {
+		left = k.pass(wanted)
+		time.Sleep(500 * time.Microsecond)
+	}
 	err := k.keeper.Keep(answered, wanted)
 	for _, u := range answered {
 		if err != nil {
@@ -159,10 +169,10 @@ func (k *keeping) keep(answered, asked []*Unit) error {
 		}
 		u.release()
 	}
-	if err == nil {
-		wanted = k.pass(wanted)
+	if err == nil && !faults.Has(faults.SendsEarly) {
+		left = k.pass(wanted)
 	}
-	for _, u := range wanted {
+	for _, u := range left {
 		u.lose()
 	}
 	return err

@@ -16,14 +16,14 @@ func (f *Front) serveEndpoints(life context.Context) {
 		return
 	}
 	f.endpoints = endpoints.New(life, office, endpoints.Options{
-		PublicURL: f.PublicURL, Note: f.handler.Note,
+		PublicURL: f.PublicURL, Note: f.handler.Note, Decided: f.handler.Decided,
 		Sign: func(r *http.Request, visitor endpoints.Visitor, call *api.Call) error {
 			visit, _ := visitor.(*callers.Visit)
 			return sign(r, visit, call)
 		},
 		Denied: func(r *http.Request, visitor endpoints.Visitor, err error) {
 			if visit, is := visitor.(*callers.Visit); is {
-				f.note(r, visit.Caller, errDenied, refusalOf(err))
+				_ = f.denied(r, visit, err) // It is answered.
 			}
 		},
 	})

@@ -37,8 +37,9 @@ type Options struct {
 	// IsHostChecked says that requests from this machine need a Host of this machine if there are no callers.
 	IsHostChecked bool
 	// HasMetrics says that clients get the metrics here.
-	HasMetrics  bool
-	Connections int
+	HasMetrics bool
+	// Connections is how many there may be at once, and CallerRequests how many requests of one caller.
+	Connections, CallerRequests int
 	// PublicURL is where clients find the front, or empty.
 	PublicURL     string
 	AnswerTimeout time.Duration
@@ -91,8 +92,8 @@ func New(ctx context.Context, options Options) (*Front, error) {
 		}
 		return 0
 	})
-	options.Metrics.Gauge("rbac_node_callers_refused_since_seconds",
-		"Since when the files of the callers are not those in force, or 0.", f.refusedAt.load)
+	options.Metrics.Gauge("rbac_node_callers_refused_timestamp_seconds",
+		"Since when the files of the callers are not those in force, in seconds of Unix, or 0.", f.refusedAt.load)
 	if err := f.loadTLS(); err != nil {
 		return nil, err
 	}
@@ -120,15 +121,12 @@ func (f *Front) loadTLS() error {
 	if err != nil {
 		return err
 	}
-	// Without this a client could resume a session that an earlier authority has begun.
-	config.SessionTicketsDisabled = true
 	config.NextProtos = []string{"http/1.1"}
 	if !f.IsOpen() && f.TLS.CA != "" {
-		config.ClientAuth = tls.VerifyClientCertIfGiven
 		plain := config.Clone()
 		config.GetConfigForClient = func(*tls.ClientHelloInfo) (*tls.Config, error) {
 			current := plain.Clone()
-			current.ClientCAs = f.guard.Authority()
+			web.VerifyClients(current, f.guard.Authority(), false)
 			return current, nil
 		}
 	}
@@ -151,7 +149,7 @@ func (f *Front) loadCallers(ctx context.Context) error {
 			return err
 		}
 	}
-	f.guard = callers.NewGuard(set)
+	f.guard = callers.NewGuard(set, f.CallerRequests)
 	return nil
 }
 

@@ -22,7 +22,10 @@ import (
 )
 
 // An echo is an office that answers each call with its line, and the opening question with nothing special.
-type echo struct{ asked []string }
+type echo struct {
+	asked  []string
+	health string
+}
 
 func (e *echo) Do(_ context.Context, b api.Batch) (api.Answers, error) {
 	e.asked = append(e.asked, string(b.Calls[0].Line))
@@ -30,7 +33,7 @@ func (e *echo) Do(_ context.Context, b api.Batch) (api.Answers, error) {
 }
 
 func (e *echo) ServeHealth(w http.ResponseWriter, _ *http.Request) {
-	_, _ = io.WriteString(w, "healthy")
+	_, _ = io.WriteString(w, e.health)
 }
 
 const rules = `{"fn":"addUser","user":"token:desk"}
@@ -53,7 +56,7 @@ func newFront(t *testing.T, rules string, change func(*Options)) (*Front, *echo,
 	t.Helper()
 	log, folder := &bytes.Buffer{}, t.TempDir()
 	options := Options{
-		IsHostChecked: true, HasMetrics: true, Connections: 10, AnswerTimeout: time.Minute, Log: logs.New(log), Metrics: &metrics.Registry{},
+		IsHostChecked: true, HasMetrics: true, Connections: 10, CallerRequests: 64, AnswerTimeout: time.Minute, Log: logs.New(log), Metrics: &metrics.Registry{},
 		Origins: []string{"https://console.example"},
 	}
 	if rules != "" {
@@ -72,7 +75,7 @@ func newFront(t *testing.T, rules string, change func(*Options)) (*Front, *echo,
 		t.Fatal(err)
 	}
 	t.Cleanup(f.Close)
-	office := &echo{}
+	office := &echo{health: `{"ready":"healthy"}`}
 	f.Serve(context.Background(), func(func() error) {}, office)
 	return f, office, log
 }
@@ -165,6 +168,44 @@ func TestRequests(t *testing.T) {
 				t.Error("it isn't noted")
 			}
 		})
+	}
+}
+
+// Who doesn't show who asks learns that something doesn't work, and no paths.
+func TestHealth(t *testing.T) {
+	for _, test := range []struct{ name, rules, token, health, want string }{
+		{"a stranger", rules, "", `{"ready":false,"why":"open /var/lib/x"}`, `{"ready":false,"why":"the office doesn't answer"}`},
+		{"a wrong token", rules, "x", `{"ready":true,"record":"/x is full"}`, `{"ready":true,"record":"commands can't be recorded"}`},
+		{"a stranger, and nothing is wrong", rules, "", `{"ready":true}`, `{"ready":true}`},
+		{"a caller", rules, "secret", `{"ready":false,"why":"open /var/lib/x"}`, `{"ready":false,"why":"open /var/lib/x"}`},
+		{"anybody, if that may do everything", "", "", `{"ready":false,"why":"open /var/lib/x"}`, `{"ready":false,"why":"open /var/lib/x"}`},
+	} {
+		f, office, _ := newFront(t, test.rules, nil)
+		office.health = test.health
+		r := httptest.NewRequest("GET", "/healthz", nil)
+		r.Host = "localhost"
+		if test.token != "" {
+			r.Header.Set("Authorization", "Bearer "+test.token)
+		}
+		w := httptest.NewRecorder()
+		f.ServeHTTP(w, r)
+		if given := strings.TrimSpace(w.Body.String()); given != test.want {
+			t.Errorf("%s: %s and not %s", test.name, given, test.want)
+		}
+	}
+}
+
+// A request of AuthZEN keeps its number, whatever is answered.
+func TestRequestNumber(t *testing.T) {
+	f, _, _ := newFront(t, rules, nil)
+	for path, want := range map[string]string{"/access/v1/evaluation": "n 7", assign: ""} {
+		r := httptest.NewRequest("POST", path, strings.NewReader("{}"))
+		r.Header.Set("X-Request-ID", "n 7")
+		w := httptest.NewRecorder()
+		f.ServeHTTP(w, r)
+		if given := w.Header().Get("X-Request-ID"); w.Code != 401 || given != want {
+			t.Errorf("%s: %d with %q", path, w.Code, given)
+		}
 	}
 }
 

@@ -14,21 +14,33 @@ import (
 	"rbac-node/api"
 	"rbac-node/callers"
 	"rbac-node/console"
+	"rbac-node/web"
 )
+
+// requestField is the field in which a client of AuthZEN numbers its requests.
+const requestField = "X-Request-Id"
 
 // ServeHTTP answers a request, unless it comes from a foreign page or nobody knows who asks.
 func (f *Front) ServeHTTP(w http.ResponseWriter, r *http.Request) {
+	if !isFramed(w, r) {
+		web.Refused(r.Context())
+		api.Refuse(w, api.BadRequest(http.StatusNotImplemented))
+		return
+	}
+	if id := r.Header[requestField]; len(id) > 0 && strings.HasPrefix(r.URL.Path, "/access/") {
+		w.Header()[requestField] = id[:1] // As AuthZEN wants it, whatever is answered.
+	}
 	if !f.isServing.Load() {
 		f.serveStart(w, r)
 		return
 	}
 	if origins, has := r.Header["Origin"]; has && !f.areOwn(origins) && !(f.endpoints != nil && isOwnPage(r, origins)) {
-		w.Header().Set("Connection", "close") // Nothing more is read from it.
+		api.Close(w)
 		f.refuse(w, r, "", errors.New("a page of "+strings.Join(origins, ", ")), api.ForeignOrigin)
 		return
 	}
 	if f.IsHostChecked && f.guard == nil && f.isLocal && !isLocalHost(r.Host) {
-		w.Header().Set("Connection", "close")
+		api.Close(w)
 		f.refuse(w, r, "", errors.New("the host "+r.Host), api.ForeignHost)
 		return
 	}
@@ -57,6 +69,16 @@ func (f *Front) ServeHTTP(w http.ResponseWriter, r *http.Request) {
 	f.answer(w, r, visit)
 }
 
+// isFramed reports whether a request has no transfer coding, which the front doesn't accept. It ends the connection behind a request of
+// which two might not see the same end, such as the front and a proxy before it: RFC 9112, section 6, says which are. Of a length beside
+// a coding the library says nothing, and nothing of a coding in HTTP/1.0. What else is wrong with a length it refuses itself.
+func isFramed(w http.ResponseWriter, r *http.Request) bool {
+	if len(r.TransferEncoding) > 0 || !r.ProtoAtLeast(1, 1) {
+		api.Close(w)
+	}
+	return len(r.TransferEncoding) == 0
+}
+
 // serveStart answers before the office does: it reports what the start does.
 func (f *Front) serveStart(w http.ResponseWriter, r *http.Request) {
 	if r.URL.Path != "/healthz" {
@@ -67,13 +89,51 @@ func (f *Front) serveStart(w http.ResponseWriter, r *http.Request) {
 	replyUnready(w, "starting: "+stage)
 }
 
-// serveHealth reports the condition of the office, unless no caller can be judged.
+// serveHealth reports the condition of the office, unless no caller can be judged. Strangers learn no more than what doesn't work: the
+// reasons have paths of files and what programs have said.
 func (f *Front) serveHealth(w http.ResponseWriter, r *http.Request) {
-	if f.guard == nil || f.guard.Why() == "" {
+	isStranger := f.guard != nil && !f.guard.Knows(r)
+	switch why := f.whyUnjudged(); {
+	case why != "" && isStranger:
+		replyUnready(w, "no caller can be judged")
+	case why != "":
+		replyUnready(w, "callers: "+why)
+	case isStranger:
+		f.office.ServeHealth(&discreet{ResponseWriter: w}, r)
+	default:
 		f.office.ServeHealth(w, r)
-		return
 	}
-	replyUnready(w, "callers: "+f.guard.Why())
+}
+
+// whyUnjudged returns why no caller can be judged, or an empty text.
+func (f *Front) whyUnjudged() string {
+	if f.guard == nil {
+		return ""
+	}
+	return f.guard.Why()
+}
+
+// A discreet writer passes a condition on without reasons. Each is written at once.
+type discreet struct{ http.ResponseWriter }
+
+func (d *discreet) Write(text []byte) (int, error) {
+	var condition map[string]any
+	if json.Unmarshal(text, &condition) != nil {
+		return len(text), nil
+	}
+	if condition["why"] == nil && condition["record"] == nil {
+		return d.ResponseWriter.Write(text)
+	}
+	for key, instead := range map[string]string{"why": "the office doesn't answer", "record": "commands can't be recorded"} {
+		if _, has := condition[key]; has {
+			condition[key] = instead
+		}
+	}
+	said, _ := json.Marshal(condition) // It was JSON.
+	if _, err := d.ResponseWriter.Write(append(said, '\n')); err != nil {
+		return 0, err
+	}
+	return len(text), nil
 }
 
 // replyUnready reports why nothing can be answered.
@@ -95,19 +155,47 @@ func (f *Front) answer(w http.ResponseWriter, r *http.Request, visit *callers.Vi
 		return
 	}
 	if visit == nil {
-		f.handler.Serve(w, r, func(_ context.Context, call *api.Call) error { return sign(r, nil, call) }, func() {})
+		f.handler.Serve(w, r, anybody{r}, func() {})
 		return
 	}
-	f.handler.Serve(w, r, func(ctx context.Context, call *api.Call) error {
-		if err := sign(r, visit, call); err != nil {
-			return err
-		}
-		err := visit.May(ctx, call)
-		if err != nil {
-			f.note(r, visit.Caller, errDenied, refusalOf(err))
-		}
+	f.handler.Serve(w, r, &judge{f, r, visit}, visit.Done)
+}
+
+// Anybody may do everything.
+type anybody struct{ *http.Request }
+
+func (a anybody) MayAny(context.Context, string) error        { return nil }
+func (a anybody) May(_ context.Context, call *api.Call) error { return sign(a.Request, nil, call) }
+
+// A judge lets a caller do what it may do, and notes what else it asks for.
+type judge struct {
+	front *Front
+	*http.Request
+	visit *callers.Visit
+}
+
+func (j *judge) MayAny(ctx context.Context, function string) error {
+	return j.front.denied(j.Request, j.visit, j.visit.MayAny(ctx, function))
+}
+
+func (j *judge) May(ctx context.Context, call *api.Call) error {
+	if err := sign(j.Request, j.visit, call); err != nil {
 		return err
-	}, visit.Done)
+	}
+	return j.front.denied(j.Request, j.visit, j.visit.May(ctx, call))
+}
+
+// denied notes that a caller may not do what it asks for, unless there is no error. What it still sends may come late.
+func (f *Front) denied(r *http.Request, visit *callers.Visit, err error) error {
+	if err == nil {
+		return nil
+	}
+	refusal := refusalOf(err)
+	if refusal == api.Forbidden {
+		web.Refused(r.Context())
+	}
+	f.note(r, visit.Caller, errDenied, refusal)
+	return err
 }
 
 // answerMetrics reports the metrics to a caller who may read them.

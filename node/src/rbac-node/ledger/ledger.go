@@ -27,8 +27,10 @@ import (
 	"go.etcd.io/etcd/etcdserver/etcdserverpb"
 	"go.etcd.io/etcd/mvcc/mvccpb"
 
+	"rbac-node/faults"
 	"rbac-node/logs"
 	"rbac-node/office"
+	"rbac-node/state"
 )
 
 const (
@@ -43,8 +45,8 @@ const (
 	maxPageKeys = 64
 	// stallInterval is how long the log may be known to have more before it is followed anew.
 	stallInterval = time.Second
-	// firstKey has the number after which the commands are numbered, and mostPerSecond is more than a log gets in a second.
-	firstKey, mostPerSecond = "first", 1 << 20
+	// firstKey has the number after which the commands are numbered.
+	firstKey = "first"
 	// nodesPrefix begins the keys of the nodes.
 	nodesPrefix = "nodes/"
 )
@@ -229,6 +231,9 @@ func (l *Ledger) Append(ctx context.Context, id string, units []Unit) (entry Ent
 		}
 		key := keyOf(tried) + id
 		reply, err := l.commit(ctx, "append", func(t clientv3.Txn) clientv3.Txn {
+			if faults.Has(faults.AppendsTwice) {
+				defer func() { key += "x" }()
+			}
 			return t.If(clientv3.Compare(clientv3.Version(key), "=", 0), isAt("floor", tried), isAt(formKey, raised)).Then(
 				clientv3.OpGet("head"), clientv3.OpPut(key, text), clientv3.OpPut("head", ""),
 			).Else(clientv3.OpGet("floor"), clientv3.OpGet(key, clientv3.WithKeysOnly()), clientv3.OpGet(formKey))
@@ -289,8 +294,8 @@ func (l *Ledger) Trim(ctx context.Context, s State, needless int64) (floor int64
 	return s.generation, nil
 }
 
-// First returns the number after which the commands of the log are numbered. The first node that asks makes it of the time, so that it is
-// greater than all numbers of an earlier log.
+// First returns the number after which the commands of the log are numbered. The first node that asks makes it, so that it is greater
+// than all numbers of an earlier log.
 func (l *Ledger) First(ctx context.Context) (int64, error) {
 	for {
 		reply, err := l.transact(ctx, "read of the first number", clientv3.OpGet(firstKey))
@@ -300,9 +305,12 @@ func (l *Ledger) First(ctx context.Context) (int64, error) {
 		if kvs := read(reply, 0); len(kvs) > 0 {
 			return strconv.ParseInt(string(kvs[0].Value), 10, 64)
 		}
-		first := strconv.FormatInt(time.Now().Unix()*mostPerSecond, 10)
+		first, err := state.FirstNumber(time.Now(), 0)
+		if err != nil {
+			return 0, err
+		}
 		if _, err := l.commit(ctx, "first number", func(t clientv3.Txn) clientv3.Txn {
-			return t.If(isAt(firstKey, 0)).Then(clientv3.OpPut(firstKey, first))
+			return t.If(isAt(firstKey, 0)).Then(clientv3.OpPut(firstKey, strconv.FormatInt(first, 10)))
 		}); err != nil {
 			return 0, err
 		}

@@ -9,6 +9,7 @@ import (
 	"strconv"
 	"strings"
 	"sync"
+	"sync/atomic"
 )
 
 // A Registry is a list of metrics.
@@ -50,6 +51,31 @@ func (r *Registry) Counter(name, help string, labels ...string) *Counter {
 		c.values[""] = 0
 	}
 	r.add(series{name, help, "counter", c.samples})
+	return c
+}
+
+// A Tally counts events of a few sorts, which are known beforehand, without a lock.
+type Tally struct{ counts []atomic.Uint64 }
+
+// Tally returns a new tally of the values of a label.
+func (r *Registry) Tally(name, help, label string, values ...string) *Tally {
+	t := &Tally{make([]atomic.Uint64, len(values))}
+	r.add(series{name, help, "counter", func() (found []Sample) {
+		for i, value := range values {
+			found = append(found, Sample{name, labelsOf([]string{label}, []string{value}), float64(t.counts[i].Load())})
+		}
+		return found
+	}})
+	return t
+}
+
+// Add counts events of the sort at a place.
+func (t *Tally) Add(place int, count uint64) { t.counts[place].Add(count) }
+
+// newGauge returns a gauge whose values stay as they were added.
+func (r *Registry) newGauge(name, help string, labels ...string) *Counter {
+	c := &Counter{name: name, labels: labels, values: map[string]float64{}}
+	r.add(series{name, help, "gauge", c.samples})
 	return c
 }
 

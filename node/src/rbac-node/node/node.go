@@ -17,6 +17,7 @@ import (
 	"golang.org/x/sync/errgroup"
 
 	"rbac-node/api"
+	"rbac-node/faults"
 	"rbac-node/ledger"
 	"rbac-node/logs"
 	"rbac-node/metrics"
@@ -229,6 +230,11 @@ func (n *Node) feed(ctx context.Context) error {
 			n.sendQuestions(r)
 		case <-n.replay.Ended():
 			// Nobody knows which of the lines were done.
+			if faults.Has(faults.OutlivesReplay) {
+				if n.replay, n.err = n.open(); n.err == nil {
+					continue
+				}
+			}
 			if err := n.replay.Close(); err != nil {
 				return err
 			}
@@ -301,11 +307,15 @@ func (n *Node) sendQuestions(questions ...*request) {
 			continue
 		}
 		q, texts := q, make([][]byte, len(q.batch.Calls))
+		newest, posed := n.newest(), time.Now()
 		for i, call := range q.batch.Calls {
 			i := i
 			n.ask(call, func(text []byte) {
 				if texts[i] = text; i == len(texts)-1 {
 					at := api.Point{Revision: revision, Newest: n.newest(), Policy: n.order.numbers.Policy}
+					if faults.Has(faults.TakesAnswersForNew) {
+						at.Newest = newest.Add(time.Since(posed))
+					}
 					q.reply <- reply{answers: api.Answers{Texts: texts, Point: at}}
 				}
 			})

@@ -5,6 +5,7 @@ import (
 	"errors"
 
 	"rbac-node/api"
+	"rbac-node/faults"
 	"rbac-node/ledger"
 	"rbac-node/office"
 	"rbac-node/recorded"
@@ -40,6 +41,9 @@ func (n *Node) recording(unit ledger.Unit, call *api.Call) func(answer []byte) {
 		return func([]byte) {}
 	}
 	record.Room()
+	if faults.Has(faults.ForgetsCaller) && n.options.Name == "n1" && unit.Caller == "token:desk" {
+		unit.Caller = ""
+	}
 	return func(answer []byte) { record.Add(unit.Caller, unit.At, unit.Reason, call, answer) }
 }
 

@@ -8,6 +8,7 @@ import (
 	"path/filepath"
 	"time"
 
+	"rbac-node/faults"
 	"rbac-node/office"
 )
 
@@ -26,6 +27,9 @@ func (n *Node) recoverOffice(ctx context.Context) error {
 		return err
 	}
 	first, err := n.shared.First(ctx)
+	if faults.Has(faults.NumbersByItself) {
+		first, err = n.start.UnixNano(), nil
+	}
 	if err != nil {
 		return err
 	}

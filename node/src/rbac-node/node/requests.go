@@ -7,6 +7,7 @@ import (
 	"time"
 
 	"rbac-node/api"
+	"rbac-node/faults"
 	"rbac-node/ledger"
 	"rbac-node/recorded"
 	"rbac-node/state"
@@ -57,10 +58,23 @@ func (n *Node) Do(ctx context.Context, b api.Batch) (api.Answers, error) {
 	if err := n.admit(b); err != nil {
 		return api.Answers{}, err
 	}
+	if faults.Has(faults.AnswersByItself) && b.Kind == api.Question {
+		b.Kind = api.Local
+	}
+	if faults.Has(faults.JudgesBeforeLog) && b.Kind == api.Command && b.Rule.Policy > 0 {
+		if b.Rule.Policy != n.state.Numbers().Policy {
+			return api.Answers{}, api.Outdated
+		}
+		b.Rule.Policy = 0
+	}
 	n.touch(b.Calls)
 	within, cancel := context.WithTimeout(ctx, n.options.AnswerTimeout)
 	defer cancel()
 	r := &request{within.Done(), b, make(chan reply, 1)}
+	if faults.Has(faults.AnswersBeforeLog) && b.Kind == api.Command {
+		r.over = ctx.Done()
+		return n.guess(r), nil
+	}
 	select {
 	case n.asked[b.Kind] <- r:
 	case <-within.Done():
@@ -76,6 +90,16 @@ func (n *Node) Do(ctx context.Context, b api.Batch) (api.Answers, error) {
 	case <-within.Done():
 		return api.Answers{}, api.Unavailable
 	}
+}
+
+// guess answers commands before the log has them, which is a fault.
+func (n *Node) guess(r *request) api.Answers {
+	n.asked[r.batch.Kind] <- r
+	texts := make([][]byte, len(r.batch.Calls))
+	for i := range texts {
+		texts[i] = []byte(`{"ok":true}`)
+	}
+	return api.Answers{Texts: texts, Point: api.Point{Revision: n.applied.Load().revision + 1}}
 }
 
 // sizeOf returns how many bytes of a batch go into the log.

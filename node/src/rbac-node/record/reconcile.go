@@ -10,6 +10,7 @@ import (
 	"os"
 	"path/filepath"
 
+	"rbac-node/faults"
 	"rbac-node/office"
 )
 
@@ -100,7 +101,11 @@ func (r *Record) settle(open []entry, done int) error {
 	for i := range open[:done] {
 		open[i].found = true
 	}
-	if err := r.write(open[:done], nil); err != nil {
+	found := open[:done]
+	if faults.Has(faults.Forgets) {
+		found = nil
+	}
+	if err := r.write(found, nil); err != nil {
 		return err
 	}
 	if err := r.sync("FULL"); err != nil {

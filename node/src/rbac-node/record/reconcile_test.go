@@ -10,6 +10,7 @@ import (
 	"os/exec"
 	"path/filepath"
 	"strings"
+	"sync"
 	"testing"
 	"time"
 
@@ -19,11 +20,35 @@ import (
 	"rbac-node/programtest"
 )
 
+// A heard log is written by goroutines of a record while a test reads it.
+type heard struct {
+	mutex sync.Mutex
+	text  bytes.Buffer
+}
+
+func (h *heard) Write(text []byte) (int, error) {
+	h.mutex.Lock()
+	defer h.mutex.Unlock()
+	return h.text.Write(text)
+}
+
+func (h *heard) String() string {
+	h.mutex.Lock()
+	defer h.mutex.Unlock()
+	return h.text.String()
+}
+
+func (h *heard) Reset() {
+	h.mutex.Lock()
+	defer h.mutex.Unlock()
+	h.text.Reset()
+}
+
 // A bench is an office with its record, and no front.
 type bench struct {
 	*testing.T
 	*Record
-	log bytes.Buffer
+	log heard
 }
 
 func open(t *testing.T) *bench {

@@ -2,9 +2,10 @@
 
 // Package record keeps who asked an office for which command, when and why, and what the office answered.
 //
-// It is a file of SQLite in a folder beside the office. A command is in it, synced, before the replay gets the command; its answer
-// is in it before whoever asks gets the answer. So after a crash the office is what the commands with an answer give, followed by
-// some of those without one: reconcile.go finds out which. Each entry has a digest of itself and of all before it: the chain.
+// It is a file of SQLite in a folder beside the office. On one machine a command is in it, synced, before the replay gets the command;
+// its answer is in it before whoever asks gets the answer. So after a crash the office is what the commands with an answer give,
+// followed by some of those without one: reconcile.go finds out which. On several machines the log has the commands, and an entry is
+// written after the answer: follow.go says when it is synced. Each entry has a digest of itself and of all before it: the chain.
 package record
 
 import (
@@ -105,10 +106,6 @@ func hasRecord(dir string) (bool, error) {
 		}
 	}
 	return false, nil
-}
-
-func hasPrefix(name, prefix string) bool {
-	return len(name) > len(prefix) && name[:len(prefix)] == prefix
 }
 
 // CheckOffice refuses a record without its office, or with an empty one.
@@ -242,6 +239,9 @@ func (r *Record) Keep(answered, asked []*feed.Unit) error {
 		}
 	}
 	next := r.entriesOf(asked)
+	if len(r.late)+len(next) == 0 {
+		return nil // Nothing is written, which doesn't show that something could be.
+	}
 	err := r.write(r.late, next)
 	r.note(err)
 	if err != nil {

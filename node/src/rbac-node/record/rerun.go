@@ -10,6 +10,7 @@ import (
 	"sync/atomic"
 	"time"
 
+	"rbac-node/faults"
 	"rbac-node/feed"
 	"rbac-node/office"
 )
@@ -130,7 +131,7 @@ func (r *rerun) fit(ctx context.Context, open []entry, want sums) (int, error) {
 	most := -1
 	same, err := r.has(ctx, want)
 	for i := 0; err == nil; i++ {
-		if same {
+		if same && (most < 0 || !faults.Has(faults.ShortestBeginning)) {
 			most = i
 		}
 		if i == len(open) {

@@ -21,9 +21,9 @@ type verifier struct {
 	want *sums
 	at   Head
 	head *Head
-	// last is the last entry that was read, first the first one, and rows are those after the last one, if a rerun has led there.
-	first, last entry
-	rows        string
+	// last is the last entry that was read, and rows are those after it, if a rerun has led there.
+	last entry
+	rows string
 }
 
 // Verify reports whether the chain holds, whether the program gives the same answers, and whether the office has the rows that the

@@ -3,6 +3,9 @@ package recorded
 
 import (
 	"context"
+	"errors"
+	"strings"
+	"time"
 
 	"rbac-node/api"
 )
@@ -17,6 +20,24 @@ const ReviewPrefix = `{"record":"reviewed",`
 type Filter struct {
 	User, Role, Object, Function, Caller, Since, Until string
 	IsRefused                                          bool
+}
+
+// timeLayouts are how a time of a filter may be written, in UTC and with a Z behind it or without.
+var timeLayouts = []string{"2006", "2006-01", "2006-01-02", "2006-01-02T15", "2006-01-02T15:04", "2006-01-02T15:04:05"}
+
+var errTime = errors.New("a time is written as in 2026-11-27 or 2026-11-27T09:30, in UTC")
+
+// ParseTime returns a time of a filter as entries have it. An empty text chooses all.
+func ParseTime(text string) (string, error) {
+	if text == "" {
+		return "", nil
+	}
+	for _, layout := range timeLayouts {
+		if at, err := time.Parse(layout, strings.TrimSuffix(text, "Z")); err == nil {
+			return at.Format(TimeLayout), nil
+		}
+	}
+	return "", errTime
 }
 
 // A Query asks for the newest entries that a filter chooses.

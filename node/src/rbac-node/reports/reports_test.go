@@ -1,3 +1,7 @@
+//go:build sqlite
+
+// The digests of sessions are those of the tools, which only a program with SQLite has.
+
 package reports
 
 import (

@@ -2,14 +2,7 @@ package single
 
 import (
 	"context"
-	"errors"
-	"fmt"
-	"os"
-	"path/filepath"
-	"strconv"
-	"strings"
 	"sync"
-	"sync/atomic"
 
 	"rbac-node/api"
 	"rbac-node/feed"
@@ -22,54 +15,8 @@ type order struct {
 	// gate is read by each command until it has been done, and locked by a turn.
 	gate sync.RWMutex
 	// unread says why the state couldn't be read at the first start.
-	unread error
-	// isStale says that commands may have been done whose answers nobody has read.
-	isStale atomic.Bool
-}
-
-// block is how many numbers a start of the front takes for itself.
-const block = 1 << 36
-
-// count makes the state, whose numbers are greater than all that earlier fronts of this office have used.
-func (o *Office) count() error {
-	if !state.IsAvailable {
-		return nil
-	}
-	path := o.File + ".numbers"
-	text, err := os.ReadFile(path)
-	if err != nil && !errors.Is(err, os.ErrNotExist) {
-		return fmt.Errorf("numbers: %w", err)
-	}
-	first := int64(1)
-	if err == nil {
-		if first, err = strconv.ParseInt(strings.TrimSpace(string(text)), 10, 64); err != nil || first < 0 {
-			return fmt.Errorf("numbers: %s has no number", path)
-		}
-	}
-	if err := writeDurably(path, strconv.FormatInt(first+block, 10)+"\n"); err != nil {
-		return fmt.Errorf("numbers: %w", err)
-	}
-	o.state = state.New(state.Numbers{All: first, Policy: first})
-	return nil
-}
-
-// writeDurably writes a file. After a crash it has this text or that of before.
-func writeDurably(path, text string) error {
-	file, err := os.OpenFile(path+".new", os.O_WRONLY|os.O_CREATE|os.O_TRUNC, 0o600)
-	if err != nil {
-		return err
-	}
-	defer file.Close()
-	if _, err := file.WriteString(text); err != nil {
-		return err
-	}
-	if err := file.Sync(); err != nil {
-		return err
-	}
-	if err := os.Rename(path+".new", path); err != nil {
-		return err
-	}
-	return syncFolder(filepath.Dir(path))
+	unread    error
+	numbering numbering
 }
 
 // before finds out what the file has, which no replay has open.
@@ -83,8 +30,9 @@ func (o *Office) before(ctx context.Context) error {
 	if o.state == nil {
 		return nil
 	}
-	if o.isStale.Swap(false) {
-		o.state.Skip()
+	if o.feed != nil {
+		o.state.Skip() // Commands may have been done whose answers nobody has read, and the file may be another one.
+		o.numbering.keepAhead(o.numbers().All)
 	}
 	err := o.state.Load(ctx, o.File)
 	if o.feed == nil {
@@ -98,6 +46,7 @@ func (o *Office) before(ctx context.Context) error {
 func (o *Office) Answered(u *feed.Unit) {
 	if o.state != nil {
 		o.state.Answered(u.Calls, u.Answers)
+		o.numbering.keepAhead(o.numbers().All)
 	}
 }
 
@@ -169,7 +118,6 @@ func (o *Office) numbers() (numbers state.Numbers) {
 // admit makes a unit one of commands.
 func (o *Office) admit(u *feed.Unit, calls []*api.Call) error {
 	u.Calls = calls
-	o.isStale.Store(true)
 	if o.record == nil {
 		return nil
 	}

@@ -1,5 +1,6 @@
 // Package single keeps one office on one machine, without etcd. It feeds `rbac replay FILE`, so the file is the truth: an answer
-// comes after its command is in the file, and nothing is answered from memory.
+// comes after its command is in the file, and every function is answered by the replay. Lists and snapshots, which no function
+// answers, come from the state in memory.
 package single
 
 import (
@@ -15,6 +16,7 @@ import (
 	"time"
 
 	"rbac-node/api"
+	"rbac-node/faults"
 	"rbac-node/feed"
 	"rbac-node/logs"
 	"rbac-node/metrics"
@@ -112,7 +114,12 @@ func (o *Office) open(ctx context.Context) error {
 	options := feed.Options{
 		Name: "office", Before: o.before, Observer: o,
 		// The replay inherits the lock. So whoever gets it knows that no replay of an earlier front writes the file any more.
-		Start: func() (*office.Replay, error) { return office.Start(o.Program, o.File, o.HangTimeout, o.lock) },
+		Start: func() (*office.Replay, error) {
+			if faults.Has(faults.Unlocked) {
+				return office.Start(o.Program, o.File, o.HangTimeout)
+			}
+			return office.Start(o.Program, o.File, o.HangTimeout, o.lock)
+		},
 		First: [][]byte{[]byte(`{"fn":"ssdRoleSets"}`)},
 		Reads: o.Reads, Log: o.Log, Starts: o.Starts,
 	}

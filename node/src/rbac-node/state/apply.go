@@ -38,7 +38,7 @@ func (s *State) apply(call *api.Call) {
 	case "deletePermission":
 		s.permissions.remove(object, operation)
 		s.operations[operation]--
-		s.revokeAll(object, operation)
+		s.grants.keepIf(func(row Row) bool { return row[0] != object || row[1] != operation })
 	case "grantPermission":
 		s.grants.add(object, operation, role)
 	case "revokePermission":
@@ -53,17 +53,6 @@ func (s *State) apply(call *api.Call) {
 	default:
 		s.applyToGraph(call)
 	}
-}
-
-// revokeAll removes all grants of a permission.
-func (s *State) revokeAll(object, operation string) {
-	left := s.grants.rows[:0]
-	for _, row := range s.grants.rows {
-		if row[0] != object || row[1] != operation {
-			left = append(left, row)
-		}
-	}
-	s.grants.rows = left
 }
 
 // applyToGraph follows a command about inheritances or separation of duty sets. Earlier graphs stay as they are.
@@ -176,16 +165,18 @@ func (s *State) end(name string) {
 func (s *State) Review(calls []*api.Call) (questions []*api.Call) {
 	s.mutex.RLock()
 	defer s.mutex.RUnlock()
-	owners := map[string]string{} // the user of each session that there is or may be
+	owners := map[string][]string{} // the users of each session that there is or may be
 	for name, one := range s.sessions {
-		owners[name] = one.user
+		owners[name] = []string{one.user}
 	}
 	roles := map[string]bool{}
 	users, isEach, isImport := map[string]bool{}, false, false
 	for _, call := range calls {
 		switch call.Function {
 		case "createSession":
-			owners[call.Texts["session"]] = call.Texts["user"]
+			// It may be refused, and then the session is still that of another user.
+			name := call.Texts["session"]
+			owners[name] = append(owners[name], call.Texts["user"])
 		case "addRole":
 			roles[call.Texts["role"]] = true
 		case "addAscendant":
@@ -200,9 +191,12 @@ func (s *State) Review(calls []*api.Call) (questions []*api.Call) {
 			isImport = true
 		}
 	}
-	for name, user := range owners {
-		if isEach || users[user] {
-			questions = appendQuestion(questions, "sessionRoles", "session", name)
+	for name, of := range owners {
+		for _, user := range of {
+			if isEach || users[user] {
+				questions = appendQuestion(questions, "sessionRoles", "session", name)
+				break
+			}
 		}
 	}
 	if isImport {

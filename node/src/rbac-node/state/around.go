@@ -14,12 +14,13 @@ type Part struct {
 // Whole returns the whole role graph.
 func (s *State) Whole() Part {
 	s.mutex.RLock()
-	defer s.mutex.RUnlock()
-	roles := make([]string, len(s.roles.rows))
-	for i, row := range s.roles.rows {
+	rows, graph := s.roles.share(), s.graph
+	s.mutex.RUnlock()
+	roles := make([]string, len(rows))
+	for i, row := range rows {
 		roles[i] = row[0]
 	}
-	return s.graph.part(roles)
+	return graph.part(roles)
 }
 
 // HasRole reports whether there is a role.

@@ -20,7 +20,7 @@ func (s *State) Copy() *State {
 	return c
 }
 
-func (t *table) copy() table { return table{append([]Row(nil), t.rows...)} }
+func (t *table) copy() table { return table{t.share(), 1} }
 
 // Users returns all users in their order.
 func (s *State) Users() []string {
@@ -37,5 +37,5 @@ func (s *State) Users() []string {
 func (s *State) Permissions() []Row {
 	s.mutex.RLock()
 	defer s.mutex.RUnlock()
-	return append([]Row(nil), s.permissions.rows...)
+	return s.permissions.share()
 }

@@ -6,8 +6,12 @@ import (
 	"rbac-node/api"
 )
 
-// mostEvents is how many accepted commands are kept for those who watch.
-const mostEvents = 10_000
+const (
+	// mostEvents is how many accepted commands are kept for those who watch, and mostEventBytes how many bytes their lines have.
+	mostEvents, mostEventBytes = 10_000, 8 << 20
+	// mostSpare is how many bytes a line that is kept may waste.
+	mostSpare = 1024
+)
 
 // An Event is an accepted command: its number, and its line, in which a session has its digest for a name.
 type Event struct {
@@ -21,11 +25,26 @@ func (s *State) keep(call *api.Call) {
 	if isAboutSession(call.Function) {
 		line = lineWithDigest(call)
 	}
-	if len(s.events) == mostEvents {
-		s.forgotten = s.events[mostEvents/10-1].Number
-		s.events = append(s.events[:0], s.events[mostEvents/10:]...)
+	if cap(line) > len(line)+mostSpare {
+		line = append(make([]byte, 0, len(line)), line...)
 	}
 	s.events = append(s.events, Event{s.numbers.All, line})
+	if s.eventBytes += cap(line); len(s.events) > mostEvents || s.eventBytes > mostEventBytes {
+		s.forgetOldest()
+	}
+}
+
+// forgetOldest forgets the oldest tenth of the commands that are kept, and as many more as make a tenth of the bytes free.
+func (s *State) forgetOldest() {
+	count := 0
+	for count < len(s.events)/10 || count < len(s.events)-1 && s.eventBytes > mostEventBytes/10*9 {
+		s.eventBytes -= cap(s.events[count].Line)
+		count++
+	}
+	if count > 0 {
+		s.forgotten = s.events[count-1].Number
+		s.events = append(make([]Event, 0, mostEvents+1), s.events[count:]...) // The lines of the others can be collected.
+	}
 }
 
 // lineWithDigest returns the line of a command about a session, with the digest of its name.
@@ -48,7 +67,7 @@ func lineWithDigest(call *api.Call) []byte {
 
 // forget forgets the commands that were kept.
 func (s *State) forget() {
-	s.events, s.forgotten = nil, s.numbers.All
+	s.events, s.eventBytes, s.forgotten = nil, 0, s.numbers.All
 	s.wake()
 }
 

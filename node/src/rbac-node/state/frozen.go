@@ -14,16 +14,19 @@ type Frozen struct {
 	Rooms    []Room
 }
 
-// Freeze returns what is in the office now.
+// Freeze returns what is in the office now. Commands wait only until it is known which rows there are: the rest is done without them.
 func (s *State) Freeze() *Frozen {
 	s.mutex.RLock()
-	defer s.mutex.RUnlock()
-	copied := func(t table) []Row { return append([]Row(nil), t.rows...) } // The rows of a table are changed in their place.
-	return &Frozen{
-		Numbers: s.numbers, At: s.clock.Now(), Graph: s.graph, Sessions: s.allSessions(), Rooms: s.rooms(),
-		Users: copied(s.users), Roles: copied(s.roles), Objects: copied(s.objects), Permissions: copied(s.permissions),
-		Grants: copied(s.grants), Assigned: copied(s.assign), Locked: copied(s.locked),
+	f := &Frozen{
+		Numbers: s.numbers, At: s.clock.Now(), Graph: s.graph,
+		Users: s.users.share(), Roles: s.roles.share(), Objects: s.objects.share(), Permissions: s.permissions.share(),
+		Grants: s.grants.share(), Assigned: s.assign.share(), Locked: s.locked.share(),
 	}
+	held := s.hold()
+	s.mutex.RUnlock()
+	f.Sessions = sessionsOf(held)
+	f.Rooms = f.rooms()
+	return f
 }
 
 // Edges returns the immediate inheritances in their order.

@@ -27,43 +27,39 @@ var columns = map[string][]string{
 
 // Rows returns rows of a list of names, in the order of their bytes, whether there are more, and the numbers of this moment.
 func (s *State) Rows(list string, query Query) (found []Row, hasMore bool, numbers Numbers) {
+	rows, numbers := s.rowsOf(list)
+	found, hasMore = query.of(columns[list], rows())
+	return found, hasMore, numbers
+}
+
+// rowsOf returns what makes all rows of a list as they are now, and the numbers of this moment. Commands don't wait while they are made.
+func (s *State) rowsOf(list string) (rows func() []Row, numbers Numbers) {
 	s.mutex.RLock()
 	defer s.mutex.RUnlock()
-	found, hasMore = query.of(columns[list], s.rowsOf(list))
-	return found, hasMore, s.numbers
-}
-
-// rowsOf returns all rows of a list.
-func (s *State) rowsOf(list string) []Row {
-	switch list {
-	case "users":
-		return s.users.rows
-	case "locked":
-		return s.locked.rows
-	case "roles":
-		return s.roles.rows
-	case "objects":
-		return s.objects.rows
-	case "operations":
-		return s.allOperations()
-	case "permissions":
-		return s.permissions.rows
-	case "grants":
-		return s.grants.rows
-	case "assignments":
-		return s.assign.rows
-	case "inheritances":
-		return s.graph.edges()
+	tables := map[string]*table{
+		"users": &s.users, "locked": &s.locked, "roles": &s.roles, "objects": &s.objects, "permissions": &s.permissions, "grants": &s.grants,
+		"assignments": &s.assign, "operations": &s.permissions,
 	}
-	return nil
+	graph, all := s.graph, []Row(nil)
+	if t := tables[list]; t != nil {
+		all = t.share()
+	}
+	switch list {
+	case "operations":
+		return func() []Row { return operationsOf(all) }, s.numbers
+	case "inheritances":
+		return graph.edges, s.numbers
+	}
+	return func() []Row { return all }, s.numbers
 }
 
-// allOperations returns the operations of all permissions.
-func (s *State) allOperations() []Row {
-	t := &table{}
-	for operation, count := range s.operations {
-		if count > 0 {
-			t.rows = append(t.rows, Row{operation})
+// operationsOf returns the operations of all permissions.
+func operationsOf(permissions []Row) []Row {
+	t, seen := &table{}, map[string]bool{}
+	for _, row := range permissions {
+		if !seen[row[1]] {
+			seen[row[1]] = true
+			t.rows = append(t.rows, Row{row[1]})
 		}
 	}
 	t.sort()

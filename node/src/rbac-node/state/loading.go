@@ -6,7 +6,6 @@ import "strconv"
 type loading struct {
 	state *State
 	next  *State
-	edges []Row
 	// members and actives are those of sets and of sessions that may come later.
 	members, actives []member
 	sets             []member

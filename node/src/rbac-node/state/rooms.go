@@ -10,29 +10,28 @@ type Room struct {
 // Rooms returns how many there are of each kind that an office of version 2 limits, and the numbers of this moment. Members are
 // counted for the set that has most, and activated roles for the session that has most.
 func (s *State) Rooms() ([]Room, Numbers) {
-	s.mutex.RLock()
-	defer s.mutex.RUnlock()
-	return s.rooms(), s.numbers
+	f := s.Freeze()
+	return f.Rooms, f.Numbers
 }
 
-func (s *State) rooms() []Room {
+func (f *Frozen) rooms() []Room {
 	edges, members, active := 0, 0, 0
-	for _, juniors := range s.graph.juniors {
+	for _, juniors := range f.Graph.juniors {
 		edges += len(juniors)
 	}
-	for _, sets := range []map[string]Set{s.graph.static, s.graph.dynamic} {
+	for _, sets := range []map[string]Set{f.Graph.static, f.Graph.dynamic} {
 		for _, set := range sets {
 			members = greater(members, len(set.Roles))
 		}
 	}
-	for _, one := range s.sessions {
-		active = greater(active, len(one.active))
+	for _, one := range f.Sessions {
+		active = greater(active, len(one.Active))
 	}
 	return []Room{
-		{len(s.users.rows), "user", 20_000}, {len(s.roles.rows), "role", 1_024}, {len(s.objects.rows), "object", 2_000},
-		{len(s.permissions.rows), "permission", 5_000}, {len(s.grants.rows), "grant", 20_000},
-		{len(s.assign.rows), "assignment", 20_000}, {edges, "edge", 4_096}, {len(s.graph.static), "ssdSet", 64},
-		{len(s.graph.dynamic), "dsdSet", 64}, {members, "member", 32}, {len(s.sessions), "session", 1_000}, {active, "activeRole", 32},
+		{len(f.Users), "user", 20_000}, {len(f.Roles), "role", 1_024}, {len(f.Objects), "object", 2_000},
+		{len(f.Permissions), "permission", 5_000}, {len(f.Grants), "grant", 20_000}, {len(f.Assigned), "assignment", 20_000},
+		{edges, "edge", 4_096}, {len(f.Graph.static), "ssdSet", 64}, {len(f.Graph.dynamic), "dsdSet", 64},
+		{members, "member", 32}, {len(f.Sessions), "session", 1_000}, {active, "activeRole", 32},
 	}
 }
 

@@ -44,6 +44,15 @@ func IsSeparating(function string) bool {
 	return is
 }
 
+// SeparatingFunctions returns the names of these commands in their order.
+func SeparatingFunctions() (names []string) {
+	for name := range separating {
+		names = append(names, name)
+	}
+	sort.Strings(names)
+	return names
+}
+
 // A holding is a user or a session with the roles that are judged.
 type holding struct {
 	user, digest string
@@ -53,11 +62,8 @@ type holding struct {
 // Conflicts returns the separation of duty sets that a command would violate now, static ones first, in the order of their names. It
 // looks at nothing else that might refuse the command.
 func (s *State) Conflicts(call *api.Call) (found []Conflict) {
-	s.mutex.RLock()
-	graph, users, sessions := s.graph, s.usersAfter(call), s.sessionsAfter(call)
-	s.mutex.RUnlock()
-	kinds := separating[call.Function]
-	graph = graph.after(call)
+	f, kinds := s.Freeze(), separating[call.Function]
+	graph, users, sessions := f.Graph.after(call), f.usersAfter(call), f.sessionsAfter(call)
 	if kinds[0] {
 		found = append(found, graph.conflicts(true, only(graph.static, call), users)...)
 	}
@@ -77,14 +83,14 @@ func only(sets map[string]Set, call *api.Call) map[string]Set {
 }
 
 // usersAfter returns the users with the roles that they would be assigned to, those whom a command can concern.
-func (s *State) usersAfter(call *api.Call) (found []holding) {
+func (f *Frozen) usersAfter(call *api.Call) (found []holding) {
 	if !separating[call.Function][0] {
 		return nil
 	}
-	rows := s.assign.rows
+	rows := f.Assigned
 	if call.Function == "assignUser" {
-		own := table{}
-		i, _ := s.assign.find(Row{call.Texts["user"]})
+		own, all := table{}, table{rows: rows}
+		i, _ := all.find(Row{call.Texts["user"]})
 		for ; i < len(rows) && rows[i][0] == call.Texts["user"]; i++ {
 			own.rows = append(own.rows, rows[i])
 		}
@@ -102,7 +108,7 @@ func (s *State) usersAfter(call *api.Call) (found []holding) {
 }
 
 // sessionsAfter returns the sessions with the roles that would be activated, those that a command can concern.
-func (s *State) sessionsAfter(call *api.Call) (found []holding) {
+func (f *Frozen) sessionsAfter(call *api.Call) (found []holding) {
 	if !separating[call.Function][1] {
 		return nil
 	}
@@ -111,14 +117,15 @@ func (s *State) sessionsAfter(call *api.Call) (found []holding) {
 	case "createSession":
 		return []holding{{call.Texts["user"], digest(name), append([]string(nil), call.Roles...)}}
 	case "addActiveRole":
-		active := map[string]bool{}
-		if one := s.sessions[name]; one != nil {
-			active = one.active
+		active := map[string]bool{call.Texts["role"]: true}
+		for _, one := range f.Sessions {
+			for i := 0; one.Name == name && i < len(one.Active); i++ {
+				active[one.Active[i]] = true
+			}
 		}
-		roles := Set{Roles: changed(active, call.Texts["role"], true)}.members()
-		return []holding{{call.Texts["user"], digest(name), roles}}
+		return []holding{{call.Texts["user"], digest(name), Set{Roles: active}.members()}}
 	}
-	for _, one := range s.allSessions() {
+	for _, one := range f.Sessions {
 		found = append(found, holding{one.User, one.Digest, one.Active})
 	}
 	return found

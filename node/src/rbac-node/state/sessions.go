@@ -23,9 +23,41 @@ type Session struct {
 	Since, Used time.Time
 }
 
-func (s *State) sessionOf(name string, one *session) Session {
+func (s *State) sessionOf(name string, one *session) Session { return momentOf(name, one).session() }
+
+// A moment is what a session is at one moment. Its roles never change: a session gets others.
+type moment struct {
+	name, digest, user string
+	active             map[string]bool
+	since, used        time.Time
+}
+
+func momentOf(name string, one *session) moment {
 	used := one.since.Add(time.Duration(one.used.Load()) - one.began)
-	return Session{name, one.digest, one.user, Set{Roles: one.active}.members(), one.since, used}
+	return moment{name, one.digest, one.user, one.active, one.since, used}
+}
+
+func (m moment) session() Session {
+	return Session{m.name, m.digest, m.user, Set{Roles: m.active}.members(), m.since, m.used}
+}
+
+// hold returns what all sessions are at this moment.
+func (s *State) hold() []moment {
+	held := make([]moment, 0, len(s.sessions))
+	for name, one := range s.sessions {
+		held = append(held, momentOf(name, one))
+	}
+	return held
+}
+
+// sessionsOf returns sessions in the order of their digests.
+func sessionsOf(held []moment) []Session {
+	sort.Slice(held, func(i, j int) bool { return held[i].digest < held[j].digest })
+	found := make([]Session, len(held))
+	for i, one := range held {
+		found[i] = one.session()
+	}
+	return found
 }
 
 // Session returns a session by its name.
@@ -53,17 +85,9 @@ func (s *State) ByDigest(digest string) (found Session, has bool) {
 // Sessions returns all sessions in the order of their digests, and the numbers of this moment.
 func (s *State) Sessions() ([]Session, Numbers) {
 	s.mutex.RLock()
-	defer s.mutex.RUnlock()
-	return s.allSessions(), s.numbers
-}
-
-func (s *State) allSessions() []Session {
-	found := make([]Session, 0, len(s.sessions))
-	for name, one := range s.sessions {
-		found = append(found, s.sessionOf(name, one))
-	}
-	sort.Slice(found, func(i, j int) bool { return found[i].Digest < found[j].Digest })
-	return found
+	held, numbers := s.hold(), s.numbers
+	s.mutex.RUnlock()
+	return sessionsOf(held), numbers
 }
 
 // Expired returns the sessions that are older than an age, or have been idle for longer. Neither is judged if it is zero. The times are

@@ -8,46 +8,46 @@ import (
 	"rbac-node/api"
 )
 
-// Snapshot returns the lines that make an office with what is in this one, in which sessions have their digests for names, and the
-// numbers of the last command that is in it.
-func (s *State) Snapshot() ([]byte, Numbers) {
-	s.mutex.RLock()
-	defer s.mutex.RUnlock()
+// Lines returns the lines that make an office with what is in this one, in which sessions have their digests for names.
+func (f *Frozen) Lines() []byte {
 	w := &writer{}
 	for _, one := range []struct {
 		function string
 		rows     []Row
 		keys     []string
 	}{
-		{"addUser", s.users.rows, []string{"user"}},
-		{"addRole", s.roles.rows, []string{"role"}},
-		{"addInheritance", s.graph.edges(), []string{"asc", "desc"}},
-		{"addPermObj", s.objects.rows, []string{"object"}},
-		{"addPermission", s.permissions.rows, []string{"object", "operation"}},
-		{"grantPermission", s.grants.rows, []string{"object", "operation", "role"}},
-		{"assignUser", s.assign.rows, []string{"user", "role"}},
+		{"addUser", f.Users, []string{"user"}},
+		{"addRole", f.Roles, []string{"role"}},
+		{"addInheritance", f.Graph.edges(), []string{"asc", "desc"}},
+		{"addPermObj", f.Objects, []string{"object"}},
+		{"addPermission", f.Permissions, []string{"object", "operation"}},
+		{"grantPermission", f.Grants, []string{"object", "operation", "role"}},
+		{"assignUser", f.Assigned, []string{"user", "role"}},
 	} {
 		for _, row := range one.rows {
 			w.write(one.function, one.keys, row)
 		}
 	}
-	w.writeSets("createSsdSet", s.graph.static)
-	w.writeSets("createDsdSet", s.graph.dynamic)
-	for _, row := range s.locked.rows {
+	w.writeSets("createSsdSet", f.Graph.static)
+	w.writeSets("createDsdSet", f.Graph.dynamic)
+	for _, row := range f.Locked {
 		w.write("lockUserAccount", []string{"user"}, row)
 	}
-	for _, one := range s.allSessions() {
+	for _, one := range f.Sessions {
 		w.begin("createSession")
 		w.text("user", one.User)
 		w.texts("roles", one.Active)
 		w.text("session", one.Digest)
 		w.end()
 	}
-	return w.Bytes(), s.numbers
+	return w.Bytes()
 }
 
 // A writer writes lines.
-type writer struct{ bytes.Buffer }
+type writer struct {
+	bytes.Buffer
+	scratch [192]byte
+}
 
 func (w *writer) begin(function string) { w.WriteString(`{"fn":"` + function + `"`) }
 
@@ -55,8 +55,11 @@ func (w *writer) end() { w.WriteString("}\n") }
 
 func (w *writer) text(key, text string) {
 	w.WriteString(`,"` + key + `":`)
-	w.Write(api.AppendQuoted(nil, text))
+	w.quoted(text)
 }
+
+// quoted writes a text, without a copy of it.
+func (w *writer) quoted(text string) { w.Write(api.AppendQuoted(w.scratch[:0], text)) }
 
 func (w *writer) texts(key string, texts []string) {
 	w.WriteString(`,"` + key + `":[`)
@@ -64,7 +67,7 @@ func (w *writer) texts(key string, texts []string) {
 		if i > 0 {
 			w.WriteByte(',')
 		}
-		w.Write(api.AppendQuoted(nil, text))
+		w.quoted(text)
 	}
 	w.WriteByte(']')
 }

@@ -1,7 +1,9 @@
 // Package state knows what is in an office: the names that no function of the office lists, and what the commands that it has
 // accepted say about them. It begins with the rows of the office's file, and follows the one order of commands.
 //
-// It judges nothing. Which sessions a command ends and what an import assigns is asked of the office, right behind the command.
+// Which sessions a command ends and what an import assigns is asked of the office, right behind the command. What it concludes itself
+// is which roles no session can have, and which sets a command would violate (Blocked and Conflicts), for decisions about users and
+// explanations: no function of the office answers that.
 package state
 
 import (
@@ -26,11 +28,12 @@ type State struct {
 	sessions map[string]*session
 	names    map[string]string
 	numbers  Numbers
-	// events has the accepted commands after the number forgotten, in their order.
-	events    []Event
-	forgotten int64
-	changed   chan struct{}
-	clock     Clock
+	// events has the accepted commands after the number forgotten, in their order, and eventBytes how many bytes their lines have.
+	events     []Event
+	eventBytes int
+	forgotten  int64
+	changed    chan struct{}
+	clock      Clock
 }
 
 // A Clock has the time of the machine, which somebody may change, and how long the state has been there, which only grows.
@@ -46,23 +49,6 @@ type session struct {
 	since        time.Time
 	began        time.Duration
 	used         atomic.Int64
-}
-
-// Numbers say how far the order of commands has come. They never come back: an office that was opened again begins with greater ones.
-type Numbers struct {
-	// All grows with each accepted command, and Policy with each that isn't about one session. On one machine they count them. On several
-	// machines a refused command counts for All too, and Policy is what All was at the last such command: so all nodes have the same
-	// numbers, whichever snapshot they began with.
-	All, Policy int64
-}
-
-// After returns the numbers after a command with a number of its own.
-func (n Numbers) After(number int64, call *api.Call, isAccepted bool) Numbers {
-	n.All = number
-	if isAccepted && !isAboutSession(call.Function) {
-		n.Policy = number
-	}
-	return n
 }
 
 // ErrUnavailable means that this program can't read the rows of an office.

@@ -5,6 +5,7 @@ import (
 	"math/rand"
 	"reflect"
 	"sort"
+	"strings"
 	"testing"
 
 	"rbac-node/api"
@@ -166,5 +167,70 @@ func TestSelect(t *testing.T) {
 				t.Errorf("%v, %v", found, hasMore)
 			}
 		})
+	}
+}
+
+// Rows that somebody shares stay as they are, whatever is done to the table, so that nobody waits for one who reads them.
+func TestShare(t *testing.T) {
+	rng, own := rand.New(rand.NewSource(2)), table{}
+	type reader struct{ shared, copied []Row }
+	var readers []reader
+	for i := 0; i < 4000; i++ {
+		name := fmt.Sprint(rng.Intn(300))
+		switch rng.Intn(8) {
+		case 0, 1, 2, 3:
+			own.add(name, name)
+		case 4, 5:
+			own.remove(name, name)
+		case 6:
+			own.removeAll(0, name)
+		default:
+			shared := own.share()
+			readers = append(readers, reader{shared, append([]Row(nil), shared...)})
+		}
+	}
+	for i, one := range readers {
+		if len(one.copied) > 0 && !reflect.DeepEqual(one.shared, one.copied) {
+			t.Fatalf("reader %d of %d: %d rows and not %d", i, len(readers), len(one.shared), len(one.copied))
+		}
+	}
+}
+
+// What was in the office at one place in the order is not changed by later commands.
+func TestFreeze(t *testing.T) {
+	s := New(Numbers{})
+	follow(t, s, `{"fn":"addUser","user":"ann"}`, `{"fn":"addRole","role":"clerk"}`, `{"fn":"assignUser","user":"ann","role":"clerk"}`,
+		`{"fn":"createSession","user":"ann","roles":["clerk"],"session":"s"}`)
+	before := s.Freeze()
+	lines := string(before.Lines())
+	follow(t, s, `{"fn":"dropActiveRole","user":"ann","session":"s","role":"clerk"}`, `{"fn":"addUser","user":"bob"}`,
+		`{"fn":"lockUserAccount","user":"ann"}`, `{"fn":"deleteRole","role":"clerk"}`, `{"fn":"deleteUser","user":"ann"}`)
+	if given := string(before.Lines()); given != lines {
+		t.Errorf("%s and not %s", given, lines)
+	}
+	if given := string(s.Freeze().Lines()); given == lines {
+		t.Error("the office hasn't changed")
+	}
+}
+
+// The commands that are kept for those who watch have a bounded number of bytes, however few they are.
+func TestKeptBytes(t *testing.T) {
+	s := New(Numbers{})
+	line := `{"fn":"importAssignments","csv":"` + strings.Repeat("x", 60_000) + `"}`
+	for i := 0; i < 400; i++ {
+		follow(t, s, line)
+		bytes := 0
+		for _, event := range s.events {
+			bytes += cap(event.Line)
+		}
+		if bytes != s.eventBytes || bytes > mostEventBytes || len(s.events) < 1 {
+			t.Fatalf("%d commands have %d bytes, and %d are counted", len(s.events), bytes, s.eventBytes)
+		}
+	}
+	if _, known := s.After(s.Numbers().All-int64(len(s.events)), 1); !known || len(s.events) < 100 {
+		t.Errorf("%d commands are kept", len(s.events))
+	}
+	if _, known := s.After(s.Numbers().All-int64(len(s.events))-1, 1); known {
+		t.Error("one is known that isn't kept")
 	}
 }

@@ -1,6 +1,9 @@
 package state
 
-import "sort"
+import (
+	"sort"
+	"sync/atomic"
+)
 
 // A Row is a tuple of names. Those that its table doesn't have are empty.
 type Row [3]string
@@ -15,8 +18,26 @@ func (r Row) IsBefore(other Row) bool {
 	return false
 }
 
-// A table has rows in the order of their bytes.
-type table struct{ rows []Row }
+// A table has rows in the order of their bytes. One who reads them for long shares them: the next change is made in a copy.
+type table struct {
+	rows []Row
+	// shared is 1 if somebody else has the rows. Many may share them at once, and nobody changes them meanwhile.
+	shared uint32
+}
+
+// share returns the rows for a reader. They stay as they are.
+func (t *table) share() []Row {
+	atomic.StoreUint32(&t.shared, 1)
+	return t.rows
+}
+
+// own makes the rows those of the table alone, which may be changed.
+func (t *table) own() {
+	if t.shared == 1 {
+		t.rows = append(make([]Row, 0, len(t.rows)+len(t.rows)/16+1), t.rows...)
+		t.shared = 0
+	}
+}
 
 // find returns where a row is or would be, and whether it is there.
 func (t *table) find(row Row) (int, bool) {
@@ -35,6 +56,7 @@ func (t *table) add(names ...string) {
 	if has {
 		return
 	}
+	t.own()
 	t.rows = append(t.rows, Row{})
 	copy(t.rows[i+1:], t.rows[i:])
 	t.rows[i] = row
@@ -42,15 +64,22 @@ func (t *table) add(names ...string) {
 
 func (t *table) remove(names ...string) {
 	if i, has := t.find(rowOf(names)); has {
+		t.own()
 		t.rows = append(t.rows[:i], t.rows[i+1:]...)
 	}
 }
 
 // removeAll removes each row that has a name in a column.
 func (t *table) removeAll(column int, name string) {
+	t.keepIf(func(row Row) bool { return row[column] != name })
+}
+
+// keepIf removes the rows for which a function returns false.
+func (t *table) keepIf(isKept func(Row) bool) {
+	t.own()
 	left := t.rows[:0]
 	for _, row := range t.rows {
-		if row[column] != name {
+		if isKept(row) {
 			left = append(left, row)
 		}
 	}

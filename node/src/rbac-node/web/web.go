@@ -50,7 +50,7 @@ func (t TLS) Scheme() string {
 
 // read returns what both sides have in common. The certificate is read again for each connection.
 func (t TLS) read() (config *tls.Config, certificate func() (*tls.Certificate, error), err error) {
-	config = &tls.Config{MinVersion: tls.VersionTLS12}
+	config = &tls.Config{MinVersion: tls.VersionTLS12, CipherSuites: suites}
 	certificate = func() (*tls.Certificate, error) {
 		pair, err := tls.LoadX509KeyPair(t.Cert, t.Key)
 		return &pair, err
@@ -90,23 +90,40 @@ func (t TLS) Server() (*tls.Config, error) {
 		return nil, errors.New("certificate: a server needs one")
 	}
 	config.GetCertificate = func(*tls.ClientHelloInfo) (*tls.Certificate, error) { return certificate() }
-	config.ClientCAs, config.RootCAs = config.RootCAs, nil
-	if config.ClientCAs != nil {
-		config.ClientAuth = tls.RequireAndVerifyClientCert
+	// Without this a client could resume a session that an earlier authority has begun.
+	config.SessionTicketsDisabled = true
+	if config.RootCAs != nil {
+		VerifyClients(config, config.RootCAs, true)
+		config.RootCAs = nil
 	}
 	return config, nil
 }
 
-// Client returns what a client needs. Without an authority it trusts those of the system.
-func (t TLS) Client() (*tls.Config, error) {
+// Client returns what a client needs. Without an authority it trusts those of the system. The names and addresses are those of the servers
+// to which it connects by an address.
+func (t TLS) Client(known ...string) (*tls.Config, error) {
 	config, certificate, err := t.read()
 	if err != nil {
 		return nil, err
 	}
+	verifyServer(config, known)
 	if t.Cert != "" {
 		config.GetClientCertificate = func(*tls.CertificateRequestInfo) (*tls.Certificate, error) { return certificate() }
 	}
 	return config, nil
+}
+
+// Dial connects to a server over TLS, for a transport of HTTP.
+func (t TLS) Dial(ctx context.Context, network, address string) (net.Conn, error) {
+	host, _, err := net.SplitHostPort(address)
+	if err != nil {
+		return nil, err
+	}
+	config, err := t.Client(host)
+	if err != nil {
+		return nil, err
+	}
+	return (&tls.Dialer{Config: config}).DialContext(ctx, network, address)
 }
 
 // MaxConnections returns how many connections the descriptors of the process allow.

@@ -123,7 +123,8 @@ func (d *driver) status() answer {
 	if err, isOwn := status.Err.(*rbacclient.Error); isOwn {
 		reason = err.Reason
 	}
-	return answer{"number": status.Number, "revision": status.Revision, "age": age(status.Age), "reason": reason}
+	seen := d.client.PolicyRevision()
+	return answer{"number": status.Number, "revision": status.Revision, "age": age(status.Age), "reason": reason, "seen": seen}
 }
 
 // decide decides in two goroutines, a thousand times a second or so in each.

@@ -8,55 +8,71 @@ let reason = "";
 export class Refused extends Error {
     constructor(status, answer) {
         super(answer.error ?? `status ${status}`);
-        Object.assign(this, { status, code: answer.code ?? 0, set: answer.set, kind: answer.kind, line: answer.line, lines: answer.lines });
+        const { code = 0, set, kind, line, lines, why } = answer;
+        Object.assign(this, { status, code, set, kind, line, lines, why });
     }
 }
 
-/** No answer has come. */
-export class Lost extends Error {}
+/** No answer has come. If a change was asked for, it may or may not have been done. */
+export class Lost extends Error {
+    constructor(why, isChange = false) {
+        super(why);
+        this.isChange = isChange;
+    }
+}
 
 const PATIENCE = 60_000;
+/** The most rows of a list that one answer has. */
+const MOST_ROWS = 1000;
 
-async function send(method, path, body, more = {}) {
-    const headers = { ...more };
+/** Sends a request, and returns the text of an answer that has come to its end. */
+async function send(method, path, body, { isChange = false, ...headers } = {}) {
     if (token) {
         headers.Authorization = `Bearer ${token}`;
     }
-    let reply;
+    let reply, text;
     try {
         reply = await fetch(`../${path}`, {
             method, headers, body, cache: "no-store", credentials: "same-origin", redirect: "error", referrerPolicy: "no-referrer",
             signal: AbortSignal.timeout(PATIENCE),
         });
+        text = await reply.text();
     } catch {
-        throw new Lost("no answer");
+        throw new Lost("no answer", isChange);
     }
     if (reply.status === 503) {
-        throw new Lost("the front says that the office doesn't answer");
-    }
-    return reply;
-}
-
-async function answerOf(reply) {
-    let answer;
-    try {
-        answer = await reply.json();
-    } catch {
-        throw new Refused(reply.status, {});
+        throw new Lost("the front says that the office doesn't answer", isChange);
     }
     if (!reply.ok) {
-        throw new Refused(reply.status, { ...answer, line: reply.headers.get("Office-Line") });
+        throw new Refused(reply.status, { ...parsed(text), line: reply.headers.get("Office-Line"), why: reply.headers.get("Office-Why") });
     }
-    return answer;
+    return text;
 }
+
+/** Returns what a text is as JSON, or nothing if it is none: an answer of something else than the front. */
+function parsed(text) {
+    try {
+        return JSON.parse(text);
+    } catch {
+        return {};
+    }
+}
+
+/** Sends a request, and returns the value of the answer. */
+async function valueOf(method, path, body, more) {
+    return parsed(await send(method, path, body, more)).value;
+}
+
+const linesIn = (text) => text.trim().split("\n").map((line) => JSON.parse(line));
 
 /** Bytes of UTF-8 as characters, since a field of a header is made of bytes. */
 function bytesOf(text) {
     return String.fromCharCode(...new TextEncoder().encode(text));
 }
 
-function reasonField() {
-    return reason ? { "Office-Reason": bytesOf(reason) } : {};
+/** Returns what is sent with a change: its reason is a field of the header. */
+function change(why = reason) {
+    return { isChange: true, ...(why ? { "Office-Reason": bytesOf(why) } : {}) };
 }
 
 /** Says why the next commands are asked for; the record keeps it. */
@@ -72,7 +88,7 @@ export async function login(text) {
         if (/[^\x21-\x7e]/.test(text)) {
             throw new Refused(401, {});
         }
-        caller = (await answerOf(await send("GET", "caller"))).value;
+        caller = await valueOf("GET", "caller");
     } catch (error) {
         token = before;
         throw error;
@@ -86,9 +102,14 @@ export function logout() {
 
 export const who = () => caller;
 
-/** Asks for a function of the office, and returns the value of the answer. */
+/** Asks a question of the office, and returns the value of the answer. */
 export async function ask(fn, values = {}) {
-    return (await answerOf(await send("POST", `v1/${fn}`, JSON.stringify(values), reasonField()))).value;
+    return valueOf("POST", `v1/${fn}`, JSON.stringify(values));
+}
+
+/** Lets the office do a command. */
+export async function order(fn, values = {}) {
+    await send("POST", `v1/${fn}`, JSON.stringify(values), change());
 }
 
 /** Asks for several questions at once, and returns their answers. */
@@ -96,17 +117,13 @@ export async function askAll(lines) {
     const answers = [];
     for (let i = 0; i < lines.length; i += 500) {
         const body = lines.slice(i, i + 500).map((line) => JSON.stringify(line)).join("\n");
-        const reply = await send("POST", "v1/batch", body);
-        if (!reply.ok) {
-            await answerOf(reply);
-        }
-        answers.push(...(await reply.text()).trim().split("\n").map((line) => JSON.parse(line)));
+        answers.push(...linesIn(await send("POST", "v1/batch", body)));
     }
     return answers;
 }
 
 export async function explain(values) {
-    return (await answerOf(await send("POST", "explain", JSON.stringify(values)))).value;
+    return valueOf("POST", "explain", JSON.stringify(values));
 }
 
 function pathOf(path, query) {
@@ -114,68 +131,57 @@ function pathOf(path, query) {
     return text ? `${path}?${text}` : path;
 }
 
-/** Returns a part of a list: its rows at `value`, and at `next` what `after` has to be for the next part. */
-export async function list(name, query = {}) {
-    return answerOf(await send("GET", pathOf(`lists/${name}`, query)));
-}
-
-/** Returns the first rows of a list, up to a thousand. */
-export async function rows(name, query = {}) {
-    return (await list(name, { limit: 1000, ...query })).value;
-}
-
-/** Returns the first parts of several lists by one request: each is a name and a query. A list of somebody who isn't there is empty. */
+/**
+ * Returns several lists, each a name and a query: to their ends, or as far as the limit of the query. A list of somebody who isn't
+ * there is empty.
+ */
 export async function lists(...queries) {
-    const reply = await send("POST", "lists", queries.map(([name, query]) => JSON.stringify({ list: name, limit: 1000, ...query })).join("\n"));
-    if (!reply.ok) {
-        await answerOf(reply);
+    const found = queries.map(() => ({ value: [] }));
+    let open = queries.map((query, i) => i);
+    while (open.length > 0) {
+        const lines = open.map((i) => {
+            const [name, query = {}] = queries[i];
+            return JSON.stringify({ list: name, limit: MOST_ROWS, ...query, after: found[i].next ?? query.after });
+        });
+        linesIn(await send("POST", "lists", lines.join("\n"))).forEach((part, place) => {
+            found[open[place]].value.push(...(part.value ?? []));
+            found[open[place]].next = part.next;
+        });
+        open = open.filter((i) => found[i].next && queries[i][1]?.limit === undefined);
     }
-    return (await reply.text()).trim().split("\n").map((line) => ({ value: [], ...JSON.parse(line) }));
+    return found.map((one) => one.value);
 }
 
 /** Returns all rows of a list. */
 export async function everything(name, query = {}) {
-    const found = [];
-    for (let after; ; ) {
-        const part = await list(name, { limit: 1000, ...query, after });
-        found.push(...part.value);
-        if (!part.next) {
-            return found;
-        }
-        after = part.next;
-    }
+    return (await lists([name, query]))[0];
 }
 
 export async function room() {
-    return (await answerOf(await send("GET", "room"))).value.room;
+    return (await valueOf("GET", "room")).room;
 }
 
 export async function record(query) {
-    return (await answerOf(await send("GET", pathOf("record", query)))).value;
+    return valueOf("GET", pathOf("record", query));
 }
 
 export async function endSession(digest) {
-    return answerOf(await send("DELETE", `sessions/${digest}`, undefined, reasonField()));
+    await send("DELETE", `sessions/${digest}`, undefined, change());
 }
 
 /** Tries commands over a copy of the office, and returns what they would change. */
 export async function whatIf(lines) {
-    return (await answerOf(await send("POST", "what-if", lines.join("\n")))).value;
+    return valueOf("POST", "what-if", lines.join("\n"));
 }
 
 /** Does lines if the policy still has a revision, and returns their answers. */
 export async function doAll(lines, revision, why = reason) {
-    const fields = { "If-Policy-Revision": String(revision), ...(why ? { "Office-Reason": bytesOf(why) } : {}) };
-    const reply = await send("POST", "v1/batch", lines.join("\n"), fields);
-    if (!reply.ok) {
-        await answerOf(reply);
-    }
-    return (await reply.text()).trim().split("\n").map((line) => JSON.parse(line));
+    return linesIn(await send("POST", "v1/batch", lines.join("\n"), { "If-Policy-Revision": String(revision), ...change(why) }));
 }
 
 /** Records that a review has ended, and returns the number of its entry. */
 export async function endReview(values) {
-    return (await answerOf(await send("POST", "reviews", JSON.stringify(values)))).value.number;
+    return (await valueOf("POST", "reviews", JSON.stringify(values), change(""))).number;
 }
 
 /** Returns the condition of the front. It needs no identity. */
@@ -189,23 +195,17 @@ export async function health() {
 
 /** Returns a picture as a blob. */
 export async function picture(query) {
-    const reply = await send("GET", pathOf("picture", query));
-    return reply.ok ? reply.blob() : answerOf(reply);
+    return new Blob([await send("GET", pathOf("picture", query))], { type: "image/svg+xml" });
 }
 
 /** Asks for a report: a ticket for one download of it, how many lines it has, and of which revision of the policy and when it is. */
 export async function report(name, values = {}) {
-    return (await answerOf(await send("POST", `reports/${name}`, JSON.stringify(values)))).value;
+    return valueOf("POST", `reports/${name}`, JSON.stringify(values));
 }
 
 /** Returns the lines of a report that was asked for as lines, each as it is written. */
 export async function linesOf(ticket) {
-    const reply = await send("GET", `reports/${ticket}`);
-    if (!reply.ok) {
-        await answerOf(reply);
-    }
-    const text = await reply.text().catch(() => { throw new Lost("the end is missing"); });
-    return text.split("\n").slice(0, -1);
+    return (await send("GET", `reports/${ticket}`)).split("\n").slice(0, -1);
 }
 
 // The keys of each function that scopes are about: roles, objects, users.

@@ -1,7 +1,10 @@
 /** The console: who is logged in, and which page is shown. A page is chosen by the fragment of the address. */
 
 import { login, logout, Lost, may, maySome, Refused, setReason, who } from "./api.js";
-import { fail, field, form, hush, LOST, say, section } from "./parts.js";
+import { isVisit, visit } from "./address.js";
+import { forgetPlaces } from "./browse.js";
+import { hush, hushOthers, say, UNREAD } from "./notice.js";
+import { button, fail, field, form, lastPressed, section } from "./parts.js";
 import { h, name } from "./text.js";
 import { why } from "./words.js";
 import { explainAddress, explainPage } from "./explain.js";
@@ -11,7 +14,7 @@ import { recordPage } from "./record.js";
 import { reportPage, reportsPage } from "./reports.js";
 import { rolePage, rolesPage } from "./roles.js";
 import { separationPage, setPage } from "./separation.js";
-import { forgetReview, reviewPage } from "./review.js";
+import { forgetReview, isUnsaved, reviewPage } from "./review.js";
 import { userPage, usersPage } from "./users.js";
 import { whatIfPage } from "./whatif.js";
 
@@ -34,7 +37,11 @@ const COMMANDS = ["addUser", "deleteUser", "lockUserAccount", "unlockUserAccount
     "revokePermission", "createSsdSet", "createDsdSet", "deleteSession"];
 
 const main = () => document.getElementById("main");
+const scroller = () => document.getElementById("page");
 let isIn = false;
+// How far each page was scrolled, by its address, and the address of the one that is shown.
+const scrolled = new Map();
+let address = "";
 // Counts what is shown: a page that was asked for earlier isn't shown any more.
 let shown = 0;
 // The first page leaves the focus where the browser has it, so that the tab key begins at the top.
@@ -71,7 +78,10 @@ function title(text) {
     document.title = `${text} – Office console`;
 }
 
-/** Shows the page of the address. Its heading gets the focus, unless the page is only shown anew. */
+/**
+ * Shows the page of the address. Its heading gets the focus, unless the page is only shown anew: then the control has it that was
+ * pressed last, or the one in its place.
+ */
 async function show(isAnew = false) {
     if (!isIn) {
         return showLogin();
@@ -80,6 +90,12 @@ async function show(isAnew = false) {
     const mine = shown;
     const { segments, query } = addressOf(location.hash);
     const page = PAGES.find(([segment, , isShown]) => segment === segments[0] && isShown());
+    scrolled.set(address, scroller().scrollTop);
+    address = location.hash;
+    if (!isAnew && isVisit()) {
+        scrolled.delete(address);
+        forgetPlaces(address);
+    }
     // A link that is marked before the page is there would be drawn by itself.
     const marking = setTimeout(() => markPage(page?.[0]), 100);
     let nodes;
@@ -93,16 +109,39 @@ async function show(isAnew = false) {
         return;
     }
     markPage(page?.[0]);
-    const place = isAnew ? window.scrollY : 0;
+    const place = isAnew ? scroller().scrollTop : scrolled.get(address) ?? 0;
+    const again = isAnew ? controlAgain(lastPressed()) : () => null;
     main().replaceChildren(...nodes.flat(Infinity).filter(Boolean));
     const heading = main().querySelector("h1");
     title(heading.textContent);
     heading.tabIndex = -1;
-    if (!isFirst) {
-        heading.focus({ preventScroll: true });
+    scroller().scrollTop = place;
+    if (isFirst) {
+        scroller().focus({ preventScroll: true }); // So that the keys scroll, and the tab key begins at the top.
+        isFirst = false;
+        return;
     }
-    isFirst = false;
-    window.scrollTo(0, place);
+    heading.focus({ preventScroll: true });
+    if (isAnew) {
+        setTimeout(() => mine === shown && again()?.focus({ preventScroll: true })); // Parts that are known are there by then.
+    }
+}
+
+/** Returns a function that finds a control on the page that is made anew: in the section with its title, one like it at its place. */
+function controlAgain(control) {
+    const sectionOf = (text) => [...main().querySelectorAll("section, .actions")].find((one) => titleOf(one) === text);
+    const titleOf = (one) => one.querySelector("h2")?.textContent ?? one.className;
+    const kindOf = (one) => [one.tagName, one.dataset.key ?? one.textContent, one.closest("form")?.getAttribute("aria-label")].join("\t");
+    const section = control?.closest("section, .actions");
+    if (!section || !main().contains(section)) {
+        return () => null;
+    }
+    const like = (within) => [...within.querySelectorAll("button, input, select, textarea")].filter((one) => kindOf(one) === kindOf(control));
+    const [text, place] = [titleOf(section), like(section).indexOf(control)];
+    return () => {
+        const found = like(sectionOf(text) ?? h("p"));
+        return found[Math.min(Math.max(place, 0), found.length - 1)];
+    };
 }
 
 async function nodesOf(page, segments, query) {
@@ -115,7 +154,7 @@ async function nodesOf(page, segments, query) {
 
 async function troubleOf(error) {
     if (error instanceof Lost) {
-        return h("p", { class: "warning" }, LOST, " ", h("button", { type: "button", onclick: () => show() }, "Try again"));
+        return h("p", { class: "warning" }, UNREAD, " ", h("button", { type: "button", onclick: () => show() }, "Try again"));
     }
     if (error instanceof Refused) {
         return h("p", { class: "warning" }, await why({}, error));
@@ -132,7 +171,7 @@ function showWho() {
         reason.addEventListener("input", () => setReason(reason.value));
         parts.push(h("label", { for: "reason", class: "check" }, "Reason ", reason));
     }
-    parts.push(h("span", {}, caller.open ? "open to everybody" : name(caller.caller)));
+    parts.push(h("span", {}, caller.open ? "open to everybody" : name(caller.caller)), button("Refresh", "Refresh the page", () => show(true)));
     if (!caller.open) {
         parts.push(h("button", { type: "button", class: "plain", onclick: leave }, "Log out"));
     }
@@ -142,6 +181,8 @@ function showWho() {
 function leave() {
     logout();
     forgetReview();
+    forgetPlaces();
+    scrolled.clear();
     isIn = false;
     setReason("");
     hush();
@@ -185,13 +226,28 @@ document.getElementById("skip").addEventListener("click", (event) => {
     main().querySelector("h1").focus();
 });
 window.addEventListener("hashchange", () => {
+    hushOthers();
     if (isIn) {
         show();
     }
 });
 document.addEventListener("click", (event) => {
-    if (event.target.closest("a")) {
+    const link = event.target.closest("a[href^='#/']");
+    const isPlain = event.button === 0 && !event.ctrlKey && !event.metaKey && !event.shiftKey && !event.altKey;
+    if (link && isPlain) {
+        event.preventDefault();
         hush();
+        visit(link.hash);
+    }
+});
+document.addEventListener("keydown", (event) => {
+    if (event.key === "Escape") {
+        hush();
+    }
+});
+window.addEventListener("beforeunload", (event) => {
+    if (isUnsaved()) {
+        event.preventDefault(); // The browser asks whether the page may be left.
     }
 });
 

@@ -1,7 +1,9 @@
 /** The difference of two copies of the policy. The files are read by the browser: they go nowhere. */
 
 import { linesOf, report } from "./api.js";
-import { button, field, form, say, section, table } from "./parts.js";
+import { csvOfRows, download } from "./files.js";
+import { say } from "./notice.js";
+import { button, field, form, section, table } from "./parts.js";
 import { counted, h, name } from "./text.js";
 
 /** The facts of each line of a copy, in the order in which they are shown. {roles} is one role of the list: each has a fact. */
@@ -60,17 +62,9 @@ function differences(first, second) {
 
 const sentence = (parts, show) => parts.map((part) => (typeof part === "string" ? part : show(String(part.value))));
 
-/** Returns a cell of CSV. One that a spreadsheet would take for a formula gets an apostrophe. */
-function cell(text) {
-    return `"${text.replace(/^(?='*[=+\-@])/, "'").replaceAll('"', '""')}"`;
-}
-
 function save(found) {
-    const rows = [["where", "what"], ...found.map(({ where, parts }) => [`only in the ${where}`, sentence(parts, (text) => text).join("")])];
-    const file = new Blob(rows.map((row) => `${row.map(cell).join(",")}\n`), { type: "text/csv" });
-    const address = URL.createObjectURL(file);
-    h("a", { href: address, download: "difference.csv" }).click();
-    setTimeout(() => URL.revokeObjectURL(address), 60_000);
+    const rows = found.map(({ where, parts }) => [`only in the ${where}`, sentence(parts, (text) => text).join("")]);
+    download("difference.csv", "text/csv", csvOfRows([["where", "what"], ...rows]));
 }
 
 export async function differencePage() {

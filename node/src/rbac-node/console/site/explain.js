@@ -1,8 +1,8 @@
 /** Explain: whether a user, or a session, may do an operation on an object, and why. */
 
-import { explain, may, maySome, Refused, rows } from "./api.js";
+import { everything, explain, may, maySome, Refused } from "./api.js";
 import { drawn, fail, field, form, section } from "./parts.js";
-import { h, listed, name, object, role, set, user } from "./text.js";
+import { h, listed, name, object, role, set, some, user } from "./text.js";
 import { why } from "./words.js";
 
 export async function explainPage(context) {
@@ -104,11 +104,11 @@ async function lackOf(query) {
     if (!may("lists")) {
         return ["No role gives this permission to the user."];
     }
-    const grants = await rows("grants", { object: query.object, operation: query.operation });
+    const grants = await everything("grants", { object: query.object, operation: query.operation });
     if (grants.length === 0) {
         return ["No role has this permission."];
     }
-    return ["It is granted to ", listed(grants.slice(0, 20).map((row) => role(row.role))), grants.length > 20 ? " and more roles" : "", ", and ",
+    return ["It is granted to ", some(grants.map((row) => row.role), role, "and", 20), ", and ",
         user(query.user), grants.length === 1 ? " is not authorized for that role." : " is authorized for none of these roles."];
 }
 

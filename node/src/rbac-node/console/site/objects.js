@@ -1,21 +1,20 @@
 /** The objects, and one object: its operations, who may do each, and why. */
 
-import { askAll, list, lists, may, maySome } from "./api.js";
-import { action, button, command, deliberate, field, form, later, pager, section, table } from "./parts.js";
-import { counted, h, hashOf, link, listed, name, object, plain, role, user } from "./text.js";
+import { askAll, everything, lists, may, maySome } from "./api.js";
+import { browse } from "./browse.js";
+import { Hierarchy } from "./hierarchy.js";
+import { action, button, command, deliberate, field, form, later, searchForm, section, table } from "./parts.js";
+import { brief, h, hashOf, link, listed, name, object, plain, role, set, user } from "./text.js";
 
-const SHOWN = 100;
+/** The most operations of an object that are shown on its page; of more there is a list. */
+const MOST_OPERATIONS = 50;
 
 export async function objectsPage({ query, anew }) {
-    const { contains = "", after } = query;
-    const part = await list("objects", { contains, after, limit: SHOWN });
-    const search = form("Search objects", [field("Name contains", "contains", { value: contains, type: "search" })], "Search",
-        (values) => { location.hash = `${hashOf(["objects"])}?${new URLSearchParams(values)}`; }, { class: "search" });
-    const next = part.next ? { ...(contains ? { contains } : {}), after: part.next } : null;
-    const nodes = [h("h1", {}, "Objects"), section("Find an object", search,
-        table(contains ? `Objects whose names contain “${plain(contains)}”` : "Objects in the order of their names", ["Object"],
-            part.value.map((one) => [object(one)]), "There is no such object."),
-        pager(["objects"], next, !after))];
+    const { contains = "" } = query;
+    const nodes = [h("h1", {}, "Objects"), section("Find an object", searchForm("objects", contains),
+        await browse(contains ? `Objects whose names contain “${plain(contains)}”` : "Objects in the order of their names", ["Object"],
+            await everything("objects", { contains }), (part) => part.map((one) => [object(one)]),
+            { empty: contains ? "There is no such object." : "There is no object yet." }))];
     if (maySome("addPermObj")) {
         nodes.push(section("Add an object", form("Add an object", [field("Name", "object", { required: true })], "Add",
             (values) => command("addPermObj", values, anew))));
@@ -23,22 +22,31 @@ export async function objectsPage({ query, anew }) {
     return nodes;
 }
 
-export async function objectPage([text], { anew }) {
-    const [known, permissions] = (await lists(["objects", { object: text }], ["permissions", { object: text }])).map((part) => part.value);
+/** The page of an object, or of one of its operations. */
+export async function objectPage([text, only], { anew }) {
+    const [known, permissions, inheritances, dynamic] = await lists(["objects", { object: text }], ["permissions", { object: text }],
+        ["inheritances"], ["dynamicSets"]);
     if (known.length === 0) {
         return [h("h1", {}, "Object ", name(text)), h("p", {}, "There is no such object.")];
     }
     const values = { object: text };
-    const mayAsk = may("permissionRoles", values);
-    const granted = mayAsk ? await askAll(permissions.map((row) => ({ fn: "permissionRoles", ...row }))).then((all) => all.map((one) => one.value ?? [])) : null;
+    const isMany = only === undefined && permissions.length > MOST_OPERATIONS;
+    const shown = isMany ? [] : permissions.filter(({ operation }) => only === undefined || operation === only);
+    const granted = may("permissionRoles", values) ? await askAll(shown.map((row) => ({ fn: "permissionRoles", ...row }))).then((all) => all.map((one) => one.value ?? [])) : null;
     const nodes = [
-        h("h1", {}, "Object ", name(text)),
+        h("h1", {}, "Object ", only === undefined ? name(text) : object(text)),
         may("deletePermObj", values) ? h("div", { class: "actions" }, deliberate("Delete", `Delete the object ${text}`, "Delete the object?",
             () => command("deletePermObj", values, hashOf(["objects"])))) : null,
     ];
-    permissions.forEach(({ operation }, i) => nodes.push(operationSection(text, operation, granted?.[i], anew)));
-    if (permissions.length === 0) {
-        nodes.push(section("Operations", h("p", { class: "quiet" }, "The object has no operations.")));
+    const hierarchy = new Hierarchy(inheritances);
+    const violated = (one) => hierarchy.violated(dynamic, one);
+    if (isMany) {
+        nodes.push(section("Operations", await browse("Operations", ["Operation"], permissions,
+            (part) => part.map(({ operation }) => [link(["objects", text, operation], brief(operation))]), { names: ({ operation }) => [operation] })));
+    }
+    shown.forEach(({ operation }, i) => nodes.push(operationSection(text, operation, granted?.[i], violated, anew)));
+    if (shown.length === 0 && !isMany) {
+        nodes.push(section("Operations", h("p", { class: "quiet" }, only === undefined ? "The object has no operations." : "There is no such operation.")));
     }
     if (may("addPermission", values)) {
         nodes.push(section("Add an operation", form("Add an operation", [field("Operation", "operation", { from: "operations", required: true })], "Add",
@@ -47,16 +55,20 @@ export async function objectPage([text], { anew }) {
     return nodes;
 }
 
-/** An operation: the roles that it is granted to, and who may do it by which of them. */
-function operationSection(text, operation, granted, anew) {
+/**
+ * An operation: the roles that it is granted to, and who may do it by which of them. `violated` returns the dynamic set of which a role
+ * includes too many, if there is one.
+ */
+function operationSection(text, operation, granted, violated, anew) {
     const values = { object: text, operation };
     const revoke = (one) => (may("revokePermission", { ...values, role: one })
         ? button("Revoke", `Revoke ${operation} from ${one}`, () => command("revokePermission", { ...values, role: one }, anew)) : null);
     const parts = [];
     if (granted) {
-        parts.push(table("Granted to", ["Role", ""], granted.map((one) => [role(one), action(revoke(one))]), "No role has this permission."));
+        const never = (one) => (violated(one) ? [" ", h("span", { class: "mark no" }, "can never be activated")] : null);
+        parts.push(table("Granted to", ["Role", ""], granted.map((one) => [[role(one), never(one)], action(revoke(one))]), "No role has this permission."));
         if (granted.length > 0 && granted.every((one) => may("authorizedUsers", { role: one }))) {
-            parts.push(holdersOf(text, operation, granted));
+            parts.push(holdersOf(text, operation, granted, violated));
         }
     }
     const forms = [];
@@ -71,25 +83,35 @@ function operationSection(text, operation, granted, anew) {
     return section(["Operation ", name(operation)], parts, forms);
 }
 
-/** Who is authorized for a role that has the permission; asked for when it is opened if there are many roles. */
-function holdersOf(text, operation, granted) {
+/** Who may do it, and who is authorized for a role that has the permission and may not; asked for when it is opened. */
+function holdersOf(text, operation, granted, violated) {
     const holder = h("details", {}, h("summary", {}, "Who may do it, and why"));
     holder.addEventListener("toggle", async () => {
-        if (!holder.open || holder.children.length > 1) {
-            return;
+        if (holder.open && holder.children.length === 1) {
+            holder.append(later("Users", () => holders(text, operation, granted, violated)));
         }
-        const place = h("div", {});
-        holder.append(place);
-        place.replaceChildren(later("Users", async () => {
-            const answers = await askAll(granted.map((one) => ({ fn: "authorizedUsers", role: one })));
-            const by = new Map();
-            answers.forEach((answer, i) => (answer.value ?? []).forEach((one) => by.set(one, [...(by.get(one) ?? []), granted[i]])));
-            const all = [...by.keys()].sort();
-            const found = all.slice(0, SHOWN).map((one) => [user(one), ["authorized for ", listed(by.get(one).map(role))],
-                action(link(["explain", one, operation, text], "Why"))]);
-            return [table(`${counted(all.length, "user")}; a locked user, or one whose role can't be activated, may do nothing`, ["User", "Because", ""], found, "Nobody."),
-                all.length > SHOWN ? h("p", {}, `These are the first ${SHOWN}.`) : ""];
-        }));
     });
     return holder;
+}
+
+async function holders(text, operation, granted, violated) {
+    const [answers, locked] = await Promise.all([askAll(granted.map((one) => ({ fn: "authorizedUsers", role: one }))), everything("locked")]);
+    const by = new Map();
+    answers.forEach((answer, i) => (answer.value ?? []).forEach((one) => by.set(one, [...(by.get(one) ?? []), granted[i]])));
+    const isLocked = new Set(locked);
+    const usable = new Map([...by].map(([one, roles]) => [one, roles.filter((each) => !violated(each))]));
+    const all = [...by.keys()].sort();
+    const isAble = (one) => !isLocked.has(one) && usable.get(one).length > 0;
+    const [able, unable] = [all.filter(isAble), all.filter((one) => !isAble(one))];
+    const why = (one) => action(link(["explain", one, operation, text], "Why"));
+    const names = (one) => [one];
+    const hindered = (one) => (isLocked.has(one) ? h("span", { class: "mark no" }, "locked")
+        : ["no session can have ", listed(by.get(one).map(role), "or"), ", which ", set("dynamic", violated(by.get(one)[0]).set), " forbids"]);
+    return [
+        await browse("Users who may do it", ["User", "Because", ""], able,
+            (part) => part.map((one) => [user(one), ["authorized for ", listed(usable.get(one).map(role))], why(one)]),
+            { empty: "Nobody may do it.", names, of: operation }),
+        unable.length === 0 ? null : await browse("Users with such a role who may not do it", ["User", "Because", ""], unable,
+            (part) => part.map((one) => [user(one), hindered(one), why(one)]), { names, of: operation }),
+    ];
 }

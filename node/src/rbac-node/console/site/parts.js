@@ -1,6 +1,8 @@
 /** Parts that several pages have: sections, tables, forms, pictures. */
 
-import { ask, Lost, maySome, picture, Refused } from "./api.js";
+import { Lost, maySome, order, picture, Refused } from "./api.js";
+import { visit } from "./address.js";
+import { hush, LOST, say, UNREAD } from "./notice.js";
 import { done, refusal, suggestions, why } from "./words.js";
 import { h, hashOf, listed, plain, some } from "./text.js";
 
@@ -25,26 +27,13 @@ export function table(caption, heads, rows, empty = "None.") {
 export const number = (value) => ({ class: "number", child: value.toLocaleString("en") });
 export const action = (child) => ({ class: "action", child: child ?? "" });
 
-const notice = () => document.getElementById("notice");
-
-/** Shows what has happened, above the page. */
-export function say(kind, nodes) {
-    notice().replaceChildren(h("p", { class: kind }, nodes));
-}
-
-export function hush() {
-    notice().replaceChildren();
-}
-
-export const LOST = "The front doesn't answer. What you asked for may or may not have been done: look again when it answers.";
-
 /** What somebody has typed or opened can't be used; the message says why. */
 export class Unfit extends Error {}
 
 /** Says why something failed. */
 export async function fail(error, values = {}) {
     if (error instanceof Lost) {
-        say("refused", [LOST]);
+        say("refused", [error.isChange ? LOST : UNREAD]);
     } else if (error instanceof Refused) {
         say("refused", ["Refused: ", await why(values, error)]);
     } else if (error instanceof Unfit) {
@@ -54,20 +43,21 @@ export async function fail(error, values = {}) {
     }
 }
 
-/** Asks for a command, says what came of it, and shows the page anew if it was done. */
+/** Asks for a command, says what came of it, and shows the page anew if it was done, or the one with the address `after`. */
 export async function command(fn, values, after) {
     try {
-        await ask(fn, values);
+        await order(fn, values);
     } catch (error) {
         if (!(error instanceof Refused)) {
             return fail(error);
         }
         return say("refused", await refusal(fn, values, error).catch(() => [error.message]));
     }
-    say("done", done(fn, values));
     if (typeof after === "string") {
-        location.hash = after;
+        say("done", done(fn, values), after);
+        visit(after);
     } else {
+        say("done", done(fn, values));
         await after?.();
     }
 }
@@ -107,10 +97,34 @@ export function form(label, inputs, submit, perform, more = {}) {
         if (button.disabled) {
             return;
         }
-        button.disabled = true;
-        await Promise.resolve(perform(valuesOf(element))).catch((error) => fail(error)).finally(() => { button.disabled = false; });
+        await pressed(element.querySelector("input, select, textarea") ?? button, button, () => perform(valuesOf(element)));
     });
     return element;
+}
+
+let last = null;
+
+/** Returns the control that was pressed last: the first field of its form, or a button. */
+export const lastPressed = () => last;
+
+/** Does what a button is for, unless it is being done. */
+async function pressed(control, element, perform) {
+    last = control;
+    hush();
+    element.disabled = true;
+    try {
+        await perform();
+    } catch (error) {
+        await fail(error);
+    } finally {
+        element.disabled = false;
+    }
+}
+
+/** Returns a form that shows the names of a page that have a text in them. */
+export function searchForm(segment, contains) {
+    return form(`Search ${segment}`, [field("Name contains", "contains", { value: contains, type: "search" })], "Search",
+        (values) => visit(`${hashOf([segment])}?${new URLSearchParams(values)}`), { class: "search" });
 }
 
 /** Returns what a form's fields have. */
@@ -124,14 +138,11 @@ function valuesOf(element) {
     return values;
 }
 
-/** Returns a button that asks for a command, with a label that says about what. */
-export function button(text, label, perform, kind = "plain") {
+/** Returns a button that asks for a command, with a label that says about what. It may stand for another control. */
+export function button(text, label, perform, kind = "plain", control = null) {
     const element = h("button", { type: "button", class: kind, "aria-label": plain(label) });
     element.append(text);
-    element.addEventListener("click", async () => {
-        element.disabled = true;
-        await Promise.resolve(perform()).catch((error) => fail(error)).finally(() => { element.disabled = false; });
-    });
+    element.addEventListener("click", () => pressed(control ?? element, element, perform));
     return element;
 }
 
@@ -139,7 +150,7 @@ export function button(text, label, perform, kind = "plain") {
 export function deliberate(text, label, question, perform) {
     const holder = h("span", {});
     const first = button(text, label, () => {
-        const yes = button("Yes", `${label}: yes`, perform, "bad");
+        const yes = button("Yes", `${label}: yes`, perform, "bad", first);
         const no = button("No", `${label}: no`, () => {
             holder.replaceChildren(first);
             first.focus();
@@ -149,16 +160,6 @@ export function deliberate(text, label, question, perform) {
     }, "bad");
     holder.append(first);
     return holder;
-}
-
-/** Returns links to the parts of a list. */
-export function pager(segments, next, isFirst) {
-    if (!next && isFirst) {
-        return null;
-    }
-    return h("p", { class: "pager" },
-        isFirst ? null : h("a", { href: hashOf(segments) }, "First page"), isFirst || !next ? null : " · ",
-        next ? h("a", { href: `${hashOf(segments)}?${new URLSearchParams(next)}` }, "Next page") : null);
 }
 
 /** Returns the end of a sentence with the first few names, and a button that shows all of them. */
@@ -214,7 +215,7 @@ export function later(title, load) {
     load().then(
         (children) => element.replaceChildren(h("h2", {}, title), ...[children].flat(Infinity).filter(Boolean)),
         async (error) => {
-            const text = error instanceof Refused ? await why({}, error) : [LOST];
+            const text = error instanceof Refused ? await why({}, error) : [UNREAD];
             element.replaceChildren(h("h2", {}, title), h("p", {}, text));
         },
     );

@@ -1,9 +1,10 @@
 /** The record: who asked for which command, when and why, and what the office answered. */
 
-import { record } from "./api.js";
+import { visit } from "./address.js";
+import { record, Refused } from "./api.js";
 import { field, form, section, table } from "./parts.js";
-import { counted, h, hashOf, name, time } from "./text.js";
-import { done, short, wanted } from "./words.js";
+import { h, hashOf, name, time } from "./text.js";
+import { done, FUNCTIONS, short, wanted, why } from "./words.js";
 
 /** Returns a table of entries. In a short one there are no reasons and numbers. */
 export function entriesTable(caption, entries, isShort = false) {
@@ -42,34 +43,57 @@ const FILTERS = ["user", "role", "object", "function", "caller", "since", "until
 
 export async function recordPage({ query }) {
     const wantedQuery = Object.fromEntries(Object.entries(query).filter(([key]) => FILTERS.includes(key)));
-    const { entries, head, next } = await record({ limit: 50, ...wantedQuery });
-    const [last, chain] = head.split(":");
+    const nodes = [h("h1", {}, "Record")];
+    let found;
+    try {
+        found = await record({ limit: 50, ...wantedQuery });
+    } catch (error) {
+        if (!(error instanceof Refused && error.status === 400)) {
+            throw error;
+        }
+        return [...nodes, section("Entries", filterForm(query), h("p", { class: "warning" }, "The record was not searched: ", await why({}, error)))];
+    }
+    const { entries, head, next } = found;
     const older = { ...wantedQuery, before: next };
+    const count = `${entries.length} ${entries.length === 1 ? "entry" : "entries"}${next ? ", and there are older ones" : ""}`;
     return [
-        h("h1", {}, "Record"),
+        ...nodes,
         section("Entries", filterForm(query),
-            entriesTable(`The newest first${Object.keys(wantedQuery).length ? ", chosen by the filter" : ""}: ${counted(entries.length, "entry").replace("entrys", "entries")}`, entries),
+            entriesTable(`The newest first${Object.keys(wantedQuery).length ? ", chosen by the filter" : ""}: ${count}`, entries),
             h("p", { class: "pager" },
                 query.before ? h("a", { href: hashOf(["record"]) }, "Newest entries") : null, query.before && next ? " · " : null,
                 next ? h("a", { href: `${hashOf(["record"])}?${new URLSearchParams(older)}` }, "Older entries") : null)),
         section("Head of the chain",
             h("p", {}, "Each entry has a digest of itself and of all entries before it. Write this head down elsewhere: ",
                 h("span", { class: "mono" }, "rbac-node record verify --head"), " then finds whether somebody has changed what came before."),
-            h("p", { class: "mono", id: "head" }, `${last}:${chain}`)),
+            h("p", { class: "mono", id: "head" }, head)),
     ];
+}
+
+/** Returns a field for a day, or for what else an address has. */
+function timeField(label, key, value = "") {
+    const made = field(label, key, { value, type: "date" });
+    const input = made.querySelector("input");
+    if (input.value !== value) {
+        Object.assign(input, { type: "text", value });
+    }
+    return made;
 }
 
 function filterForm(query) {
     const text = (label, key, more = {}) => field(label, key, { value: query[key] ?? "", ...more });
+    const chosen = query.function ?? "";
+    const functions = h("select", { id: "function", "data-key": "function" }, ["", ...new Set([...FUNCTIONS, chosen])].filter((one, i) => i === 0 || one !== "")
+        .map((one) => h("option", { value: one, selected: one === chosen }, one || "any")));
     const refused = field("Only refused", "refused", { type: "checkbox", checked: query.refused === "true" });
     refused.className = "check";
     const inputs = [
         text("User", "user", { from: "users" }), text("Role", "role", { from: "roles" }), text("Object", "object", { from: "objects" }),
-        text("Function", "function"), text("Caller", "caller"), text("Since", "since", { placeholder: "2026-11-27" }),
-        text("Before", "until", { placeholder: "2026-11-28T12:00" }), refused,
+        h("label", { for: "function" }, h("span", {}, "Function"), functions), text("Caller", "caller"),
+        timeField("Since (UTC)", "since", query.since), timeField("Before (UTC)", "until", query.until), refused,
     ];
     return form("Filter the record", inputs, "Filter", (values) => {
-        const chosen = Object.entries(values).filter(([, value]) => value !== "" && value !== false);
-        location.hash = `${hashOf(["record"])}?${new URLSearchParams(chosen)}`;
+        const given = Object.entries(values).filter(([, value]) => value !== "" && value !== false);
+        visit(`${hashOf(["record"])}?${new URLSearchParams(given)}`);
     }, { class: "search" });
 }

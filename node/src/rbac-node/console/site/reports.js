@@ -1,7 +1,9 @@
 /** Reports: shown to be read, printed and signed, or as files, each by a ticket for one download. */
 
+import { visit } from "./address.js";
 import { linesOf, Refused, report, who } from "./api.js";
-import { button, fail, field, form, say, section, table } from "./parts.js";
+import { say } from "./notice.js";
+import { button, fail, field, form, section, table } from "./parts.js";
 import { brief, counted, h, hashOf, link, name, time } from "./text.js";
 import { differencePage } from "./difference.js";
 import { KINDS } from "./overview.js";
@@ -82,7 +84,7 @@ function filterForm(segment, told, query) {
     const inputs = told.fields.map(([label, key, from, more]) => field(label, key, { from, value: query[key] ?? "", ...more }));
     return form(`Choose lines: ${told.title}`, inputs, "Show", (values) => {
         const given = Object.entries(values).filter(([, value]) => value !== "");
-        location.hash = `${hashOf(["reports", segment])}?${new URLSearchParams(given)}`;
+        visit(`${hashOf(["reports", segment])}?${new URLSearchParams(given)}`);
     }, { class: "search" });
 }
 

@@ -1,8 +1,10 @@
 /** Review: a recertification of who has what. It is in this page alone until the reviewer saves it to a file. */
 
 import { askAll, endReview, everything, may } from "./api.js";
-import { button, deliberate, field, form, say, section, table, Unfit } from "./parts.js";
-import { csvOf, digestOf, download, fileName, MOST_LINES, opened, peopleOf, reviewName, saved, textOf } from "./reviewfile.js";
+import { download } from "./files.js";
+import { say } from "./notice.js";
+import { button, deliberate, field, form, section, table, Unfit } from "./parts.js";
+import { csvOf, digestOf, fileName, MOST_LINES, opened, peopleOf, reviewName, saved, textOf } from "./reviewfile.js";
 import { counted, h, listed, name, plain, role, user } from "./text.js";
 
 import { MOST, performed, trial } from "./whatif.js";
@@ -16,6 +18,9 @@ const GIVEN_IN_FILE = 100;
 export function forgetReview() {
     review = null;
 }
+
+/** Whether decisions or notes would be lost if the page were left. */
+export const isUnsaved = () => review?.isUnsaved === true;
 
 export async function reviewPage({ anew }) {
     return review ? pageOf(anew) : [h("h1", {}, "Review"), section("Begin a review", beginForm(anew)), section("Go on with a review", openForm(anew))];
@@ -164,12 +169,14 @@ function actionsOf(anew) {
     return h("div", { class: "actions" },
         button("Save", "Save the review to a file", () => {
             download(fileName(review, "json"), "application/json", saved(review));
+            review.isUnsaved = false;
             say("done", ["The review is in a file of your browser's downloads. Open it here to go on."]);
         }),
         button("CSV", "Download the list as CSV", () => download(fileName(review, "csv"), "text/csv", list())),
         button("Print", "Print the list", () => window.print()),
         review.ended ? null : deliberate("Keep the others", "Keep all that is undecided", "Keep all that is undecided?", async () => {
             decided("").forEach((line) => { line.decision = "keep"; });
+            review.isUnsaved = true;
             await anew();
         }),
         close);
@@ -249,6 +256,7 @@ function rowOf(line, counts) {
         const input = h("input", { type: "radio", name: `decision-${groups}`, value, checked: line.decision === value });
         input.addEventListener("change", () => {
             Object.assign(line, { decision: value, state: "" });
+            review.isUnsaved = true;
             on.replaceChildren(wordsOf(line));
             counts.replaceChildren(summary());
         });
@@ -257,6 +265,7 @@ function rowOf(line, counts) {
     const note = h("input", { value: line.note, maxlength: "500", autocomplete: "off" });
     note.addEventListener("input", () => {
         line.note = note.value;
+        review.isUnsaved = true;
         noted.replaceChildren(name(line.note));
     });
     const whose = `${plain(line.role)} of ${plain(line.user)}`;

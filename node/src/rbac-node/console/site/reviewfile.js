@@ -1,5 +1,6 @@
 /** The files of a review: the one that the reviewer keeps, the people file, and the list as CSV. */
 
+import { csvOfRows } from "./files.js";
 import { Unfit } from "./parts.js";
 
 const FORMAT = "office review";
@@ -22,14 +23,6 @@ export async function textOf(file) {
     } catch {
         throw new Unfit("The file is not text in UTF-8.");
     }
-}
-
-/** Gives the browser a file to keep. */
-export function download(name, type, text) {
-    const link = document.createElement("a");
-    Object.assign(link, { href: URL.createObjectURL(new Blob([text], { type })), download: name });
-    link.click();
-    setTimeout(() => URL.revokeObjectURL(link.href), 60_000);
 }
 
 /** Returns the name of a file of a review. */
@@ -129,12 +122,6 @@ export function peopleOf(text) {
     return people;
 }
 
-/** Returns a cell of CSV. What a spreadsheet would take for a formula gets an apostrophe, and one more if it has some, as in the reports. */
-function cell(text) {
-    const safe = /^'*[=+\-@]/.test(text) ? `'${text}` : text;
-    return /[",\r\n]/.test(safe) ? `"${safe.replaceAll('"', '""')}"` : safe;
-}
-
 /** Returns the list of a review as CSV. `permissions` returns those of a role in words, and `result` what came of a line. */
 export function csvOf(review, permissions, result) {
     const rows = review.lines.map((line) => {
@@ -142,7 +129,7 @@ export function csvOf(review, permissions, result) {
         return [line.user, name, department, manager, line.role, permissions(line.role), line.decision || "undecided", line.note, result(line)];
     });
     const heads = ["user", "name", "department", "manager", "role", "permissions", "decision", "note", "result"];
-    return [heads, ...rows].map((row) => row.map(cell).join(",")).join("\r\n") + "\r\n";
+    return csvOfRows([heads, ...rows]);
 }
 
 /** Returns the SHA-256 digest of a text in UTF-8. */

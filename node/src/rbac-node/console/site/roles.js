@@ -1,20 +1,21 @@
 /** The roles: the hierarchy as a tree, and one role with its neighbours, users, permissions and sets. */
 
-import { ask, everything, list, lists, may, maySome, picture } from "./api.js";
-import { action, awhile, button, command, deliberate, drawn, early, field, folded, form, later, pager, section, table } from "./parts.js";
+import { ask, everything, lists, may, maySome, picture } from "./api.js";
+import { browse } from "./browse.js";
+import { Hierarchy } from "./hierarchy.js";
+import { action, awhile, button, command, deliberate, drawn, early, field, form, later, searchForm, section, table } from "./parts.js";
 import { brief, counted, few, h, hashOf, link, name, object, role, set, some, user } from "./text.js";
 
-const SHOWN = 100;
-const SHOWN_INHERITED = 50;
+// The most roles at the top of the hierarchy of which the lower ones are shown too.
+const MOST_OPEN = 100;
+const SHOWN_USERS = 25;
 // How many sets are shown of those that have a role.
 const MOST_SETS = 5;
 
 export async function rolesPage({ query, anew }) {
     const { contains = "" } = query;
-    const search = form("Search roles", [field("Name contains", "contains", { value: contains, type: "search" })], "Search",
-        (values) => { location.hash = `${hashOf(["roles"])}?${new URLSearchParams(values)}`; }, { class: "search" });
-    const content = contains ? await foundRoles(contains, query.after) : await hierarchy();
-    const nodes = [h("h1", {}, "Roles"), section(contains ? "Found" : "Hierarchy", search, content)];
+    const content = contains ? await foundRoles(contains) : await hierarchy();
+    const nodes = [h("h1", {}, "Roles"), section(contains ? "Found" : "Hierarchy", searchForm("roles", contains), content)];
     if (maySome("addRole")) {
         nodes.push(section("Add a role", form("Add a role", [field("Name", "role", { required: true })], "Add",
             (values) => command("addRole", values, anew))));
@@ -22,10 +23,9 @@ export async function rolesPage({ query, anew }) {
     return nodes;
 }
 
-async function foundRoles(contains, after) {
-    const part = await list("roles", { contains, after, limit: SHOWN });
-    return [table("Roles whose names contain the text", ["Role"], part.value.map((one) => [role(one)]), "There is no such role."),
-        pager(["roles"], part.next ? { contains, after: part.next } : null, !after)];
+async function foundRoles(contains) {
+    return browse("Roles whose names contain the text", ["Role"], await everything("roles", { contains }), (part) => part.map((one) => [role(one)]),
+        { empty: "There is no such role." });
 }
 
 /** The hierarchy as a tree: at its top the roles without seniors, below each role those that it inherits from. */
@@ -39,7 +39,7 @@ async function hierarchy() {
     }
     const tops = roles.filter((one) => !hasSenior.has(one));
     return [h("p", { class: "quiet" }, `${counted(roles.length, "role")}. Below a role are those that it inherits from.`),
-        tops.length ? branch(tops, juniors, tops.length <= SHOWN ? 2 : 0) : h("p", {}, "There is no role.")];
+        tops.length ? branch(tops, juniors, tops.length <= MOST_OPEN ? 2 : 0) : h("p", {}, "There is no role.")];
 }
 
 /** A part of the tree. Lower parts are made when they are opened, since a role may be below many others. */
@@ -62,32 +62,34 @@ function branch(roles, juniors, open) {
     }));
 }
 
-export async function rolePage([text], { query, anew }) {
+export async function rolePage([text], { anew }) {
     const values = { role: text };
     // Everything is asked for at once, what takes longest first.
     const drawing = early(picture(values));
-    const authorizing = early(may("authorizedUsers", values) ? ask("authorizedUsers", values) : Promise.resolve([]));
-    const mayAsk = may("rolePermissions", values);
-    const found = await lists(["roles", values], ["inheritances", { desc: text }], ["inheritances", { asc: text }], ["assignments", values], ["grants", values],
-        ["staticSets"], ["dynamicSets"], ...(mayAsk ? [["permissions", { ...values, limit: SHOWN_INHERITED, after: query.after }]] : []));
-    const [known, seniors, juniors, assignments, granted, fixed, dynamic] = found.map((one) => one.value);
+    const authorizing = early(may("authorizedUsers", values) ? ask("authorizedUsers", values) : Promise.resolve(null));
+    const having = early(may("rolePermissions", values) ? ask("rolePermissions", values) : Promise.resolve(null));
+    const [known, inheritances, assignments, granted, fixed, dynamic] = await lists(["roles", values], ["inheritances"], ["assignments", values],
+        ["grants", values], ["staticSets"], ["dynamicSets"]);
     if (known.length === 0) {
         return [h("h1", {}, "Role ", name(text)), h("p", {}, "There is no such role.")];
     }
-    await awhile([authorizing]);
+    await awhile([authorizing, having]);
+    const seniors = inheritances.filter(({ desc }) => desc === text);
+    const juniors = inheritances.filter(({ asc }) => asc === text);
+    const met = setsMet(new Hierarchy(inheritances), text, fixed, dynamic);
     return [
-        h("h1", {}, "Role ", name(text)),
+        h("h1", {}, "Role ", name(text)), impossible(met.filter((one) => one.isTooMany)),
         may("deleteRole", values) ? h("div", { class: "actions" }, deliberate("Delete", `Delete the role ${text}`,
             "Delete the role with all of its assignments and grants?", () => command("deleteRole", values, hashOf(["roles"])))) : null,
         h("div", { class: "columns" },
             section("Inheritance",
-                edges("Senior roles, which inherit from this one", seniors.map(({ asc }) => ({ asc, desc: text })), "asc", "No role inherits from this one.", anew),
-                edges("Junior roles, from which this one inherits", juniors.map(({ desc }) => ({ asc: text, desc })), "desc", "It inherits from no role.", anew),
+                edges("Senior roles, which inherit from this one", seniors, "asc", "No role inherits from this one.", anew),
+                edges("Junior roles, from which this one inherits", juniors, "desc", "It inherits from no role.", anew),
                 addEdges(text, anew)),
             section("Neighbours", drawn({ role: text }, `The role with its ${counted(seniors.length, "senior role")}, ${counted(juniors.length, "junior role")} and its separation of duty sets, as in the lists beside it`, drawing))),
         h("div", { class: "columns" }, later("Users", async () => usersOf(text, assignments.map((row) => row.user), await authorizing, anew)),
-            section("Separation of duty", setsOf(text, fixed, dynamic))),
-        section("Permissions", permissionsOf(text, query.after, granted, found[7], anew)),
+            section("Separation of duty", setsOf(met))),
+        later("Permissions", async () => permissionsOf(text, granted, await having, anew)),
     ];
 }
 
@@ -106,20 +108,18 @@ function addEdges(text, anew) {
         (values) => command("addInheritance", values.which === "desc" ? { asc: text, desc: values.role } : { asc: values.role, desc: text }, anew));
 }
 
-function usersOf(text, assigned, authorized, anew) {
+async function usersOf(text, assigned, authorized, anew) {
     const direct = new Set(assigned);
-    const more = authorized.filter((one) => !direct.has(one));
+    const more = (authorized ?? []).filter((one) => !direct.has(one));
     const remove = (one) => {
         const values = { user: one, role: text };
         return may("deassignUser", values) ? button("Remove", `Remove the assignment of ${one}`, () => command("deassignUser", values, anew)) : null;
     };
-    const shown = assigned.slice(0, SHOWN);
-    const nodes = [table("Assigned users", ["User", ""], shown.map((one) => [user(one), action(remove(one))]), "Nobody is assigned.")];
-    if (assigned.length > shown.length) {
-        nodes.push(h("p", {}, `These are the first ${shown.length}.`));
-    }
+    const names = (one) => [one];
+    const nodes = [await browse("Assigned users", ["User", ""], assigned, (part) => part.map((one) => [user(one), action(remove(one))]),
+        { empty: "Nobody is assigned.", size: SHOWN_USERS, names })];
     if (more.length > 0) {
-        nodes.push(h("p", {}, `Authorized through a senior role, ${counted(more.length, "user")}: `, folded(more, user, `Show all users of ${text}`)));
+        nodes.push(await browse("Authorized through a senior role", ["User"], more, (part) => part.map((one) => [user(one)]), { size: SHOWN_USERS, names }));
     }
     if (may("assignUser", { role: text })) {
         nodes.push(form("Assign a user", [field("User", "user", { from: "users", required: true })], "Assign",
@@ -128,42 +128,60 @@ function usersOf(text, assigned, authorized, anew) {
     return nodes;
 }
 
-function setsOf(text, fixed, dynamic) {
-    const found = [["static", fixed], ["dynamic", dynamic]].flatMap(([kind, sets]) => sets.filter((one) => one.roles.includes(text)).map((one) => [kind, one]));
-    const lines = found.slice(0, MOST_SETS)
-        .map(([kind, one]) => h("li", {}, set(kind, one.set), ` (${kind}): at most ${few(one.cardinality - 1)} of `, some(one.roles, role)));
-    if (lines.length === 0) {
-        return h("p", { class: "quiet" }, "The role is in no set.");
+/** Returns the sets of which a role includes members, itself or by inheritance. */
+function setsMet(hierarchy, text, fixed, dynamic) {
+    const below = hierarchy.below(text);
+    const all = [["static", fixed], ["dynamic", dynamic]].flatMap(([kind, sets]) => sets.map((one) => ({ kind, one, members: one.roles.filter((member) => below.has(member)) })));
+    return all.filter(({ members }) => members.length > 0).map(({ kind, one, members }) => ({
+        kind, one, members, inherited: members.filter((member) => member !== text), isTooMany: members.length >= one.cardinality,
+        barred: () => (members.length < one.cardinality ? hierarchy.barred(one, members) : []),
+    })).sort((a, b) => b.isTooMany - a.isTooMany);
+}
+
+/** "No session can have this role: it includes cashier and cash supervisor, and cash (dynamic) allows one of cashier and cash supervisor." */
+function impossible(violated) {
+    if (violated.length === 0) {
+        return null;
     }
-    return [h("ul", { class: "sets" }, lines), found.length > MOST_SETS ? h("p", {}, `These are the first ${MOST_SETS} of ${counted(found.length, "set")}. `,
+    const [{ kind, one, members }] = violated;
+    return h("p", { class: "warning" }, kind === "static" ? "Nobody can be authorized for this role: it includes " : "No session can have this role: it includes ",
+        some(members, role), ", and ", set(kind, one.set), ` (${kind}) allows ${few(one.cardinality - 1)} of `, some(one.roles, role), ".",
+        violated.length > 1 ? ` It includes too many roles of ${counted(violated.length - 1, "more set")}.` : null);
+}
+
+function setsOf(met) {
+    if (met.length === 0) {
+        return h("p", { class: "quiet" }, "Neither the role nor one from which it inherits is in a set.");
+    }
+    const line = ({ kind, one, inherited, isTooMany, barred }) => {
+        const others = barred();
+        return h("li", {}, set(kind, one.set), ` (${kind}): at most ${few(one.cardinality - 1)} of `, some(one.roles, role), ".",
+            inherited.length ? [" By inheritance the role includes ", some(inherited, role), "."] : null,
+            isTooMany ? [" ", h("b", {}, kind === "static" ? "Nobody can be authorized for it." : "It can never be activated.")] : null,
+            others.length ? [kind === "static" ? " Who has the role can't become " : " A session with the role can't have ", some(others, role, "or"), "."] : null);
+    };
+    return [h("ul", { class: "sets" }, met.slice(0, MOST_SETS).map(line)), met.length > MOST_SETS ? h("p", {}, `These are the first ${MOST_SETS} of ${counted(met.length, "set")}. `,
         link(["separation"], "All sets")) : null];
 }
 
-/** What is granted to a role itself, and a part of what it has with its juniors, as far as the caller may know it. */
-function permissionsOf(text, after, granted, part, anew) {
+/** What is granted to a role itself, and what it has by inheritance, as far as the caller may know it. */
+async function permissionsOf(text, granted, having, anew) {
     const remove = ({ object: on, operation }) => {
         const values = { object: on, operation, role: text };
         return may("revokePermission", values) ? button("Revoke", `Revoke ${operation} on ${on}`, () => command("revokePermission", values, anew)) : null;
     };
-    const shown = granted.slice(0, SHOWN);
-    const nodes = [table("Granted to this role itself", ["Object", "Operation", ""],
-        shown.map((row) => [object(row.object), brief(row.operation), action(remove(row))]), "Nothing is granted to this role itself.")];
-    if (granted.length > shown.length) {
-        nodes.push(h("p", {}, `These are the first ${shown.length}.`));
-    }
-    if (part) {
-        nodes.push(inherited(text, granted, part, after));
+    const names = (row) => [row.object, row.operation];
+    const nodes = [await browse("Granted to this role itself", ["Object", "Operation", ""], granted,
+        (part) => part.map((row) => [object(row.object), brief(row.operation), action(remove(row))]), { empty: "Nothing is granted to this role itself.", names })];
+    const own = new Set(granted.map((row) => `${row.object}\t${row.operation}`));
+    const inherited = (having ?? []).map(([on, operation]) => ({ object: on, operation })).filter((row) => !own.has(`${row.object}\t${row.operation}`));
+    if (inherited.length > 0) {
+        nodes.push(await browse("Inherited from junior roles", ["Object", "Operation"], inherited,
+            (part) => part.map((row) => [object(row.object), brief(row.operation)]), { size: 50, names }));
     }
     if (maySome("grantPermission")) {
         nodes.push(form("Grant a permission", [field("Operation", "operation", { from: "operations", required: true }), field("Object", "object", { from: "objects", required: true })], "Grant",
             (values) => command("grantPermission", { ...values, role: text }, anew)));
     }
     return nodes;
-}
-
-function inherited(text, granted, part, after) {
-    const own = new Set(granted.map((row) => `${row.object}\t${row.operation}`));
-    const others = part.value.filter((row) => !own.has(`${row.object}\t${row.operation}`));
-    return [others.length ? table("Inherited from junior roles", ["Object", "Operation"], others.map((row) => [object(row.object), brief(row.operation)])) : null,
-        pager(["roles", text], part.next ? { after: part.next } : null, !after)].filter(Boolean);
 }

@@ -1,25 +1,23 @@
 /** The users, and one user: roles, permissions with the roles that give them, sessions, nearness to each separation of duty set. */
 
 import { ask, askAll, endSession, lists, may, maySome } from "./api.js";
-import { action, awhile, button, command, deliberate, early, fail, field, folded, form, later, pager, say, section, table } from "./parts.js";
+import { browse } from "./browse.js";
+import { Hierarchy } from "./hierarchy.js";
+import { say } from "./notice.js";
+import { action, awhile, button, command, deliberate, early, fail, field, folded, form, later, searchForm, section, table } from "./parts.js";
 import { brief, counted, h, hashOf, link, listed, name, object, plain, role, set, some, time, user } from "./text.js";
 
-const SHOWN = 100;
 const SHOWN_OF_USER = 20;
 
+const lock = () => h("span", { class: "mark no" }, "locked");
+
 export async function usersPage({ query, anew }) {
-    const { contains = "", after } = query;
-    // The locked users of this part are the first ones of the same part of their list.
-    const [part, locked] = await lists(...["users", "locked"].map((one) => [one, { contains, after, limit: SHOWN }]));
-    const isLocked = new Set(locked.value);
-    const search = form("Search users", [field("Name contains", "contains", { value: contains, type: "search" })], "Search",
-        (values) => { location.hash = `${hashOf(["users"])}?${new URLSearchParams(values)}`; }, { class: "search" });
-    const next = part.next ? { ...(contains ? { contains } : {}), after: part.next } : null;
-    const found = part.value.map((one) => [user(one), isLocked.has(one) ? h("span", { class: "mark no" }, "locked") : ""]);
-    const nodes = [h("h1", {}, "Users"), section("Find a user", search,
-        table(contains ? `Users whose names contain “${plain(contains)}”` : "Users in the order of their names", ["User", "Condition"], found,
-            "There is no such user."),
-        pager(["users"], next, !after))];
+    const { contains = "" } = query;
+    const [users, locked] = await lists(["users", { contains }], ["locked", { contains }]);
+    const isLocked = new Set(locked);
+    const nodes = [h("h1", {}, "Users"), section("Find a user", searchForm("users", contains),
+        await browse(contains ? `Users whose names contain “${plain(contains)}”` : "Users in the order of their names", ["User", "Condition"], users,
+            (part) => part.map((one) => [user(one), isLocked.has(one) ? lock() : ""]), { empty: contains ? "There is no such user." : "There is no user yet." }))];
     if (maySome("addUser")) {
         nodes.push(section("Add a user", form("Add a user", [field("Name", "user", { required: true })], "Add",
             (values) => command("addUser", values, anew))));
@@ -27,28 +25,29 @@ export async function usersPage({ query, anew }) {
     return nodes;
 }
 
-export async function userPage([text], { query, anew }) {
+export async function userPage([text], { anew }) {
     const values = { user: text };
     const authorizing = may("authorizedRoles", values) ? early(ask("authorizedRoles", values)) : null;
-    const mayAsk = may("userPermissions", values);
-    const [known, locked, assignments, sessions, fixed, dynamic, part] = await lists(["users", values], ["locked", values], ["assignments", values],
-        ["sessions", values], ["staticSets"], ["dynamicSets"], ...(mayAsk ? [["permissions", { ...values, limit: SHOWN_OF_USER, after: query.after }]] : []));
-    if (known.value.length === 0) {
+    const having = may("userPermissions", values) ? early(ask("userPermissions", values)) : null;
+    const [known, locked, assignments, sessions, inheritances, fixed, dynamic] = await lists(["users", values], ["locked", values], ["assignments", values],
+        ["sessions", values], ["inheritances"], ["staticSets"], ["dynamicSets"]);
+    if (known.length === 0) {
         return [h("h1", {}, "User ", name(text)), h("p", {}, "There is no such user.")];
     }
-    const giving = early(giversOf(part));
     const authorized = await authorizing;
-    const assigned = assignments.value.map((row) => row.role);
-    const isLocked = locked.value.length > 0;
-    await awhile([giving]);
+    const assigned = assignments.map((row) => row.role);
+    const isLocked = locked.length > 0;
+    const hierarchy = new Hierarchy(inheritances);
+    const permissions = having ? early(having.then((pairs) => permissionsOf(text, authorized, pairs))) : null;
+    await awhile([permissions]);
     return [
-        h("h1", {}, "User ", name(text), isLocked ? [" ", h("span", { class: "mark no" }, "locked")] : null),
+        h("h1", {}, "User ", name(text), isLocked ? [" ", lock()] : null),
         isLocked ? h("p", {}, name(text), " is locked: no session is possible.") : null,
         actionsOf(text, isLocked, anew),
-        h("div", { class: "columns" }, rolesSection(text, assigned, authorized, anew),
-            authorized ? section("Separation of duty", nearness(text, authorized, fixed.value, dynamic.value)) : null),
-        mayAsk ? later("Permissions", async () => permissionsOf(text, authorized, query.after, part, await giving)) : null,
-        section("Sessions", sessionsOf(text, sessions.value, anew)),
+        h("div", { class: "columns" }, rolesSection(text, assigned, authorized, (one) => hierarchy.violated(dynamic, one), anew),
+            authorized ? section("Separation of duty", nearness(text, authorized, hierarchy, fixed, dynamic)) : null),
+        permissions ? later("Permissions", () => permissions) : null,
+        section("Sessions", await sessionsOf(text, sessions, anew)),
     ];
 }
 
@@ -69,13 +68,15 @@ function actionsOf(text, isLocked, anew) {
     return h("div", { class: "actions" }, actions);
 }
 
-function rolesSection(text, assigned, authorized, anew) {
+/** The roles of a user. `violated` returns the dynamic set of which a role includes too many, if there is one. */
+function rolesSection(text, assigned, authorized, violated, anew) {
     const remove = (one) => {
         const values = { user: text, role: one };
         return may("deassignUser", values)
             ? button("Remove", `Remove the assignment to ${one}`, () => command("deassignUser", values, anew)) : null;
     };
-    const nodes = [table("Assigned roles", ["Role", ""], assigned.map((one) => [role(one), action(remove(one))]), "No role is assigned.")];
+    const never = (one) => (violated(one) ? [" ", h("span", { class: "mark no" }, "can never be activated")] : null);
+    const nodes = [table("Assigned roles", ["Role", ""], assigned.map((one) => [[role(one), never(one)], action(remove(one))]), "No role is assigned.")];
     const more = (authorized ?? []).filter((one) => !assigned.includes(one));
     if (more.length > 0) {
         nodes.push(h("p", {}, "Also authorized, by inheritance: ", folded(more, role, `Show all roles of ${text}`)));
@@ -91,11 +92,11 @@ function rolesSection(text, assigned, authorized, anew) {
 const MOST_SETS = 5;
 
 /** How near a user is to each set of which the user has a member, the nearest first. */
-function nearness(text, authorized, fixed, dynamic) {
+function nearness(text, authorized, hierarchy, fixed, dynamic) {
     const has = new Set(authorized);
     const found = [["static", fixed], ["dynamic", dynamic]].flatMap(([kind, sets]) => sets.map((one) => [kind, one, one.roles.filter((member) => has.has(member))]))
         .filter(([, , held]) => held.length > 0).sort(([, a, x], [, b, y]) => a.cardinality - x.length - (b.cardinality - y.length));
-    const lines = found.slice(0, MOST_SETS).map((one) => h("li", {}, lineOf(...one)));
+    const lines = found.slice(0, MOST_SETS).map((one) => h("li", {}, lineOf(hierarchy, ...one)));
     if (lines.length === 0) {
         return h("p", { class: "quiet" }, name(text), " has no member of a separation of duty set.");
     }
@@ -103,34 +104,30 @@ function nearness(text, authorized, fixed, dynamic) {
         may("reports") ? h("a", { href: `${hashOf(["reports", "near"])}?${new URLSearchParams({ user: text })}` }, "All in a report") : null) : null];
 }
 
-function lineOf(kind, { set: setName, cardinality, roles }, held) {
-    const others = roles.filter((one) => !held.includes(one));
+function lineOf(hierarchy, kind, found, held) {
+    const { set: setName, cardinality, roles } = found;
     const begin = [set(kind, setName), ` (${kind}): has `, some(held, role), ". "];
     const left = cardinality - held.length;
-    if (kind === "dynamic" && left <= 0) {
-        return [begin, "No session may have ", cardinality === 2 && held.length === 2 ? "both" : `${cardinality} of them`, "."];
+    if (left <= 0) {
+        const which = cardinality === 2 && held.length === 2 ? "both" : `${cardinality} of them`;
+        return [begin, kind === "static" ? `Nobody may have ${which}.` : `No session may have ${which}.`];
     }
-    const rest = some(others, role, "or");
-    if (left === 1) {
-        return [begin, kind === "static" ? "Can't become " : "No session may also have ", rest, "."];
-    }
-    return [begin, `May have ${left - 1} more of `, some(others, role), "."];
+    const more = left === 1 ? null : [`May have ${left - 1} more of `, some(roles.filter((one) => !held.includes(one)), role), ". "];
+    const barred = hierarchy.barred(found, held);
+    return [begin, more, barred.length ? [kind === "static" ? "Can't become " : "No session may also have ", some(barred, role, "or"), "."] : null];
 }
 
-/** The roles to which each of some permissions is granted, if the caller may know them. */
-async function giversOf(part) {
-    return part && may("permissionRoles") ? askAll(part.value.map((row) => ({ fn: "permissionRoles", ...row }))) : [];
-}
-
-/** A part of a user's permissions, each with the roles that give it. */
-function permissionsOf(text, authorized, after, part, givers) {
+/** A user's permissions, each with the roles that give it, if the caller may know them. */
+function permissionsOf(text, authorized, pairs) {
     const has = new Set(authorized ?? []);
-    const found = part.value.map((row, i) => [
-        object(row.object), brief(row.operation), some((givers[i]?.value ?? []).filter((one) => has.has(one)), role, "and", 3),
-        action(link(["explain", text, row.operation, row.object], "Why")),
-    ]);
-    return [table(`Permissions through all roles`, ["Object", "Operation", "Given by", ""], found, "No permission."),
-        pager(["users", text], part.next ? { after: part.next } : null, !after)];
+    const cells = async (part) => {
+        const givers = may("permissionRoles") ? await askAll(part.map(([on, operation]) => ({ fn: "permissionRoles", object: on, operation }))) : [];
+        return part.map(([on, operation], i) => [
+            object(on), brief(operation), some((givers[i]?.value ?? []).filter((one) => has.has(one)), role, "and", 3),
+            action(link(["explain", text, operation, on], "Why")),
+        ]);
+    };
+    return browse("Permissions through all roles", ["Object", "Operation", "Given by", ""], pairs, cells, { empty: "No permission.", size: SHOWN_OF_USER, names: (pair) => pair });
 }
 
 function sessionsOf(text, sessions, anew) {
@@ -143,11 +140,11 @@ function sessionsOf(text, sessions, anew) {
         say("done", ["A session of ", user(text), " has ended."]);
         await anew();
     });
-    const found = sessions.map((one) => [
+    const cells = (one) => [
         h("span", { class: "mono" }, one.session.slice(0, 12)), one.roles.length ? listed(one.roles.map(role)) : h("span", { class: "quiet" }, "none"),
         { class: "time", child: time(one.since) }, { class: "time", child: time(one.used) },
         action(may("deleteSession", { user: text }) ? end(one) : null),
-    ]);
-    return table(`${counted(sessions.length, "session")}; a session's name isn't shown, but a digest of it`,
-        ["Digest", "Activated roles", "Since (UTC)", "Last used (UTC)", ""], found, "No session.");
+    ];
+    return browse("Sessions, by a digest of their names", ["Digest", "Activated roles", "Since (UTC)", "Last used (UTC)", ""], sessions, (part) => part.map(cells),
+        { empty: "No session.", size: SHOWN_OF_USER });
 }

@@ -1,7 +1,8 @@
 /** What if: commands are tried over a copy of the office by the proved program, and done for real if that is wanted. */
 
 import { doAll, Lost, may, Refused, whatIf } from "./api.js";
-import { deliberate, fail, field, form, number, say, section, table, Unfit } from "./parts.js";
+import { say } from "./notice.js";
+import { deliberate, fail, field, form, number, section, table, Unfit } from "./parts.js";
 import { counted, h, json, name, object, role, user } from "./text.js";
 import { done, short, wanted } from "./words.js";
 

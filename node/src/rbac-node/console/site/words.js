@@ -1,6 +1,6 @@
 /** Refusals and commands in words. A sentence is a list of texts and of names. */
 
-import { explain, rows } from "./api.js";
+import { explain, lists } from "./api.js";
 import { few, listed, name, object, role, set, user } from "./text.js";
 
 const permission = (v) => [name(v.operation), " on ", object(v.object)];
@@ -87,6 +87,9 @@ for (const [kind, word] of [["Ssd", "static"], ["Dsd", "dynamic"]]) {
     });
 }
 
+/** The commands, in the order of their names. */
+export const FUNCTIONS = Object.keys(COMMANDS).sort();
+
 function ofUser(v) {
     return v.user === undefined ? "" : [" of ", user(v.user)];
 }
@@ -138,7 +141,7 @@ const REASONS = {
     31: () => ["it was not activated itself"],
     32: (_, refused) => [`the office has as many as it may have (limit: ${refused.kind ?? "unknown"})`],
     33: (v) => ["no permission has the operation ", name(v.operation ?? "")],
-    34: () => ["the front can't read the request"],
+    34: (_, refused) => [refused.why ?? "the front can't read the request"],
     37: (v) => [user(v.user), " is locked"],
     62: () => ["the front doesn't know this token; log in again"],
     63: () => ["you have no right to this"],
@@ -221,6 +224,6 @@ export function short(answer, values) {
 
 /** Names that a field suggests: those of a list that have a text. */
 export async function suggestions(listName, text) {
-    const found = await rows(listName, { contains: text, limit: 20 });
+    const [found] = await lists([listName, { contains: text, limit: 20 }]);
     return found.map((row) => (typeof row === "string" ? row : (row.set ?? row.operation)));
 }

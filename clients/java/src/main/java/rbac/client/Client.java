@@ -1,6 +1,6 @@
 package rbac.client;
 
-import java.net.http.HttpClient;
+import java.security.NoSuchAlgorithmException;
 import java.time.Duration;
 import java.util.ArrayList;
 import java.util.Collection;
@@ -10,47 +10,58 @@ import java.util.Map;
 import java.util.Objects;
 import java.util.concurrent.atomic.AtomicInteger;
 import java.util.function.Supplier;
+import java.util.regex.Pattern;
 import javax.net.ssl.SSLContext;
 
 /**
  * A server, or several servers of one office: the functions as methods, decisions, and sessions. Threads may share it.
  * docs/INTEGRATING.md shows how an application uses it.
  */
-public final class Client extends Functions {
+public final class Client extends Functions implements AutoCloseable {
     private static final System.Logger LOGGER = System.getLogger("rbac.client");
 
-    private final List<Exchange> addresses = new ArrayList<>();
+    private static final Pattern TOKEN = Pattern.compile("([!-~]+)(?:\r?\n)?");
+    private static final String WRONG_TOKEN = "a token is a text of visible ASCII characters without spaces";
+
+    private final List<Address> addresses = new ArrayList<>();
     private final AtomicInteger first = new AtomicInteger();
     private final Supplier<String> token;
     private final Duration timeout;
     private final Duration pause;
     private final boolean repeats;
     private final Map<Reason, Long> counts = new EnumMap<>(Reason.class);
+    private final LogLines lines = new LogLines(System::nanoTime);
 
     /** Until then sessions are made by createSession, since the server opens none: by the nanoseconds of System. */
     volatile long createsUntil = System.nanoTime();
 
     private Client(Builder builder) {
-        var http = HttpClient.newBuilder()
-                       .version(HttpClient.Version.HTTP_1_1)
-                       .followRedirects(HttpClient.Redirect.NEVER)
-                       .proxy(HttpClient.Builder.NO_PROXY)
-                       .connectTimeout(builder.timeout.dividedBy(2L * builder.addresses.size()));
-        if (builder.context != null) {
-            http.sslContext(builder.context);
-        }
-        var shared = http.build();
-        builder.addresses.forEach(address -> addresses.add(new Exchange(shared, address)));
+        var context = builder.context == null ? usual() : builder.context;
+        builder.addresses.forEach(address -> addresses.add(new Address(address, context)));
         token = builder.token;
         timeout = builder.timeout;
         pause = builder.pause;
         repeats = builder.repeats;
     }
 
+    private static SSLContext usual() {
+        try {
+            return SSLContext.getDefault();
+        } catch (NoSuchAlgorithmException error) {
+            throw new IllegalStateException(error);
+        }
+    }
+
+    /** A token without the end of the line that it may have, or null if it can't be sent. */
+    private static String judged(String token) {
+        var found = TOKEN.matcher(String.valueOf(token));
+        return token != null && found.matches() ? found.group(1) : null;
+    }
+
     /** What makes a client. */
     public static final class Builder {
         private final List<String> addresses = new ArrayList<>();
-        private Supplier<String> token = () -> null;
+        private Supplier<String> token;
         private Duration timeout = Duration.ofSeconds(10);
         private Duration pause = Duration.ofMillis(100);
         private boolean repeats = true;
@@ -64,14 +75,19 @@ public final class Client extends Functions {
             return this;
         }
 
-        /** Shows who asks. */
+        /** Shows who asks, unless it is null. The end of a line after it is ignored. */
         public Builder token(String given) {
-            return token(() -> given);
+            var judged = judged(given);
+            if (given != null && judged == null) {
+                throw new IllegalArgumentException(WRONG_TOKEN);
+            }
+            token = given == null ? null : () -> judged;
+            return this;
         }
 
         /** Shows who asks: the function returns the present token. */
         public Builder token(Supplier<String> given) {
-            token = given;
+            token = () -> judged(given.get());
             return this;
         }
 
@@ -155,6 +171,12 @@ public final class Client extends Functions {
         call("DELETE /sessions/" + digest, Functions.keys(), Reader.DONE, 26);
     }
 
+    /** Closes the connections that are kept. A further call opens a new one. */
+    @Override
+    public void close() {
+        addresses.forEach(Address::close);
+    }
+
     /** How many decisions there were, by their reasons. */
     public Map<Reason, Long> counts() {
         synchronized (counts) {
@@ -176,11 +198,10 @@ public final class Client extends Functions {
         synchronized (counts) {
             counts.merge(decision.reason(), 1L, Long::sum);
         }
-        if (!decision.isDecided()) {
-            var about = new StringBuilder("no decision about ");
-            Json.append(about, String.valueOf(operation));
-            Json.append(about.append(" on "), String.valueOf(object));
-            LOGGER.log(System.Logger.Level.WARNING, about.append(": ").append(decision).toString());
+        var end = decision.isDecided() ? null : lines.due(decision.reason());
+        if (end != null) {
+            var about = LogLines.shown(String.valueOf(operation)) + " on " + LogLines.shown(String.valueOf(object));
+            LOGGER.log(System.Logger.Level.WARNING, "no decision about " + about + ": " + decision + end);
         }
         return decision;
     }
@@ -217,10 +238,13 @@ public final class Client extends Functions {
 
     private <T> T answered(Course course, String function, String body, Reader<T> reader) {
         var address = addresses.get(course.place());
-        var shown = token.get();
-        var answer = course.isQuestion() ? address.ask(function, body, shown, course.limit())
-                                         : address.send(function, body, shown, course.limit());
-        return reader.read(answer.status, answer.text);
+        var shown = token == null ? null : token.get();
+        if (token != null && shown == null) {
+            throw OfficeException.failed(Reason.INVALID_REQUEST, false, WRONG_TOKEN, null);
+        }
+        var limit = System.nanoTime() + course.limit();
+        return course.isQuestion() ? address.ask(function, body, shown, reader, limit)
+                                   : address.command(function, body, shown, reader, limit);
     }
 
     /** Whether a text has no half of a character of two. */

@@ -56,8 +56,8 @@ final class Course {
             return -1;
         }
         var own = error.thatMayBeDone(!isQuestion && (error.mayBeDone() || isLost));
-        if (isRefused(error) || !isOfOneAddress(error.reason()) || System.nanoTime() >= deadline) {
-            throw own;
+        if (isRefused(error) || !isOfOneAddress(error.reason()) || System.nanoTime() - deadline >= 0) {
+            throw last(own);
         }
         at++;
         if (isQuestion) {
@@ -70,8 +70,20 @@ final class Course {
         return afterCommand(own);
     }
 
+    /** What the call throws at its end: a command that was sent is unanswered, though nobody could be reached after that. */
+    private OfficeException last(OfficeException error) {
+        if (!isLost || !isUnsent(error)) {
+            return error;
+        }
+        return OfficeException.failed(Reason.UNANSWERED, true, "the answer was lost, and then: " + error.getMessage(), null);
+    }
+
+    private static boolean isUnsent(OfficeException error) {
+        return error.reason() == Reason.UNREACHABLE || error.reason() == Reason.UNTRUSTED;
+    }
+
     private long afterCommand(OfficeException error) {
-        if (error.reason() == Reason.UNREACHABLE || error.reason() == Reason.UNTRUSTED) {
+        if (isUnsent(error)) {
             if (unreached > 0) {
                 unreached--;
                 return 0;

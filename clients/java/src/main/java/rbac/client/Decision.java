@@ -20,7 +20,8 @@ public final class Decision {
     /** The decision if the question has no answer: it denies. No other refusal is an answer to it. */
     static Decision undecided(RuntimeException error) {
         if (!(error instanceof OfficeException)) {
-            return new Decision(Reason.INVALID_REQUEST, error.toString(), 0);
+            // What other errors say isn't shown: it may have a name or a token.
+            return new Decision(Reason.INVALID_REQUEST, error.getClass().getSimpleName(), 0);
         }
         var own = (OfficeException) error;
         var reason = own.reason() == Reason.REFUSED ? Reason.UNEXPECTED : own.reason();

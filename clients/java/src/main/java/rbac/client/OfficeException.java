@@ -2,7 +2,10 @@ package rbac.client;
 
 import java.util.Map;
 
-/** A call has no result. A command wasn't done unless {@link #mayBeDone}. */
+/**
+ * A call has no result. A command wasn't done unless {@link #mayBeDone}: after a lost answer that is unknown, and stays so if no server
+ * can be reached afterwards. The message has no name of a session, no token, and nothing of an answer but numbers.
+ */
 public final class OfficeException extends RuntimeException {
     private static final long serialVersionUID = 1L;
 
@@ -23,8 +26,9 @@ public final class OfficeException extends RuntimeException {
     }
 
     static OfficeException refused(int code, String refusal, Map<String, Object> details) {
-        var message = new StringBuilder(code + " " + refusal);
-        details.forEach((key, value) -> message.append(' ').append(key).append(' ').append(value));
+        // What a server sends is no text of a log: the name is that of docs/API.md, and the name of a set is only in the details.
+        var message = new StringBuilder(code + " " + Functions.NAMES.getOrDefault(code, "(a later refusal)"));
+        details.forEach((key, value) -> message.append(value instanceof Long ? " " + key + " " + value : ""));
         var mayBeDone = code == 41 || code == 60 || code == 61;
         return new OfficeException(Reason.ofCode(code), mayBeDone, code, refusal, details, message.toString(), null);
     }

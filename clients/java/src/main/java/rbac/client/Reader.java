@@ -121,11 +121,11 @@ interface Reader<T> {
             }
         }
         json.need("}");
-        if (json.isRead() && Functions.STATUSES.getOrDefault(code, List.of(409)).contains(status)) {
+        var isNamed = Functions.NAMES.getOrDefault(code, name).equals(name);
+        if (json.isRead() && isNamed && Functions.STATUSES.getOrDefault(code, List.of(409)).contains(status)) {
             return OfficeException.refused(code, name, details);
         }
-        var message = new StringBuilder("no answer of rbac: status ").append(status).append(", ");
-        Json.append(message, text.substring(0, Math.min(text.length(), 200)));
-        return OfficeException.failed(Reason.ofStatus(status), true, message.toString(), null);
+        var message = "no answer of rbac: status " + status + ", a text of " + text.length();
+        return OfficeException.failed(Reason.ofStatus(status), true, message, null);
     }
 }

@@ -1,0 +1,20 @@
+/** Files that the browser is given to keep. */
+
+/** Gives the browser a file. */
+export function download(name, type, text) {
+    const link = document.createElement("a");
+    Object.assign(link, { href: URL.createObjectURL(new Blob([text], { type })), download: name });
+    link.click();
+    setTimeout(() => URL.revokeObjectURL(link.href), 60_000);
+}
+
+/** Returns a cell of CSV. What a spreadsheet would take for a formula gets an apostrophe, and one more if it has some, as in the reports. */
+function cell(text) {
+    const safe = /^'*[=+\-@]/.test(text) ? `'${text}` : text;
+    return /[",\r\n]/.test(safe) ? `"${safe.replaceAll('"', '""')}"` : safe;
+}
+
+/** Returns rows of texts as CSV. */
+export function csvOfRows(rows) {
+    return rows.map((row) => `${row.map(cell).join(",")}\r\n`).join("");
+}

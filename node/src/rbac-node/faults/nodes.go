@@ -1,0 +1,21 @@
+package faults
+
+// The faults of nodes.
+const (
+	// AppendsTwice appends a command under another name again if the reply was lost.
+	AppendsTwice = "appends under another name again"
+	// AnswersByItself answers questions from its own state at once.
+	AnswersByItself = "answers from its own state"
+	// AnswersBeforeLog answers commands before the log has them.
+	AnswersBeforeLog = "answers before the log has the command"
+	// TakesAnswersForNew takes an answer to be as new as its question was.
+	TakesAnswersForNew = "takes an answer to be as new as its question"
+	// OutlivesReplay goes on after its replay has ended.
+	OutlivesReplay = "goes on after its replay has ended"
+	// JudgesBeforeLog judges a condition when it writes the entry.
+	JudgesBeforeLog = "judges a condition before the log has the command"
+	// ForgetsCaller leaves a caller out of the record of one node.
+	ForgetsCaller = "leaves a caller out of its record"
+	// NumbersByItself makes the number of the first command by itself.
+	NumbersByItself = "makes the number of the first command by itself"
+)
