@@ -75,9 +75,9 @@ uint32_t rbac_kept_answer(rbac_office *office, void *out, size_t out_length, siz
 
 /* Decides whether the session may do the operation on the object. The office stays the same.
  *
- * 1: it may. 0: it may not. Otherwise there is no decision, and the result is minus the code of the reason:
- * -RBAC_BAD_NAME, -6 (there is no such object), -26 (no such session), -33 (no such operation), -RBAC_CLOSED,
- * -RBAC_NULL. Only 1 allows the access. It doesn't allocate. */
+ * 1: it may. 0: it may not. Otherwise there is no decision, and the result is minus the code of the first of these reasons
+ * that applies: -RBAC_NULL, -RBAC_CLOSED, -RBAC_BAD_NAME (one of the three isn't a name), -26 (there is no such session),
+ * -6 (no such object), -33 (no such operation). Only 1 allows the access. It doesn't allocate. */
 int32_t rbac_check(rbac_office *office, const void *session, size_t session_length, const void *operation,
     size_t operation_length, const void *object, size_t object_length);
 

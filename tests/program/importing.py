@@ -2,6 +2,8 @@
 
 import json
 import os
+import shutil
+import subprocess
 import time
 from threading import Thread
 
@@ -9,8 +11,11 @@ from machine.assignments import MOST_BYTES, MOST_RECORDS, export
 from machine.drawing import ODD_ASSIGNMENTS, Draws
 from machine.texts import report
 
-from .bench import SECONDS
+from .bench import PROGRAM, SECONDS
 from .offices import STORE, Office, small_office
+
+# The number of a user who owns nothing.
+NOBODY = 65534
 
 # Two users and two roles that nobody may have both, of which ann has one.
 SEPARATED = b"""\
@@ -61,6 +66,24 @@ def imports(office, text, name="records.csv"):
         bench.ends(words, answer + b"\n", what=f"import of {text[:60]!r}")
     else:
         bench.refuses(words, answer, what=f"import of {text[:60]!r}")
+
+
+def check_forbidden(bench):
+    """A CSV file that may not be read is no empty one: the import stops, and nothing is imported. Root may read any file."""
+    office = small_office(bench)
+    path = bench.write("records.csv", b"user,role\n")
+    os.chmod(path, 0)
+    words = ["import", office.path, path]
+    if os.geteuid() == 0:
+        program = shutil.copy(PROGRAM, bench.folder / "rbac")
+        bench.folder.parent.chmod(0o755)
+        for each in (bench.folder, *bench.folder.iterdir()):
+            os.chown(each, NOBODY, NOBODY)
+        command = ["setpriv", f"--reuid={NOBODY}", f"--regid={NOBODY}", "--clear-groups", program, *words]
+    else:
+        command = [PROGRAM, *words]
+    done = subprocess.run(command, stdin=subprocess.DEVNULL, capture_output=True, timeout=SECONDS, check=False)
+    bench.same("a file of mode 000", (done.returncode, done.stdout, done.stderr), (1, b"", b"rbac: stop Read after 0\n"))
 
 
 def check_import(bench):

@@ -1,11 +1,13 @@
 -- How the work of a subcommand begins.
-use Rattle.std.proofs.Common.{Global, String, ◌≡◌, ◌⊎◌, [], refl, inl, inr, sym}
-use Rattle.std.specs.Prelude.{true, false, IsTrue}
+use Rattle.std.proofs.Common.{Global, List, ℕ, String, ◌≡◌, ◌⊎◌, [], refl, inl, inr, subst, sym}
+use Rattle.std.specs.Prelude.{Bool, true, false, IsTrue}
 use Rattle.std.proofs.lemmas.Bool.{true≢false}
 use Rattle.sqlite.specs.Held.{Held, state}
-use Rattle.sqlite.specs.Files.{over_files}
+use Rattle.sqlite.specs.Files.{file_state, over_files}
+use Rattle.sqlite.specs.Recovery.{Image}
 use Rattle.sqlite.specs.State.{State}
 use Rattle.sqlite_disk.specs.declared.Disk.{Ghosts}
+use Rattle.sqlite_store.specs.declared.store.FileStore.{FileStore}
 use Rattle.admin_mgr.specs.RbacState.{RbacState}
 use Rattle.rbac_sets.specs.declared.refusal.Refusal.{Refusal}
 use Rattle.rbac_sets.specs.declared.refusal.Refusal.TheVariants.{Store}
@@ -16,15 +18,17 @@ use Rattle.role_tables.specs.Runs.{IsInRun}
 use Rattle.role_tables.specs.Durability.{HoldsAsBefore, LeavesOnly, WhateverIsDurable}
 use Rattle.role_cli.specs.Environment.{Environment, ReadFailed, WriteFailed}
 use Rattle.role_cli.specs.FailureCause.{IsCaused, IsOpeningFailure}
-use Rattle.role_cli.specs.MemoryReplay.{FailsInMemory}
-use Rattle.role_cli.specs.ProgramOutcome.{FailsBy, IsDone, is_memory_replay}
-use Rattle.role_cli.specs.Work.{BeginsRun, DoesOverSomeState, FailsOrFindsNoOffice, IsUnopened, NoneBeginsOverRefused, StartsWell}
+use Rattle.role_cli.specs.FileWork.{DoesOnStore, FailsOnStore, WorksOnFiles}
+use Rattle.role_cli.specs.MemoryReplay.{FailsInMemory, ReplaysInMemory}
+use Rattle.role_cli.specs.ProgramOutcome.{FailsBy, FailsIn, IsDone, IsDoneIn, is_memory_replay}
+use Rattle.role_cli.specs.Work.{BeginsRun, DoesOverSomeState, FailsOnConnection, FailsOrFindsNoOffice, IsUnopened, NoneBeginsOverRefused, StartsWell}
 use Rattle.role_cli.specs.declared.choice.Choice.{Choice}
 use Rattle.role_cli.specs.declared.choice.Choice.TheVariants as choice
-use Rattle.role_cli.specs.declared.choice.Place.TheVariants as place
 use Rattle.role_cli.specs.declared.failure.Failure.{Failure}
 use Rattle.role_cli.specs.declared.failure.Failure.TheVariants.{Refused}
 use Rattle.role_cli.specs.declared.memory_file.MemoryFile.{MemoryFile}
+use Rattle.role_cli.specs.declared.store_after.StoreAfter.{StoreAfter}
+use Rattle.role_cli.specs.declared.store_after.StoreAfter.TheVariants as after
 
 -- a choice that neither creates nor migrates an office opens one
 module _ (chosen : Choice) (never_makes : (x : String Global) → chosen ≡ choice.Init x → ⊥) (never_migrates : (x : String Global) → chosen ≡ choice.Migrate x → ⊥) where
@@ -58,6 +62,11 @@ pub refusal_fails : (chosen : Choice) (refusal : Refusal) → ((x : String Globa
 refusal_fails (choice.Init x) refusal never is = absurd (never x refl)
 refusal_fails _ refusal never is = (refusal, refl, is)
 
+-- 41 Store is
+pub store_fails : (chosen : Choice) (failure : Failure) → failure ≡ Refused Store → IsOpeningFailure chosen failure
+store_fails (choice.Init x) failure is = is
+store_fails _ failure is = (Store, is, refl)
+
 -- nothing begins over rows that an opening refuses
 pub none_begins : {C : Type 0} → RefusedHaveNoState → (shown : Held C → State) → NoneBeginsOverRefused shown
 none_begins none shown (choice.Init x) old office refusal opens other refuses begins = absurd (true≢false opens)
@@ -65,56 +74,72 @@ none_begins none shown (choice.Migrate x) old office refusal opens other refuses
 none_begins none shown _ old office refusal opens other refuses begins = none (contents_of (shown old).now) refusal office.facts refuses other begins.0.0
 
 -- what was done over an office in a file was done
-pub of_file : (in_memory : Ghosts MemoryFile) {F : Type 0} (on_disk : Ghosts F) (chosen : Choice) (from to : Environment) → is_memory_replay chosen ≡ false
-    → DoesOverSomeState (state (over_files {g = on_disk})) chosen from to → IsDone in_memory on_disk chosen from to
-of_file in_memory on_disk (choice.Replay place.Memory) _ _ is_not done = absurd (true≢false is_not)
-of_file in_memory on_disk (choice.Replay (place.File f)) _ _ is_not done = done
-of_file in_memory on_disk (choice.Init f) _ _ is_not done = done
-of_file in_memory on_disk (choice.Serve f p n) _ _ is_not done = done
-of_file in_memory on_disk (choice.Import f t) _ _ is_not done = done
-of_file in_memory on_disk (choice.Export f) _ _ is_not done = done
-of_file in_memory on_disk (choice.Report f) _ _ is_not done = done
-of_file in_memory on_disk (choice.Check f) _ _ is_not done = done
-of_file in_memory on_disk (choice.Migrate f) _ _ is_not done = done
+pub of_file : (in_memory : Ghosts MemoryFile) {F : Type 0} (g : Ghosts F) (image : Image) (chosen : Choice) (from to : Environment) (became : StoreAfter F g) → is_memory_replay chosen ≡ false
+    → DoesOverSomeState (state (over_files {g = g})) chosen from to → DoesOnStore g image chosen from to became → IsDone in_memory g image chosen from to became
+of_file in_memory g image chosen from to became is_not over done = subst (λ b. IsDoneIn b in_memory g image chosen from to became) (sym is_not) (over, done)
 
--- a replay in memory that touched nothing before it failed
-pub fails_in_memory : (in_memory : Ghosts MemoryFile) {F : Type 0} (on_disk : Ghosts F) (chosen : Choice) (failure : Failure) (Kept Untouched : Type 0) (from to : Environment) → is_memory_replay chosen ≡ true → (Kept → Untouched)
-    → FailsInMemory in_memory failure Kept from.remaining to.remaining from.written to.written → IsCaused failure (WriteFailed from to) (ReadFailed from to) → FailsBy in_memory on_disk chosen failure Untouched from to
-fails_in_memory in_memory on_disk (choice.Replay place.Memory) failure Kept Untouched from to is keeps fails caused = (elim fails [ inl over ↦ inl over | inr (unmade, kept) ↦ inr (unmade, keeps kept) ], caused)
-fails_in_memory in_memory on_disk (choice.Replay (place.File f)) failure Kept Untouched from to is keeps fails caused = absurd (true≢false (sym is))
-fails_in_memory in_memory on_disk (choice.Init f) failure Kept Untouched from to is keeps fails caused = absurd (true≢false (sym is))
-fails_in_memory in_memory on_disk (choice.Serve f p n) failure Kept Untouched from to is keeps fails caused = absurd (true≢false (sym is))
-fails_in_memory in_memory on_disk (choice.Import f t) failure Kept Untouched from to is keeps fails caused = absurd (true≢false (sym is))
-fails_in_memory in_memory on_disk (choice.Export f) failure Kept Untouched from to is keeps fails caused = absurd (true≢false (sym is))
-fails_in_memory in_memory on_disk (choice.Report f) failure Kept Untouched from to is keeps fails caused = absurd (true≢false (sym is))
-fails_in_memory in_memory on_disk (choice.Check f) failure Kept Untouched from to is keeps fails caused = absurd (true≢false (sym is))
-fails_in_memory in_memory on_disk (choice.Migrate f) failure Kept Untouched from to is keeps fails caused = absurd (true≢false (sym is))
+-- and what was done in memory
+pub of_memory : (in_memory : Ghosts MemoryFile) {F : Type 0} (g : Ghosts F) (image : Image) (chosen : Choice) (from to : Environment) (became : StoreAfter F g) → is_memory_replay chosen ≡ true
+    → ReplaysInMemory in_memory from.remaining to.remaining from.written to.written → IsDone in_memory g image chosen from to became
+of_memory in_memory g image chosen from to became is done = subst (λ b. IsDoneIn b in_memory g image chosen from to became) (sym is) done
 
 -- what failed over an office in a file, failed
-pub fails_in_file : (in_memory : Ghosts MemoryFile) {F : Type 0} (on_disk : Ghosts F) (chosen : Choice) (failure : Failure) (untouched : Type 0) (from to : Environment) → is_memory_replay chosen ≡ false
-    → FailsOrFindsNoOffice (state (over_files {g = on_disk})) chosen failure untouched from to → FailsBy in_memory on_disk chosen failure untouched from to
-fails_in_file in_memory on_disk (choice.Replay place.Memory) failure untouched from to is_not fails = absurd (true≢false is_not)
-fails_in_file in_memory on_disk (choice.Replay (place.File f)) failure untouched from to is_not fails = fails
-fails_in_file in_memory on_disk (choice.Init f) failure untouched from to is_not fails = fails
-fails_in_file in_memory on_disk (choice.Serve f p n) failure untouched from to is_not fails = fails
-fails_in_file in_memory on_disk (choice.Import f t) failure untouched from to is_not fails = fails
-fails_in_file in_memory on_disk (choice.Export f) failure untouched from to is_not fails = fails
-fails_in_file in_memory on_disk (choice.Report f) failure untouched from to is_not fails = fails
-fails_in_file in_memory on_disk (choice.Check f) failure untouched from to is_not fails = fails
-fails_in_file in_memory on_disk (choice.Migrate f) failure untouched from to is_not fails = fails
+pub fails_in_file : (in_memory : Ghosts MemoryFile) {F : Type 0} (g : Ghosts F) (image : Image) (chosen : Choice) (failure : Failure) (untouched : Type 0) (cannot : List ℕ → Type 0) (from to : Environment) (became : StoreAfter F g)
+    (path at : List ℕ) → is_memory_replay chosen ≡ false → path ≡ at → FailsOrFindsNoOffice (state (over_files {g = g})) chosen failure untouched from to
+    → FailsOnStore g image chosen failure untouched (cannot path) from to became → FailsBy in_memory g image chosen failure untouched (cannot at) from to became
+fails_in_file in_memory g image chosen failure untouched cannot from to became path at is_not same over fails =
+    subst (λ b. FailsIn b in_memory g image chosen failure untouched (cannot at) from to became) (sym is_not)
+    (over, subst (λ p. FailsOnStore g image chosen failure untouched (cannot p) from to became) same fails)
 
--- who touched nothing touched less
-whatever_less : {C : Type 0} (shown : Held C → State) (chosen : Choice) (failure : Failure) (Kept Untouched : Type 0) (from to : Environment) → (Kept → Untouched) → FailsOrFindsNoOffice shown chosen failure Kept from to → FailsOrFindsNoOffice shown chosen failure Untouched from to
-whatever_less shown chosen failure Kept Untouched from to keeps fails = elim fails [ inl over ↦ inl over | inr (is, kept) ↦ inr (is, keeps kept) ]
+less_in_memory : (in_memory : Ghosts MemoryFile) (failure : Failure) (kept untouched : Type 0) (from to : Environment) → (kept → untouched)
+    → FailsInMemory in_memory failure kept from.remaining to.remaining from.written to.written → FailsInMemory in_memory failure untouched from.remaining to.remaining from.written to.written
+less_in_memory in_memory failure kept untouched from to keeps (inl over) = inl over
+less_in_memory in_memory failure kept untouched from to keeps (inr (unmade, same)) = inr (unmade, keeps same)
 
-pub fails_less : (in_memory : Ghosts MemoryFile) {F : Type 0} (on_disk : Ghosts F) (chosen : Choice) (failure : Failure) (Kept Untouched : Type 0) (from to : Environment) → (Kept → Untouched)
-    → FailsBy in_memory on_disk chosen failure Kept from to → FailsBy in_memory on_disk chosen failure Untouched from to
-fails_less in_memory on_disk (choice.Replay place.Memory) failure Kept Untouched from to keeps (fails, caused) = fails_in_memory in_memory on_disk (choice.Replay place.Memory) failure Kept Untouched from to refl keeps fails caused
-fails_less in_memory on_disk (choice.Replay (place.File f)) failure Kept Untouched from to keeps fails = whatever_less (state (over_files {g = on_disk})) (choice.Replay (place.File f)) failure Kept Untouched from to keeps fails
-fails_less in_memory on_disk (choice.Init f) failure Kept Untouched from to keeps fails = whatever_less (state (over_files {g = on_disk})) (choice.Init f) failure Kept Untouched from to keeps fails
-fails_less in_memory on_disk (choice.Serve f p n) failure Kept Untouched from to keeps fails = whatever_less (state (over_files {g = on_disk})) (choice.Serve f p n) failure Kept Untouched from to keeps fails
-fails_less in_memory on_disk (choice.Import f t) failure Kept Untouched from to keeps fails = whatever_less (state (over_files {g = on_disk})) (choice.Import f t) failure Kept Untouched from to keeps fails
-fails_less in_memory on_disk (choice.Export f) failure Kept Untouched from to keeps fails = whatever_less (state (over_files {g = on_disk})) (choice.Export f) failure Kept Untouched from to keeps fails
-fails_less in_memory on_disk (choice.Report f) failure Kept Untouched from to keeps fails = whatever_less (state (over_files {g = on_disk})) (choice.Report f) failure Kept Untouched from to keeps fails
-fails_less in_memory on_disk (choice.Check f) failure Kept Untouched from to keeps fails = whatever_less (state (over_files {g = on_disk})) (choice.Check f) failure Kept Untouched from to keeps fails
-fails_less in_memory on_disk (choice.Migrate f) failure Kept Untouched from to keeps fails = whatever_less (state (over_files {g = on_disk})) (choice.Migrate f) failure Kept Untouched from to keeps fails
+-- a replay in memory that touched nothing before it failed
+pub fails_in_memory : (in_memory : Ghosts MemoryFile) {F : Type 0} (g : Ghosts F) (image : Image) (chosen : Choice) (failure : Failure) (kept untouched cannot : Type 0) (from to : Environment) (became : StoreAfter F g)
+    → is_memory_replay chosen ≡ true → (kept → untouched) → FailsInMemory in_memory failure kept from.remaining to.remaining from.written to.written
+    → IsCaused failure (WriteFailed from to) (ReadFailed from to) → FailsBy in_memory g image chosen failure untouched cannot from to became
+fails_in_memory in_memory g image chosen failure kept untouched cannot from to became is keeps fails caused =
+    subst (λ b. FailsIn b in_memory g image chosen failure untouched cannot from to became) (sym is) (less_in_memory in_memory failure kept untouched from to keeps fails, caused)
+
+-- ---- who touched nothing touched less
+
+less_somewhere : {C : Type 0} (shown : Held C → State) (chosen : Choice) (failure : Failure) (kept untouched : Type 0) (from to : Environment) → (kept → untouched)
+    → FailsOrFindsNoOffice shown chosen failure kept from to → FailsOrFindsNoOffice shown chosen failure untouched from to
+less_somewhere shown chosen failure kept untouched from to keeps (inl over) = inl over
+less_somewhere shown chosen failure kept untouched from to keeps (inr (is, same)) = inr (is, keeps same)
+
+less_on_connection : {C : Type 0} (shown : Held C → State) (chosen : Choice) (before : State) (failure : Failure) (kept untouched : Type 0) (from to : Environment) (conn : Held C) → (kept → untouched)
+    → FailsOnConnection shown chosen before failure kept from to conn → FailsOnConnection shown chosen before failure untouched from to conn
+less_on_connection shown chosen before failure kept untouched from to conn keeps (inl works) = inl works
+less_on_connection shown chosen before failure kept untouched from to conn keeps (inr (refusal, is, same, unopened)) = inr (refusal, is, keeps same, unopened)
+
+less_on_files : {F : Type 0} (g : Ghosts F) (image : Image) (chosen : Choice) (failure : Failure) (kept untouched : Type 0) (from to : Environment) (conn : Held (FileStore F g)) → (kept → untouched)
+    → WorksOnFiles g image (λ before. FailsOnConnection (state over_files) chosen before failure kept from to conn)
+    → WorksOnFiles g image (λ before. FailsOnConnection (state over_files) chosen before failure untouched from to conn)
+less_on_files g image chosen failure kept untouched from to conn keeps works = record {
+  opened = works.opened;
+  is_open = works.is_open;
+  found = works.found;
+  durable = works.durable;
+  work = less_on_connection (state over_files) chosen (file_state works.opened) failure kept untouched from to conn keeps works.work;
+}
+
+less_on_store : {F : Type 0} (g : Ghosts F) (image : Image) (chosen : Choice) (failure : Failure) (kept untouched cannot never : Type 0) (from to : Environment) (became : StoreAfter F g)
+    → (kept → untouched) → (cannot → never) → FailsOnStore g image chosen failure kept cannot from to became → FailsOnStore g image chosen failure untouched never from to became
+less_on_store g image chosen failure kept untouched cannot never from to after.Untouched keeps step (same, why) = (keeps same, step why)
+less_on_store g image chosen failure kept untouched cannot never from to (after.Closed files) keeps step fails = λ clean.
+    (let (conn, works, closes) = fails clean in (conn, less_on_files g image chosen failure kept untouched from to conn keeps works, closes))
+less_on_store g image chosen failure kept untouched cannot never from to (after.Left store) keeps step fails = λ clean.
+    (let (conn, works, left) = fails clean in (conn, less_on_files g image chosen failure kept untouched from to conn keeps works, left))
+
+less_in : (b : Bool) (in_memory : Ghosts MemoryFile) {F : Type 0} (g : Ghosts F) (image : Image) (chosen : Choice) (failure : Failure) (kept untouched cannot never : Type 0) (from to : Environment) (became : StoreAfter F g)
+    → (kept → untouched) → (cannot → never) → FailsIn b in_memory g image chosen failure kept cannot from to became → FailsIn b in_memory g image chosen failure untouched never from to became
+less_in true in_memory g image chosen failure kept untouched cannot never from to became keeps step (fails, caused) = (less_in_memory in_memory failure kept untouched from to keeps fails, caused)
+less_in false in_memory g image chosen failure kept untouched cannot never from to became keeps step (over, fails) =
+    (less_somewhere (state over_files) chosen failure kept untouched from to keeps over, less_on_store g image chosen failure kept untouched cannot never from to became keeps step fails)
+
+pub fails_less : (in_memory : Ghosts MemoryFile) {F : Type 0} (g : Ghosts F) (image : Image) (chosen : Choice) (failure : Failure) (kept untouched cannot never : Type 0) (from to : Environment) (became : StoreAfter F g)
+    → (kept → untouched) → (cannot → never) → FailsBy in_memory g image chosen failure kept cannot from to became → FailsBy in_memory g image chosen failure untouched never from to became
+fails_less in_memory g image chosen = less_in (is_memory_replay chosen) in_memory g image chosen

@@ -1,10 +1,10 @@
 -- The state that files stored is stored in the connection that was opened on them, and the state of the last office in the files that
 -- were closed.
-use Rattle.std.proofs.Common.{◌≡◌, [], ◌∙◌, ap, subst, sym}
+use Rattle.std.proofs.Common.{◌≡◌, [], ◌∙◌, ap, arith, subst, sym}
 use Rattle.std.specs.Prelude.{false, IsTrue}
 use Rattle.std.proofs.lemmas.Bool.{true≢false}
 use Rattle.sqlite.specs.Effect.{Database}
-use Rattle.sqlite.specs.Files.{IsOpened, file_state, over_files}
+use Rattle.sqlite.specs.Files.{IsClosed, IsOpened, file_state, over_files}
 use Rattle.sqlite.specs.Closing.{IsCopied}
 use Rattle.sqlite.specs.Held.{Held, state}
 use Rattle.sqlite.specs.Recovery.{Image}
@@ -12,17 +12,24 @@ use Rattle.sqlite.specs.Start.{FindsIn}
 use Rattle.sqlite.specs.State.{HasCleanDisk, State}
 use Rattle.sqlite_disk.specs.declared.Disk.{Ghosts}
 use Rattle.sqlite_disk.specs.declared.Files.{Files}
+use Rattle.sqlite_store.specs.FileStore.{view}
 use Rattle.sqlite_store.specs.declared.store.FileStore.{FileStore}
+use Rattle.sqlite_trees.specs.View.{IsClean}
 use Rattle.admin_mgr.specs.Good.{IsGood}
+use Rattle.admin_mgr.specs.OfficeRun.{migrated_to_version_2}
 use Rattle.admin_mgr.specs.RbacState.{RbacState, empty_state}
 use Rattle.admin_mgr.specs.StateNames.{AreNamed}
 use Rattle.role_tables.specs.Durability.{HoldsWhatWasLeft, IsDurable}
 use Rattle.role_tables.specs.Office.{OfficeModel}
 use Rattle.role_tables.specs.Runs.{IsInRun}
-use Rattle.role_cli.specs.FileWork.{ClosesOver, DoneWorkIsStored, EndsStored, FailedWorkIsStored, HoldsCommit, NewOfficeIsStored, StoresAlone, StoresState, WorksAndCloses}
-use Rattle.role_cli.specs.Work.{BeginsRun, DoesSubcommand, FailsSubcommand, WorksOnConnection, makes}
+use Rattle.role_cli.specs.Environment.{Environment}
+use Rattle.role_cli.specs.FileWork.{ClosesConnection, ClosesOver, DoneWorkIsStored, EndsStored, FailedWorkIsStored, FailsOnStore, HoldsCommit, MigrationIsStored, NewOfficeIsStored, StoresAlone, StoresState, WorksAndCloses, WorksOnFiles, WorksOnStore}
+use Rattle.role_cli.specs.Work.{BeginsRun, DoesSubcommand, FailsOnConnection, FailsSubcommand, WorksOnConnection, makes}
 use Rattle.role_cli.specs.declared.choice.Choice.{Choice}
 use Rattle.role_cli.specs.declared.choice.Choice.TheVariants as choice
+use Rattle.role_cli.specs.declared.failure.Failure.{Failure}
+use Rattle.role_cli.specs.declared.store_after.StoreAfter.{StoreAfter}
+use Rattle.role_cli.specs.declared.store_after.StoreAfter.TheVariants as after
 
 pub stands_in : {D : Type 0} {g : Ghosts D} (image : Image) (opened : Held (FileStore D g)) → IsOpened opened → FindsIn image (file_state opened) → HoldsWhatWasLeft (file_state opened)
     → (S : RbacState) → StoresState image S → IsDurable (file_state opened) S
@@ -44,6 +51,28 @@ closes_over conn files copied settled = record {
         left = copied.left;
       });
 }
+
+-- a store that reports no fault after the close had reported none before
+clean_before : {D : Type 0} {g : Ghosts D} (conn : Held (FileStore D g)) (store : FileStore D g) → IsClosed conn store → IsClean (view store) → HasCleanDisk (file_state conn)
+clean_before conn store closed clean = omega (arith, clean, closed.quiet.clean)
+
+-- work over a connection on the files, which was closed
+pub works_on : {D : Type 0} {g : Ghosts D} (image : Image) (Work : State → Held (FileStore D g) → Type 0) (conn : Held (FileStore D g)) (became : StoreAfter D g)
+    → ClosesConnection g conn became → HoldsCommit (file_state conn) → (HasCleanDisk (file_state conn) → WorksOnFiles g image (λ before. Work before conn)) → WorksOnStore g image Work became
+works_on image Work conn after.Untouched closes settled works = closes
+works_on image Work conn (after.Closed files) closes settled works = λ clean. (let copied = closes clean in (conn, works copied.was_clean, closes_over conn files copied settled))
+works_on image Work conn (after.Left store) left settled works = λ clean. (conn, works (clean_before conn store left.closed clean), left)
+
+-- and so it failed
+pub fails_on : {D : Type 0} {g : Ghosts D} (image : Image) (chosen : Choice) (failure : Failure) (untouched cannot_begin : Type 0) (from to : Environment) (conn : Held (FileStore D g)) (became : StoreAfter D g)
+    → ClosesConnection g conn became → HoldsCommit (file_state conn)
+    → (HasCleanDisk (file_state conn) → WorksOnFiles g image (λ before. FailsOnConnection (state over_files) chosen before failure untouched from to conn))
+    → FailsOnStore g image chosen failure untouched cannot_begin from to became
+fails_on image chosen failure untouched cannot_begin from to conn after.Untouched closes settled works = absurd closes
+fails_on image chosen failure untouched cannot_begin from to conn (after.Closed files) closes settled works =
+    works_on image (λ before conn. FailsOnConnection (state over_files) chosen before failure untouched from to conn) conn (after.Closed files) closes settled works
+fails_on image chosen failure untouched cannot_begin from to conn (after.Left store) closes settled works =
+    works_on image (λ before conn. FailsOnConnection (state over_files) chosen before failure untouched from to conn) conn (after.Left store) closes settled works
 
 -- what began a run over a state that was durable began with it
 begins_with : {C : Type 0} (shown : Held C → State) (chosen : Choice) (before : State) (office : OfficeModel C) (S : RbacState) → makes chosen ≡ false → IsGood S → AreNamed S → IsDurable before S → BeginsRun shown chosen before office → IsInRun shown S [] office
@@ -72,3 +101,11 @@ module _ {D : Type 0} (g : Ghosts D) where
       let same = works.work.1 in
       let run = subst (IsInRun (state over_files) (empty_state 2) []) (sym same) works.begins.1 in
       subst (StoresAlone g files) run.state (closes.stored (empty_state 2) [] works.last works.is_last works.is_outside run)
+
+  pub migration_stored : MigrationIsStored g
+  migration_stored path image files from to S good named stored (conn, on_files, closes) =
+      let works = on_files.work in
+      let (version, run) = works.begins.1 S good named (on_files.durable S stored) in
+      let same = works.work.1 in
+      let last = subst (IsInRun (state over_files) (migrated_to_version_2 S) []) (sym same) run in
+      (version, subst (StoresAlone g files) last.state (closes.stored (migrated_to_version_2 S) [] works.last works.is_last works.is_outside last))

@@ -6,6 +6,7 @@ pub mod FileWork
 pub mod Getters
 pub mod GivenValues
 pub mod Machines
+pub mod PathChanges
 pub mod Served
 pub mod Subcommands
 pub mod Working

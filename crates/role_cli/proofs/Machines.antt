@@ -1,21 +1,24 @@
 -- What was met on the machine that the program runs on.
-use Rattle.std.proofs.Common.{◌≡◌, ℕ, List, Option, None, subst}
-use Rattle.role_cli.specs.Environment.{Environment, environment}
-use Rattle.role_cli.specs.Hosts.{OnMachine, known_clients, unknown_csv}
+use Rattle.std.proofs.Common.{◌≡◌, ℕ, None, subst}
+use Rattle.rbac_sets.specs.declared.sink.Sink as sink
+use Rattle.rbac_sets.specs.declared.source.Source as source
+use Rattle.role_cli.specs.Environment.{Environment}
+use Rattle.role_cli.specs.Hosts.{OnMachine, environment_on_machine, clients_on_machine, failed_on_machine, known_clients}
 use Rattle.role_cli.specs.ServedConnections.{Clients}
+use Rattle.role_cli.specs.declared.machine.Machine.{Machine}
 
 -- it had listened on no port and read nothing before
-pub on_machine : (Holds : Environment → Environment → Type 0) (remaining : Option (List ℕ)) (reads failed_reads : ℕ) (written : Option (List ℕ)) (failed_writes idle_writes : ℕ)
-    (now_remaining : Option (List ℕ)) (now_reads now_failed_reads : ℕ) (now_written : Option (List ℕ)) (now_failed_writes now_idle_writes : ℕ) (clients : Clients) (failed_csv : ℕ) (now_port : Option ℕ) (now_accepted now_failed now_failed_csv : ℕ)
-    → clients ≡ known_clients None 0 0 → failed_csv ≡ 0
-    → Holds (environment remaining reads failed_reads written failed_writes idle_writes unknown_csv failed_csv clients) (environment now_remaining now_reads now_failed_reads now_written now_failed_writes now_idle_writes unknown_csv now_failed_csv (known_clients now_port now_accepted now_failed))
-    → OnMachine Holds remaining reads failed_reads written failed_writes idle_writes now_remaining now_reads now_failed_reads now_written now_failed_writes now_idle_writes
-on_machine Holds remaining reads failed_reads written failed_writes idle_writes now_remaining now_reads now_failed_reads now_written now_failed_writes now_idle_writes clients failed_csv now_port now_accepted now_failed now_failed_csv nobody nothing holds =
-    let now = environment now_remaining now_reads now_failed_reads now_written now_failed_writes now_idle_writes unknown_csv now_failed_csv (known_clients now_port now_accepted now_failed) in (
-      now_port,
-      now_accepted,
-      now_failed,
-      now_failed_csv,
-      subst (λ n. Holds (environment remaining reads failed_reads written failed_writes idle_writes unknown_csv n (known_clients None 0 0)) now) nothing
-          (subst (λ c. Holds (environment remaining reads failed_reads written failed_writes idle_writes unknown_csv failed_csv c) now) nobody holds),
+pub on_machine : {R W : Type 0} (input : source.Ghosts R) (output : sink.Ghosts W) (Holds : Environment → Environment → Type 0) (source now_source : R) (out now_out : W) (machine now : Machine)
+    → clients_on_machine machine ≡ known_clients None 0 0 → failed_on_machine machine ≡ 0
+    → Holds (record (environment_on_machine input output source out None 0 0 0) { clients = clients_on_machine machine; failed_csv = failed_on_machine machine })
+    (environment_on_machine input output now_source now_out now.port now.accepted now.failed now.failed_csv)
+    → OnMachine input output Holds source out now_source now_out
+on_machine input output Holds source now_source out now_out machine now nobody nothing holds =
+    let to = environment_on_machine input output now_source now_out now.port now.accepted now.failed now.failed_csv in
+    let at = environment_on_machine input output source out None 0 0 0 in (
+      now.port,
+      now.accepted,
+      now.failed,
+      now.failed_csv,
+      subst (λ (n : ℕ). Holds (record at { failed_csv = n }) to) nothing (subst (λ (c : Clients). Holds (record at { clients = c; failed_csv = failed_on_machine machine }) to) nobody holds),
     )

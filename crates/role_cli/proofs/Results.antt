@@ -13,6 +13,11 @@ pub on_ok-then : {T E : Type 0} (r : Result T E) (P Q : Type 0) → OnOk r P →
 on_ok-then (Ok t) P Q holds step = step holds
 on_ok-then (Err e) P Q holds step = tt
 
+-- two facts together
+pub on_ok-join : {T E : Type 0} (r : Result T E) (P Q Z : Type 0) → OnOk r P → OnOk r Q → (P → Q → Z) → OnOk r Z
+on_ok-join (Ok t) P Q Z one other step = step one other
+on_ok-join (Err e) P Q Z one other step = tt
+
 pub on_ok-holds : {T E : Type 0} (r : Result T E) (P : Type 0) → IsOk r → OnOk r P → P
 on_ok-holds (Ok t) P is_ok holds = holds
 on_ok-holds (Err e) P is_ok holds = absurd (true≢false (sym is_ok))
@@ -49,11 +54,19 @@ pub on_err-holds : {T E : Type 0} (r : Result T E) (P : Type 0) → IsErr r → 
 on_err-holds (Ok t) P is_err holds = absurd (true≢false (sym is_err))
 on_err-holds (Err e) P is_err holds = holds
 
--- an error with two facts, and with one more of a value that is there
-pub if_err-all : {T E A : Type 0} (r : Result T E) (P Q : E → Type 0) (o : Option A) (C : A → Type 0) (Z : A → E → Type 0)
-    → IsErr r → IfErr r P → IfErr r Q → IfSome o (λ x. C x → IfErr r (Z x)) → (e : E) × P e × Q e × IfSome o (λ x. C x → Z x e)
-if_err-all (Ok t) P Q o C Z is_err one two three = absurd (true≢false (sym is_err))
-if_err-all (Err e) P Q o C Z is_err one two three = (e, one, two, three)
+-- what follows once something is given
+pub on_ok-given : {T E : Type 0} (r : Result T E) (Given P Q : Type 0) → (Given → OnOk r P) → ((Given → P) → Q) → OnOk r Q
+on_ok-given (Ok t) Given P Q holds step = step holds
+on_ok-given (Err e) Given P Q holds step = tt
+
+pub if_err-given : {T E : Type 0} (r : Result T E) (Given : Type 0) (P Q : E → Type 0) → (Given → IfErr r P) → ((e : E) → (Given → P e) → Q e) → IfErr r Q
+if_err-given (Ok t) Given P Q holds step = tt
+if_err-given (Err e) Given P Q holds step = step e holds
+
+-- an error with two facts
+pub if_err-both : {T E : Type 0} (r : Result T E) (P Q : E → Type 0) → IsErr r → IfErr r P → IfErr r Q → (e : E) × P e × Q e
+if_err-both (Ok t) P Q is_err one two = absurd (true≢false (sym is_err))
+if_err-both (Err e) P Q is_err one two = (e, one, two)
 
 -- what follows for a value that is there
 pub if_some-then : {A : Type 0} (o : Option A) (P Q : A → Type 0) → IfSome o P → ((x : A) → P x → Q x) → IfSome o Q

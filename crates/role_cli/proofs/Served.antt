@@ -8,7 +8,7 @@ use Rattle.std.proofs.lemmas.List.Folds.{list_any-append}
 use Rattle.sqlite.specs.Held.{Held}
 use Rattle.sqlite.specs.State.{State}
 use Rattle.admin_mgr.specs.RbacState.{RbacState}
-use Rattle.rbac_sets.specs.Stream.{HasRisen, left_in_memory, one_more, written_in_memory}
+use Rattle.rbac_sets.specs.Stream.{HasRisen, failed_in_memory, left_in_memory, one_more, written_in_memory}
 use Rattle.rbac_sets.specs.declared.sink.MemorySink.{MemorySink}
 use Rattle.rbac_sets.specs.declared.source.MemorySource.{MemorySource}
 use Rattle.role_json.specs.RequestContent.{RequestContent}
@@ -20,8 +20,9 @@ use Rattle.role_wire.specs.declared.lines.Cause.{Cause}
 use Rattle.role_wire.specs.declared.lines.Cause.TheVariants as cause
 use Rattle.role_wire.proofs.Performed.{same_run}
 use Rattle.role_wire.proofs.Replayed.{runs_then}
-use Rattle.role_cli.specs.Hosts.{clients_in_memory, known_clients}
-use Rattle.role_cli.specs.ServedConnections.{AreServed, Clients, IsNextServed, IsServed, IsServedOver, IsServedSomehow, ServedAreAccepted, ServesConnections, TakesNext, is_closing, nothing_of}
+use Rattle.role_cli.specs.Environment.{HasFailed}
+use Rattle.role_cli.specs.Hosts.{clients_in_memory, known_clients, sent_in_memory}
+use Rattle.role_cli.specs.ServedConnections.{AreServed, Clients, HasFailedWrite, IsNextServed, IsServed, IsServedOver, IsServedSomehow, SentReply, ServedAreAccepted, ServesConnections, TakesNext, bytes_of, is_closing, nothing_of}
 use Rattle.role_cli.specs.declared.memory_host.MemoryHost.{MemoryHost}
 
 -- a connection that closes the office was answered with status 500
@@ -43,6 +44,12 @@ saturated n small = elim (cases_Bool (nat_lt n (2 ^ 64 - 1))) [
 no_rise : HasRisen 0 0 → ⊥
 no_rise (inl more) = omega (arith, more)
 no_rise (inr full) = omega (arith, full)
+
+-- a sink without idle writes has failed only if one of its writes has
+some_failed : (n : ℕ) → HasFailed 0 n 0 0 → 1 ≤ n
+some_failed n (inl (inl more)) = omega (arith, more)
+some_failed n (inl (inr full)) = omega (arith, full)
+some_failed n (inr risen) = absurd (no_rise risen)
 
 or_none : (b : Bool) → (b || false) ≡ b
 or_none true = refl
@@ -110,7 +117,7 @@ module _ {S : Type 0} (shown : Held S → State) where
       of : (status : Option ℕ) → IsServedSomehow shown old status new → IsNextServed shown before now old status new
       of (Some status) (left, now_left, written, now_written, (taken, consumes, no_further, (body, tells, text))) = made left now_left (Some status) (taken, consumes, no_further, (body, tells, tt))
       of None (why, left, now_left, written, now_written, (taken, consumes, no_further, stops)) =
-          made left now_left None (why, (taken, consumes, no_further, stopped_somehow why old new _ written now_written stops), (λ _. refl))
+          made left now_left None (why, (taken, consumes, no_further, stopped_somehow why old new _ written now_written stops), (λ _. refl), (λ _. tt))
 
   -- one that did not close the office
   pub open_then : (statuses : List (Option ℕ)) (status : Option ℕ) → list_any is_closing statuses ≡ false → is_closing status ≡ false → list_any is_closing (statuses ++ status ∷ []) ≡ false
@@ -118,28 +125,31 @@ module _ {S : Type 0} (shown : Held S → State) where
       list_any-append is_closing statuses (status ∷ []) ∙ ap (λ b. b || (is_closing status || false)) open_before ∙ or_none (is_closing status) ∙ open_now
 
   -- no read of a client in memory fails
-  served_in_memory : (Other : Type 0) (sent left written now_written : Option (List ℕ)) (old new : OfficeModel S) (status : Option ℕ)
-      → IsServedOver shown (HasRisen 0 0) sent left written now_written old status new → IsServedOver shown Other sent left written now_written old status new
-  served_in_memory Other sent left written now_written old new (Some status) served = served
-  served_in_memory Other sent left written now_written old new None (why, stops, fails) = (why, stops, (λ is. absurd (no_rise (fails is))))
+  served_in_memory : (Other : Type 0) (sent left written : Option (List ℕ)) (filled : SentReply) (old new : OfficeModel S) (status : Option ℕ)
+      → IsServedOver shown (HasRisen 0 0) (HasFailed 0 filled.failed_writes 0 0) sent left written (Some filled.bytes) old status new
+      → IsServedOver shown Other (HasFailedWrite (Some filled)) sent left written (Some filled.bytes) old status new
+  served_in_memory Other sent left written filled old new (Some status) served = served
+  served_in_memory Other sent left written filled old new None (why, stops, read, wrote) = (why, stops, (λ is. absurd (no_rise (read is))), (λ is. some_failed filled.failed_writes (wrote is)))
 
   -- a client in memory, of whom all is known
   pub next_in_memory : (before now : MemoryHost) (source left : MemorySource) (empty filled : MemorySink) (old new : OfficeModel S) (status : Option ℕ)
       → now.port ≡ before.port → now.accepted ≡ one_more before.accepted → now.failed ≡ before.failed
-      → before.waiting.items ≡ source ∷ now.waiting.items → now.replies.items ≡ before.replies.items ++ filled ∷ [] → written_in_memory empty ≡ []
-      → IsServedOver shown (HasRisen 0 0) (Some (left_in_memory source)) (Some (left_in_memory left)) (Some (written_in_memory empty)) (Some (written_in_memory filled)) old status new
+      → before.waiting.items ≡ source ∷ now.waiting.items → now.replies.items ≡ before.replies.items ++ filled ∷ [] → sent_in_memory empty ≡ record { bytes = []; failed_writes = 0 }
+      → IsServedOver shown (HasRisen 0 0) (HasFailed (failed_in_memory empty) (failed_in_memory filled) 0 0) (Some (left_in_memory source)) (Some (left_in_memory left))
+      (Some (written_in_memory empty)) (Some (written_in_memory filled)) old status new
       → IsNextServed shown (clients_in_memory before) (clients_in_memory now) old status new
   next_in_memory before now source left empty filled old new status port counted none_failed takes adds none served = record {
     sent = Some (left_in_memory source);
     left = Some (left_in_memory left);
-    reply = Some (written_in_memory filled);
+    reply = Some (sent_in_memory filled);
     port = port;
     counted = counted;
     none_failed = none_failed;
     takes = subst (λ sources. TakesNext (Some (map left_in_memory sources)) (Some (left_in_memory source)) (Some (map left_in_memory now.waiting.items))) (sym takes) (refl, refl);
-    adds = (written_in_memory filled, refl, ap Some (ap (map written_in_memory) adds ∙ map-append written_in_memory before.replies.items (filled ∷ [])));
-    served = served_in_memory ((clients_in_memory before).waiting ≡ None) (Some (left_in_memory source)) (Some (left_in_memory left)) (Some []) (Some (written_in_memory filled)) old new status
-        (subst (λ bytes. IsServedOver shown (HasRisen 0 0) (Some (left_in_memory source)) (Some (left_in_memory left)) (Some bytes) (Some (written_in_memory filled)) old status new) none served);
+    adds = (sent_in_memory filled, refl, ap Some (ap (map sent_in_memory) adds ∙ map-append sent_in_memory before.replies.items (filled ∷ [])));
+    served = served_in_memory ((clients_in_memory before).waiting ≡ None) (Some (left_in_memory source)) (Some (left_in_memory left)) (Some []) (sent_in_memory filled) old new status
+        (subst (λ (it : SentReply). IsServedOver shown (HasRisen 0 0) (HasFailed it.failed_writes (failed_in_memory filled) 0 0) (Some (left_in_memory source)) (Some (left_in_memory left))
+        (Some it.bytes) (Some (written_in_memory filled)) old status new) none served);
   }
 
   -- ---- the run continues
@@ -178,9 +188,9 @@ module _ {S : Type 0} (shown : Held S → State) where
   stop_continues cause.Store old new bytes written now_written (no_answer, none) = absurd no_answer
   stop_continues cause.Closed old new bytes written now_written (no_answer, none) = absurd no_answer
 
-  served_continues : (may_fail : Type 0) (sent left reply : Option (List ℕ)) (old new : OfficeModel S) (status : Option ℕ) → IsServed shown may_fail sent left reply old status new → Continues shown old new
+  served_continues : (may_fail : Type 0) (sent left : Option (List ℕ)) (reply : Option SentReply) (old new : OfficeModel S) (status : Option ℕ) → IsServed shown may_fail sent left reply old status new → Continues shown old new
   served_continues may_fail sent left reply old new (Some status) (taken, consumes, no_further, (body, tells, text)) = tells_continues old new _ status body tells
-  served_continues may_fail sent left reply old new None (why, (taken, consumes, no_further, stops), _) = stop_continues why old new _ (nothing_of reply) reply stops
+  served_continues may_fail sent left reply old new None (why, (taken, consumes, no_further, stops), _, _) = stop_continues why old new _ (nothing_of (bytes_of reply)) (bytes_of reply) stops
 
   all_continue : (before now : Clients) (old new : OfficeModel S) (statuses : List (Option ℕ)) → AreServed shown before now old statuses new → Continues shown old new
   all_continue before now old new [] (_, same) = same_continues old new same

@@ -23,20 +23,6 @@ pub record Environment : Type 0 where
   pub failed_csv : ℕ
   pub clients : Clients
 
--- the same, in the order of its fields
-abbrev pub environment : Option (List ℕ) → ℕ → ℕ → Option (List ℕ) → ℕ → ℕ → CsvTexts → ℕ → Clients → Environment
-environment remaining reads failed_reads written failed_writes idle_writes csv_at failed_csv clients = record {
-  remaining = remaining;
-  reads = reads;
-  failed_reads = failed_reads;
-  written = written;
-  failed_writes = failed_writes;
-  idle_writes = idle_writes;
-  csv_at = csv_at;
-  failed_csv = failed_csv;
-  clients = clients;
-}
-
 -- a call failed, or one that should move a byte moved none: one of the two counts of such calls rose
 abbrev pub HasFailed : (failed now_failed idle now_idle : ℕ) → Type 0
 HasFailed failed now_failed idle now_idle = HasRisen failed now_failed ⊎ HasRisen idle now_idle

@@ -3,27 +3,33 @@ use Rattle.std.specs.Prelude.{◌≡◌, false, IsTrue, List, String}
 use Rattle.std.specs.declared.alloc.Global.{Global}
 use Rattle.sqlite.specs.Closing.{HoldsAlone, IsCopied}
 use Rattle.sqlite.specs.Held.{Held, state}
-use Rattle.sqlite.specs.Files.{HoldsDatabase, IsOpened, file_state, image_of, over_files}
+use Rattle.sqlite.specs.Files.{FailsToClose, HoldsDatabase, IsClosed, IsOpened, file_state, image_of, over_files}
 use Rattle.sqlite.specs.Recovery.{Image}
 use Rattle.sqlite.specs.Start.{FindsIn}
 use Rattle.sqlite.specs.State.{State}
 use Rattle.sqlite.specs.Tree.{Trees}
 use Rattle.sqlite_store.specs.declared.store.FileStore.{FileStore}
 use Rattle.sqlite.specs.WalFiles.{outcomes}
+use Rattle.sqlite.specs.WalReads.{AreClean}
+use Rattle.sqlite.specs.declared.error.Error.{Error}
+use Rattle.sqlite_store.specs.FileStore.{view}
+use Rattle.sqlite_trees.specs.View.{IsClean}
 use Rattle.sqlite_disk.specs.declared.Disk.{Ghosts}
 use Rattle.sqlite_disk.specs.declared.Files.{Files}
 use Rattle.admin_mgr.specs.Good.{IsGood}
-use Rattle.admin_mgr.specs.OfficeRun.{Event}
+use Rattle.admin_mgr.specs.OfficeRun.{Event, migrated_to_version_2}
 use Rattle.admin_mgr.specs.RbacState.{RbacState, empty_state}
 use Rattle.admin_mgr.specs.StateNames.{AreNamed}
 use Rattle.role_tables.specs.Durability.{LeavesState, IsDurable}
 use Rattle.role_tables.specs.Office.{OfficeModel}
 use Rattle.role_tables.specs.Runs.{IsInRun}
 use Rattle.role_cli.specs.Environment.{Environment}
-use Rattle.role_cli.specs.Work.{DoesSubcommand, FailsSubcommand, WorksOnConnection, makes}
+use Rattle.role_cli.specs.Work.{DoesOnConnection, DoesSubcommand, FailsOnConnection, FailsSubcommand, WorksOnConnection, makes}
 use Rattle.role_cli.specs.declared.choice.Choice.{Choice}
-use Rattle.role_cli.specs.declared.choice.Choice.TheVariants.{Init}
+use Rattle.role_cli.specs.declared.choice.Choice.TheVariants.{Init, Migrate}
 use Rattle.role_cli.specs.declared.failure.Failure.{Failure}
+use Rattle.role_cli.specs.declared.store_after.StoreAfter.{StoreAfter}
+use Rattle.role_cli.specs.declared.store_after.StoreAfter.TheVariants as after
 
 -- the files hold a database in which the state is stored
 abbrev pub StoresState : Image → RbacState → Type 0
@@ -58,6 +64,35 @@ pub record ClosesOver {D : Type 0} (g : Ghosts D) (files : Files D) (conn : Held
 abbrev pub WorksAndCloses : {D : Type 0} (g : Ghosts D) (image : Image) (files : Files D) → (State → Held (FileStore D g) → Type 0) → Type 0
 WorksAndCloses {D} g image files Work = (conn : Held (FileStore D g)) × WorksOnFiles g image (λ before. Work before conn) × ClosesOver g files conn
 
+-- The connection was closed, but its log could not be copied into the database file: why, and a crash of the store that is handed back
+-- leaves nothing that one of the connection would not have left.
+pub record LeavesLog {D : Type 0} (g : Ghosts D) (store : FileStore D g) (conn : Held (FileStore D g)) : Type 0 where
+  pub closed : IsClosed conn store
+  pub cause : IsClean (view store) → (error : Error) × FailsToClose conn store error
+
+-- what a close made of a connection: the files, into which the log was copied, or the store, which keeps it
+abbrev pub ClosesConnection : {D : Type 0} (g : Ghosts D) → Held (FileStore D g) → StoreAfter D g → Type 0
+ClosesConnection g conn after.Untouched = ⊥
+ClosesConnection g conn (after.Closed files) = AreClean g files.log files.db → IsCopied conn files
+ClosesConnection g conn (after.Left store) = LeavesLog g store conn
+
+-- while the disk returned what was written: the files were opened, the work was over the connection, and it was closed
+abbrev pub WorksOnStore : {D : Type 0} (g : Ghosts D) (image : Image) → (State → Held (FileStore D g) → Type 0) → StoreAfter D g → Type 0
+WorksOnStore g image Work after.Untouched = ⊥
+WorksOnStore g image Work (after.Closed files) = AreClean g files.log files.db → WorksAndCloses g image files Work
+WorksOnStore {D} g image Work (after.Left store) =
+    IsClean (view store) → (conn : Held (FileStore D g)) × WorksOnFiles g image (λ before. Work before conn) × LeavesLog g store conn
+
+-- what a subcommand does was done over the files
+abbrev pub DoesOnStore : {D : Type 0} (g : Ghosts D) (image : Image) → Choice → Environment → Environment → StoreAfter D g → Type 0
+DoesOnStore g image chosen from to became = WorksOnStore g image (λ before conn. DoesOnConnection (state over_files) chosen before from to conn) became
+
+-- it failed over the files, or it could not begin, and nothing was touched
+abbrev pub FailsOnStore : {D : Type 0} (g : Ghosts D) (image : Image) → Choice → Failure → (untouched cannot_begin : Type 0) → Environment → Environment → StoreAfter D g → Type 0
+FailsOnStore g image chosen failure untouched cannot_begin from to after.Untouched = untouched × cannot_begin
+FailsOnStore g image chosen failure untouched cannot_begin from to became =
+    WorksOnStore g image (λ before conn. FailsOnConnection (state over_files) chosen before failure untouched from to conn) became
+
 -- ---- laws
 
 -- The work was over an office that began with this state, and the database file alone stores the state that it ended with.
@@ -75,6 +110,12 @@ abbrev pub FailedWorkIsStored : {D : Type 0} → Ghosts D → Type 0
 FailedWorkIsStored {D} g = (chosen : Choice) (image : Image) (files : Files D) (failure : Failure) (from to : Environment) (S : RbacState) → makes chosen ≡ false → IsGood S → AreNamed S → StoresState image S
     → WorksAndCloses g image files (λ before conn. WorksOnConnection (state over_files) chosen before (λ first last. FailsSubcommand (state over_files) chosen failure first from to last) conn)
     → EndsStored g files S (λ first last. FailsSubcommand (state over_files) chosen failure first from to last)
+
+-- What a migration made of a good state of version 1, whose texts are valid names, is stored.
+abbrev pub MigrationIsStored : {D : Type 0} → Ghosts D → Type 0
+MigrationIsStored {D} g = (path : String Global) (image : Image) (files : Files D) (from to : Environment) (S : RbacState) → IsGood S → AreNamed S → StoresState image S
+    → WorksAndCloses g image files (λ before conn. DoesOnConnection (state over_files) (Migrate path) before from to conn)
+    → (S.version ≡ 1) × StoresAlone g files (migrated_to_version_2 S)
 
 -- A new office is stored, empty.
 abbrev pub NewOfficeIsStored : {D : Type 0} → Ghosts D → Type 0

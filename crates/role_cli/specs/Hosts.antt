@@ -1,9 +1,13 @@
 -- The machine that the program runs on, and a host in memory.
 use Rattle.std.specs.Prelude.{ℕ, List, Option, Some, None, map, if◌then◌else◌}
 use Rattle.std.specs.Str.{bytes_eq}
-use Rattle.rbac_sets.specs.Stream.{left_in_memory, written_in_memory}
-use Rattle.role_cli.specs.Environment.{CsvTexts, Environment, environment}
-use Rattle.role_cli.specs.ServedConnections.{Clients}
+use Rattle.rbac_sets.specs.Stream.{failed_in_memory as failed_writes_of, left_in_memory, written_in_memory}
+use Rattle.rbac_sets.specs.declared.sink.MemorySink.{MemorySink}
+use Rattle.rbac_sets.specs.declared.sink.Sink as sink
+use Rattle.rbac_sets.specs.declared.source.Source as source
+use Rattle.role_cli.specs.Environment.{CsvTexts, Environment}
+use Rattle.role_cli.specs.ServedConnections.{Clients, SentReply}
+use Rattle.role_cli.specs.declared.folder.MachineFolder.{MachineFolder}
 use Rattle.role_cli.specs.declared.machine.Machine.{Machine}
 use Rattle.role_cli.specs.declared.memory_host.MemoryHost.{MemoryHost}
 
@@ -19,6 +23,10 @@ clients_on_machine machine = known_clients machine.port machine.accepted machine
 abbrev pub failed_on_machine : Machine → ℕ
 failed_on_machine machine = machine.failed_csv
 
+-- how often a call of the machine's folders failed
+abbrev pub failed_in_folder : MachineFolder → ℕ
+failed_in_folder folder = folder.failed
+
 -- there is a text at this path, and none elsewhere
 abbrev pub text_at : List ℕ → List ℕ → CsvTexts
 text_at path text other = if bytes_eq other path then Some text else None
@@ -31,6 +39,10 @@ csv_in_memory host = text_at host.path.now host.text.now
 abbrev pub failed_in_memory : MemoryHost → ℕ
 failed_in_memory host = host.failed_csv
 
+-- what a client was sent through a sink in memory
+abbrev pub sent_in_memory : MemorySink → SentReply
+sent_in_memory sink = record { bytes = written_in_memory sink; failed_writes = failed_writes_of sink }
+
 -- all is known of its clients
 abbrev pub clients_in_memory : MemoryHost → Clients
 clients_in_memory host = record {
@@ -38,17 +50,28 @@ clients_in_memory host = record {
   accepted = host.accepted;
   failed = host.failed;
   waiting = Some (map left_in_memory host.waiting.items);
-  replies = Some (map written_in_memory host.replies.items);
+  replies = Some (map sent_in_memory host.replies.items);
 }
 
 -- no text of the machine is known
 abbrev pub unknown_csv : CsvTexts
 unknown_csv path = None
 
+-- what is met on the machine, if it listens on this port, and these many clients were accepted and calls failed
+abbrev pub environment_on_machine : {R W : Type 0} → source.Ghosts R → sink.Ghosts W → R → W → (port : Option ℕ) (accepted failed failed_csv : ℕ) → Environment
+environment_on_machine input output source out port accepted failed failed_csv = record {
+  remaining = input.remaining source;
+  reads = input.reads source;
+  failed_reads = input.failed source;
+  written = output.written out;
+  failed_writes = output.failed out;
+  idle_writes = output.idle out;
+  csv_at = unknown_csv;
+  failed_csv = failed_csv;
+  clients = known_clients port accepted failed;
+}
+
 -- This holds of what the program met on its machine, where it had listened on no port and read nothing before.
-abbrev pub OnMachine : (Environment → Environment → Type 0) → (remaining : Option (List ℕ)) (reads failed_reads : ℕ) (written : Option (List ℕ)) (failed_writes idle_writes : ℕ)
-    → (now_remaining : Option (List ℕ)) (now_reads now_failed_reads : ℕ) (now_written : Option (List ℕ)) (now_failed_writes now_idle_writes : ℕ) → Type 0
-OnMachine Holds remaining reads failed_reads written failed_writes idle_writes now_remaining now_reads now_failed_reads now_written now_failed_writes now_idle_writes =
-    (port : Option ℕ) × (accepted failed failed_csv : ℕ) × Holds
-    (environment remaining reads failed_reads written failed_writes idle_writes unknown_csv 0 (known_clients None 0 0))
-    (environment now_remaining now_reads now_failed_reads now_written now_failed_writes now_idle_writes unknown_csv failed_csv (known_clients port accepted failed))
+abbrev pub OnMachine : {R W : Type 0} → source.Ghosts R → sink.Ghosts W → (Environment → Environment → Type 0) → (source : R) (out : W) (now_source : R) (now_out : W) → Type 0
+OnMachine input output Holds source out now_source now_out = (port : Option ℕ) × (accepted failed failed_csv : ℕ)
+    × Holds (environment_on_machine input output source out None 0 0 0) (environment_on_machine input output now_source now_out port accepted failed failed_csv)

@@ -1,32 +1,66 @@
 -- What the program did for the choice in its arguments.
-use Rattle.std.specs.Prelude.{Bool, true, false}
+use Rattle.std.specs.Prelude.{Bool, true, false, ℕ, List, [], string_bytes}
 use Rattle.sqlite.specs.Held.{state}
 use Rattle.sqlite.specs.Files.{over_files}
+use Rattle.sqlite.specs.Recovery.{Image}
 use Rattle.sqlite_disk.specs.declared.Disk.{Ghosts}
 use Rattle.role_cli.specs.Environment.{Environment, ReadFailed, WriteFailed}
 use Rattle.role_cli.specs.FailureCause.{IsCaused}
+use Rattle.role_cli.specs.FileWork.{DoesOnStore, FailsOnStore}
 use Rattle.role_cli.specs.MemoryReplay.{FailsInMemory, ReplaysInMemory}
 use Rattle.role_cli.specs.Work.{DoesOverSomeState, FailsOrFindsNoOffice}
 use Rattle.role_cli.specs.declared.choice.Choice.{Choice}
 use Rattle.role_cli.specs.declared.choice.Choice.TheVariants as choice
-use Rattle.role_cli.specs.declared.choice.Place.TheVariants.{Memory}
+use Rattle.role_cli.specs.declared.choice.Place.TheVariants.{File, Memory}
 use Rattle.role_cli.specs.declared.failure.Failure.{Failure}
 use Rattle.role_cli.specs.declared.memory_file.MemoryFile.{MemoryFile}
+use Rattle.role_cli.specs.declared.store_after.StoreAfter.{StoreAfter}
 
 -- it is a replay over a new office in memory
 abbrev pub is_memory_replay : Choice → Bool
 is_memory_replay (choice.Replay Memory) = true
 is_memory_replay _ = false
 
--- The choice was done: a replay in memory over a new office, anything else over an office of some good state, in files of type F.
--- The contract of `run_on_path`, which hands the connection back, says which state it was.
-abbrev pub IsDone : Ghosts MemoryFile → {F : Type 0} → Ghosts F → Choice → Environment → Environment → Type 0
-IsDone in_memory on_disk (choice.Replay Memory) from to = ReplaysInMemory in_memory from.remaining to.remaining from.written to.written
-IsDone in_memory on_disk chosen from to = DoesOverSomeState (state (over_files {g = on_disk})) chosen from to
+-- the path of the office, if it is in a file
+abbrev pub path_of : Choice → List ℕ
+path_of (choice.Init path) = string_bytes path
+path_of (choice.Replay (File path)) = string_bytes path
+path_of (choice.Replay Memory) = []
+path_of (choice.Serve path _ _) = string_bytes path
+path_of (choice.Import path _) = string_bytes path
+path_of (choice.Export path) = string_bytes path
+path_of (choice.Report path) = string_bytes path
+path_of (choice.Check path) = string_bytes path
+path_of (choice.Migrate path) = string_bytes path
 
--- The choice failed by this failure: a replay in memory over a new office, anything else over an office of some good state, or no
--- office was created, migrated or opened and nothing was touched.
-abbrev pub FailsBy : Ghosts MemoryFile → {F : Type 0} → Ghosts F → Choice → Failure → (untouched : Type 0) → Environment → Environment → Type 0
-FailsBy in_memory on_disk (choice.Replay Memory) failure untouched from to =
+-- It was done: a replay in memory over a new office; anything else in files of type F, which held this image when they were opened,
+-- over the office that they stored or, whatever the disk returned, over one of some good state.
+abbrev pub IsDoneIn : (is_in_memory : Bool) → Ghosts MemoryFile → {F : Type 0} (g : Ghosts F) (image : Image) → Choice → Environment → Environment → StoreAfter F g → Type 0
+IsDoneIn true in_memory g image chosen from to became = ReplaysInMemory in_memory from.remaining to.remaining from.written to.written
+IsDoneIn false in_memory g image chosen from to became = DoesOverSomeState (state (over_files {g = g})) chosen from to × DoesOnStore g image chosen from to became
+
+-- It failed by this failure: a replay in memory over a new office; anything else in files, over the office that they stored or one of some
+-- good state; or it could not begin, and nothing was touched.
+abbrev pub FailsIn : (is_in_memory : Bool) → Ghosts MemoryFile → {F : Type 0} (g : Ghosts F) (image : Image) → Choice → Failure → (untouched cannot_begin : Type 0)
+    → Environment → Environment → StoreAfter F g → Type 0
+FailsIn true in_memory g image chosen failure untouched cannot_begin from to became =
     FailsInMemory in_memory failure untouched from.remaining to.remaining from.written to.written × IsCaused failure (WriteFailed from to) (ReadFailed from to)
-FailsBy in_memory on_disk chosen failure untouched from to = FailsOrFindsNoOffice (state (over_files {g = on_disk})) chosen failure untouched from to
+FailsIn false in_memory g image chosen failure untouched cannot_begin from to became =
+    FailsOrFindsNoOffice (state (over_files {g = g})) chosen failure untouched from to × FailsOnStore g image chosen failure untouched cannot_begin from to became
+
+-- the choice was done
+abbrev pub IsDone : Ghosts MemoryFile → {F : Type 0} (g : Ghosts F) (image : Image) → Choice → Environment → Environment → StoreAfter F g → Type 0
+IsDone in_memory g image chosen from to became = IsDoneIn (is_memory_replay chosen) in_memory g image chosen from to became
+
+-- the choice failed by this failure
+abbrev pub FailsBy : Ghosts MemoryFile → {F : Type 0} (g : Ghosts F) (image : Image) → Choice → Failure → (untouched cannot_begin : Type 0) → Environment → Environment → StoreAfter F g → Type 0
+FailsBy in_memory g image chosen failure untouched cannot_begin from to became =
+    FailsIn (is_memory_replay chosen) in_memory g image chosen failure untouched cannot_begin from to became
+
+-- the same, of files of which nothing is known: over some image of them
+abbrev pub IsDoneSomehow : Ghosts MemoryFile → {F : Type 0} → Ghosts F → Choice → Environment → Environment → Type 0
+IsDoneSomehow in_memory {F} g chosen from to = (image : Image) × (became : StoreAfter F g) × IsDone in_memory g image chosen from to became
+
+abbrev pub FailsSomehow : Ghosts MemoryFile → {F : Type 0} → Ghosts F → Choice → Failure → (untouched cannot_begin : Type 0) → Environment → Environment → Type 0
+FailsSomehow in_memory {F} g chosen failure untouched cannot_begin from to =
+    (image : Image) × (became : StoreAfter F g) × FailsBy in_memory g image chosen failure untouched cannot_begin from to became

@@ -1,5 +1,5 @@
 -- What a server leaves of an office, one connection after another.
-use Rattle.std.specs.Prelude.{◌≡◌, ◌<◌, ◌≤◌, ◌+◌, ◌^◌, ◌++◌, ◌==◌, ℕ, Bool, false, List, [], ◌∷◌, Option, Some, None, length, option_map}
+use Rattle.std.specs.Prelude.{⊤, ◌≡◌, ◌<◌, ◌≤◌, ◌+◌, ◌^◌, ◌++◌, ◌==◌, ℕ, Bool, false, List, [], ◌∷◌, Option, Some, None, length, option_map}
 use Rattle.std.specs.List.{list_any}
 use Rattle.sqlite.specs.Held.{Held}
 use Rattle.sqlite.specs.State.{State}
@@ -9,7 +9,7 @@ use Rattle.role_tables.specs.Office.{OfficeModel}
 use Rattle.role_wire.specs.ServedRequest.{ServesRequest, StopsRequest}
 use Rattle.role_wire.specs.declared.lines.Cause.{Cause}
 use Rattle.role_wire.specs.declared.serving.Answered.{Answered}
-use Rattle.role_wire.specs.declared.lines.Cause.TheVariants.{Read}
+use Rattle.role_wire.specs.declared.lines.Cause.TheVariants.{Read, Write}
 use Rattle.role_cli.specs.declared.failure.Failure.{Failure}
 use Rattle.role_cli.specs.declared.failure.Failure.TheVariants.{Refused, Stopped, NotListening, NotAccepting, Closed}
 
@@ -22,15 +22,20 @@ abbrev pub is_closing : Option ℕ → Bool
 is_closing (Some status) = status == 500
 is_closing None = false
 
+-- what a client was sent: the bytes, and how many writes on its connection failed (the count saturates)
+pub record SentReply : Type 0 where
+  pub bytes : List ℕ
+  pub failed_writes : ℕ
+
 -- What is known of the clients of a server: the port on which they are listened for, if that is known; how many connections were
 -- accepted, and how often listening or accepting failed (the counts saturate); the bytes that each client to come sends, in order,
--- and the bytes that each client was sent so far.
+-- and what each client was sent so far.
 pub record Clients : Type 0 where
   pub listening : Option ℕ
   pub accepted : ℕ
   pub failed : ℕ
   pub waiting : Option (List (List ℕ))
-  pub replies : Option (List (List ℕ))
+  pub replies : Option (List SentReply)
 
 -- clients are listened for on this port, and nothing else changed
 abbrev pub Listens : ℕ → Clients → Clients → Type 0
@@ -64,9 +69,18 @@ TakesNext (Some []) sent now = ⊥
 TakesNext (Some (bytes ∷ rest)) sent now = (sent ≡ Some bytes) × (now ≡ Some rest)
 
 -- what a client was sent is known, if it is known of all
-abbrev pub AddsReply : Option (List (List ℕ)) → Option (List ℕ) → Option (List (List ℕ)) → Type 0
+abbrev pub AddsReply : Option (List SentReply) → Option SentReply → Option (List SentReply) → Type 0
 AddsReply None reply now = now ≡ None
-AddsReply (Some replies) reply now = (bytes : List ℕ) × (reply ≡ Some bytes) × (now ≡ Some (replies ++ bytes ∷ []))
+AddsReply (Some replies) reply now = (sent : SentReply) × (reply ≡ Some sent) × (now ≡ Some (replies ++ sent ∷ []))
+
+-- the bytes that a client was sent, if they are known
+abbrev pub bytes_of : Option SentReply → Option (List ℕ)
+bytes_of reply = option_map (λ (it : SentReply). it.bytes) reply
+
+-- a write to a client failed, if it is known what it was sent
+abbrev pub HasFailedWrite : Option SentReply → Type 0
+HasFailedWrite (Some reply) = 1 ≤ reply.failed_writes
+HasFailedWrite None = ⊤
 
 -- nothing was written yet, if what is written is known
 abbrev pub nothing_of : Option (List ℕ) → Option (List ℕ)
@@ -75,14 +89,15 @@ nothing_of None = None
 
 module _ {S : Type 0} (shown : Held S → State) where
   -- One connection, on which a client sent these bytes, of which these are left, and was sent this reply: the one request in it was
-  -- answered with this status. Or it stopped: reading it failed, if a read may fail, or the reply was not sent whole.
-  abbrev pub IsServedOver : (may_fail : Type 0) → (sent left written now_written : Option (List ℕ)) → OfficeModel S → Option ℕ → OfficeModel S → Type 0
-  IsServedOver may_fail sent left written now_written old (Some status) new = ServesRequest shown old new sent left written now_written status
-  IsServedOver may_fail sent left written now_written old None new = (why : Cause) × StopsRequest shown why old new sent left written now_written × (why ≡ Read → may_fail)
+  -- answered with this status. Or it stopped: by a read only if a read may have failed, and by a write only if a write may have.
+  abbrev pub IsServedOver : (read_failed write_failed : Type 0) → (sent left written now_written : Option (List ℕ)) → OfficeModel S → Option ℕ → OfficeModel S → Type 0
+  IsServedOver read_failed write_failed sent left written now_written old (Some status) new = ServesRequest shown old new sent left written now_written status
+  IsServedOver read_failed write_failed sent left written now_written old None new =
+      (why : Cause) × StopsRequest shown why old new sent left written now_written × (why ≡ Read → read_failed) × (why ≡ Write → write_failed)
 
   -- the same, on a connection on which nothing was written before
-  abbrev pub IsServed : (may_fail : Type 0) → (sent left reply : Option (List ℕ)) → OfficeModel S → Option ℕ → OfficeModel S → Type 0
-  IsServed may_fail sent left reply old status new = IsServedOver may_fail sent left (nothing_of reply) reply old status new
+  abbrev pub IsServed : (read_failed : Type 0) → (sent left : Option (List ℕ)) → Option SentReply → OfficeModel S → Option ℕ → OfficeModel S → Type 0
+  IsServed read_failed sent left reply old status new = IsServedOver read_failed (HasFailedWrite reply) sent left (nothing_of (bytes_of reply)) (bytes_of reply) old status new
 
   -- the same, whatever the client sent and was sent
   abbrev pub IsServedSomehow : OfficeModel S → Option ℕ → OfficeModel S → Type 0
@@ -93,7 +108,7 @@ module _ {S : Type 0} (shown : Held S → State) where
   pub record IsNextServed (before now : Clients) (old : OfficeModel S) (status : Option ℕ) (new : OfficeModel S) : Type 0 where
     pub sent : Option (List ℕ)
     pub left : Option (List ℕ)
-    pub reply : Option (List ℕ)
+    pub reply : Option SentReply
     pub port : now.listening ≡ before.listening
     pub counted : now.accepted ≡ one_more before.accepted
     pub none_failed : now.failed ≡ before.failed

@@ -184,6 +184,10 @@ module _ {C : Type 0} (shown : Held C → State) where
     pub is_last : handed_back ≡ last.conn
     pub is_outside : handed_back.in_transaction ≡ false
 
+  -- the work was done over the office of the connection
+  abbrev pub DoesOnConnection : Choice → State → Environment → Environment → Held C → Type 0
+  DoesOnConnection chosen before from to after = WorksOnConnection chosen before (λ first last. DoesSubcommand chosen first from to last) after
+
   -- the work failed, or there was no office to work on
   abbrev pub FailsOnConnection : Choice → State → Failure → (untouched : Type 0) → Environment → Environment → Held C → Type 0
   FailsOnConnection chosen before failure untouched from to after =

@@ -36,7 +36,8 @@ impl Failure {
     /// Writes the one line that reports the failure to `err`. If writing fails, the rest of the line is
     /// lost. If there is no memory for the line of a refusal, the line reports that.
     pub fn report<E: Sink>(self, alloc: Global, err: &mut E)
-        ensures { SaysSome (IsLineOf self) (E.written err.old) (E.written err.new) (HasFailed (E.failed err.old) (E.failed err.new) (E.idle err.old) (E.idle err.new)) }
+        ensures { SaysSome (IsLineOf self) (E.written err.old) (E.written err.new)
+            (HasFailed (E.failed err.old) (E.failed err.new) (E.idle err.old) (E.idle err.new)) }
     {
         match self {
             Failure::Refused(refusal) => report_refusal(alloc, refusal, err),
@@ -50,14 +51,16 @@ impl Failure {
 
 /// Writes the line that reports that an allocation failed.
 pub fn report_no_memory<E: Sink>(err: &mut E)
-    ensures { Says no_memory_line (E.written err.old) (E.written err.new) (HasFailed (E.failed err.old) (E.failed err.new) (E.idle err.old) (E.idle err.new)) }
+    ensures { Says no_memory_line (E.written err.old) (E.written err.new)
+        (HasFailed (E.failed err.old) (E.failed err.new) (E.idle err.old) (E.idle err.new)) }
 {
     write(err, NO_MEMORY);
 }
 
 /// Writes a text. If writing fails, the rest is lost.
 pub fn write<E: Sink>(err: &mut E, text: &[u8])
-    ensures { Says text.now (E.written err.old) (E.written err.new) (HasFailed (E.failed err.old) (E.failed err.new) (E.idle err.old) (E.idle err.new)) }
+    ensures { Says text.now (E.written err.old) (E.written err.new)
+        (HasFailed (E.failed err.old) (E.failed err.new) (E.idle err.old) (E.idle err.new)) }
 {
     let _ = write_all(err, text);
 }
@@ -85,7 +88,8 @@ fn refusal_line(alloc: Global, refusal: Refusal) -> Result<String, Refusal>
 
 // Writes the line of a stop. It doesn't allocate, since that may be what failed.
 fn report_stop<E: Sink>(err: &mut E, stop: &Stop)
-    ensures { Says (stop_line stop.now) (E.written err.old) (E.written err.new) (HasFailed (E.failed err.old) (E.failed err.new) (E.idle err.old) (E.idle err.new)) }
+    ensures { Says (stop_line stop.now) (E.written err.old) (E.written err.new)
+        (HasFailed (E.failed err.old) (E.failed err.new) (E.idle err.old) (E.idle err.new)) }
 {
     let line = stop_line(stop);
     write(err, line.as_str().as_bytes());

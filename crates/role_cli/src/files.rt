@@ -1,27 +1,29 @@
 //! Offices in files: how they are opened, created and closed, and what is restored if that fails.
-ghost use Rattle.std.specs.Prelude.{◌≡◌, ◌≢◌, ◌<◌, ◌≤◌, ◌+◌, false, IfErr, IfOk, IfSome, OnErr, OnOk};
-ghost use Rattle.sqlite.specs.Closing.{IsCopied};
+ghost use Rattle.std.specs.Prelude.{◌≡◌, ◌⊎◌, ◌≤◌, ◌+◌, false, is_err, if◌then◌else◌, IfErr, IfNone, IfOk, IfSome, OnErr, OnOk};
 ghost use Rattle.sqlite.specs.Files.{IsOpened, file_state, over_files};
 ghost use Rattle.sqlite.specs.Held.{state};
 ghost use Rattle.sqlite.specs.Start.{FindsIn};
 ghost use Rattle.sqlite.specs.State.{HasCleanDisk};
 ghost use Rattle.sqlite.specs.WalFiles.{image_at};
-ghost use Rattle.sqlite.specs.WalReads.{AreClean};
+ghost use Rattle.rbac_sets.specs.Stream.{HasRisen};
 ghost use Rattle.role_wire.specs.Replay.{most_reads};
-ghost use Rattle.role_cli.specs.Environment.{environment};
-ghost use Rattle.role_cli.specs.FailureCause.{IsOpeningFailure};
-ghost use Rattle.role_cli.specs.FileWork.{HoldsCommit, WorksAndCloses, WorksOnFiles};
-ghost use Rattle.role_cli.specs.Work.{DoesSubcommand, DoesOverSomeState, FailsOnConnection, FailsOrFindsNoOffice, WorksOnConnection, asks_host, reads_input};
+ghost use Rattle.role_cli.specs.Around.{IsUntouched, around};
+ghost use Rattle.role_cli.specs.FileWork.{ClosesConnection, DoesOnStore, FailsOnStore, HoldsCommit, WorksOnFiles};
+ghost use Rattle.role_cli.specs.Leftovers.{CannotBegin, LeavesClosed, LeavesPaths, RemovesEmpty, Restores};
+ghost use Rattle.role_cli.specs.Work.{DoesOnConnection, DoesOverSomeState, FailsOnConnection, FailsOrFindsNoOffice, asks_host, reads_input};
 
 use crate::choice::Choice;
 use crate::failure::Failure;
+use crate::folder::Folder;
 use crate::host::{Accept, CsvFiles};
 use crate::leftovers::{PathState, remove_empty, remove_siblings, restore, state_before};
+use crate::store_after::StoreAfter;
 use crate::work::run_on_connection;
 use rbac_sets::{Refusal, Sink, Source};
 use role_tables::laws::reopened;
-use sqlite::{Alter, Connection, FileFrom, FileStore, Files, Start};
+use sqlite::{Alter, Connection, FileFrom, FileStore, Start};
 use sqlite_disk::Disk;
+use std::alloc::Global;
 
 /// Opens the file at a path, does the work of a subcommand over it as `run_on_connection` does, and hands
 /// the connection back, which is still open. `before` is what was at the path: if the opening fails, it is
@@ -33,8 +35,9 @@ use sqlite_disk::Disk;
 /// # Errors
 ///
 /// `Refused` with `Store` if the file can't be opened or created. Nothing was read or written then.
-pub fn run_on_path<D: Start, H: Accept + CsvFiles, R: Source, W: Sink>(
-    rt: &HostRuntime,
+pub fn run_on_path<D: Start, F: Folder, H: Accept + CsvFiles, R: Source, W: Sink>(
+    alloc: Global,
+    folder: &mut F,
     path: &str,
     before: PathState,
     start: D,
@@ -44,115 +47,121 @@ pub fn run_on_path<D: Start, H: Accept + CsvFiles, R: Source, W: Sink>(
     out: &mut W,
 ) -> Result<(Result<(), Failure>, Connection<FileStore<FileFrom<D>>>), Failure>
     ensures done { IfOk result (λ worked. HasCleanDisk (file_state worked.1) → OnOk worked.0 (WorksOnFiles ⟦<FileFrom<D> as Disk>⟧ (image_at D.Start)
-        (λ before. WorksOnConnection (state (over_files {g = ⟦<FileFrom<D> as Disk>⟧})) choice.now before
-        (λ first last. DoesSubcommand (state (over_files {g = ⟦<FileFrom<D> as Disk>⟧})) choice.now first
-        (environment (R.remaining source.old) (R.reads source.old) (R.failed source.old) (W.written out.old) (W.failed out.old) (W.idle out.old)
-        (H.csv_at host.old) (H.failed_csv host.old) (H.clients host.old))
-        (environment (R.remaining source.new) (R.reads source.new) (R.failed source.new) (W.written out.new) (W.failed out.new) (W.idle out.new)
-        (H.csv_at host.new) (H.failed_csv host.new) (H.clients host.new)) last) worked.1))) }
-    ensures failed { IfOk result (λ worked. HasCleanDisk (file_state worked.1) → IfErr worked.0 (λ failure. WorksOnFiles ⟦<FileFrom<D> as Disk>⟧ (image_at D.Start)
+        (λ before. DoesOnConnection (state (over_files {g = ⟦<FileFrom<D> as Disk>⟧})) choice.now before
+        (around R.Source W.Sink H.CsvFiles H.Accept source.old out.old host.old)
+        (around R.Source W.Sink H.CsvFiles H.Accept source.new out.new host.new) worked.1))) }
+    ensures failed { IfOk result
+        (λ worked. HasCleanDisk (file_state worked.1) → IfErr worked.0 (λ failure. WorksOnFiles ⟦<FileFrom<D> as Disk>⟧ (image_at D.Start)
         (λ before. FailsOnConnection (state (over_files {g = ⟦<FileFrom<D> as Disk>⟧})) choice.now before failure
-        ((source.new ≡ source.old) × (out.new ≡ out.old) × (host.new ≡ host.old))
-        (environment (R.remaining source.old) (R.reads source.old) (R.failed source.old) (W.written out.old) (W.failed out.old) (W.idle out.old)
-        (H.csv_at host.old) (H.failed_csv host.old) (H.clients host.old))
-        (environment (R.remaining source.new) (R.reads source.new) (R.failed source.new) (W.written out.new) (W.failed out.new) (W.idle out.new)
-        (H.csv_at host.new) (H.failed_csv host.new) (H.clients host.new)) worked.1))) }
+        (IsUntouched source.old source.new out.old out.new host.old host.new)
+        (around R.Source W.Sink H.CsvFiles H.Accept source.old out.old host.old)
+        (around R.Source W.Sink H.CsvFiles H.Accept source.new out.new host.new) worked.1))) }
 
     // Whatever the disk returns, the work is done over an office of some good state.
     ensures some { IfOk result (λ worked. OnOk worked.0 (DoesOverSomeState (state (over_files {g = ⟦<FileFrom<D> as Disk>⟧})) choice.now
-        (environment (R.remaining source.old) (R.reads source.old) (R.failed source.old) (W.written out.old) (W.failed out.old) (W.idle out.old)
-        (H.csv_at host.old) (H.failed_csv host.old) (H.clients host.old))
-        (environment (R.remaining source.new) (R.reads source.new) (R.failed source.new) (W.written out.new) (W.failed out.new) (W.idle out.new)
-        (H.csv_at host.new) (H.failed_csv host.new) (H.clients host.new)))) }
-    ensures some_failed { IfOk result (λ worked. IfErr worked.0 (λ failure. FailsOrFindsNoOffice (state (over_files {g = ⟦<FileFrom<D> as Disk>⟧})) choice.now failure
-        ((source.new ≡ source.old) × (out.new ≡ out.old) × (host.new ≡ host.old))
-        (environment (R.remaining source.old) (R.reads source.old) (R.failed source.old) (W.written out.old) (W.failed out.old) (W.idle out.old)
-        (H.csv_at host.old) (H.failed_csv host.old) (H.clients host.old))
-        (environment (R.remaining source.new) (R.reads source.new) (R.failed source.new) (W.written out.new) (W.failed out.new) (W.idle out.new)
-        (H.csv_at host.new) (H.failed_csv host.new) (H.clients host.new)))) }
-    ensures unopened { IfErr result (λ failure. (failure ≡ Failure.Refused Refusal.Store) × (source.new ≡ source.old) × (out.new ≡ out.old) × (host.new ≡ host.old)) }
+        (around R.Source W.Sink H.CsvFiles H.Accept source.old out.old host.old)
+        (around R.Source W.Sink H.CsvFiles H.Accept source.new out.new host.new))) }
+    ensures some_failed { IfOk result
+        (λ worked. IfErr worked.0
+        (λ failure. FailsOrFindsNoOffice (state (over_files {g = ⟦<FileFrom<D> as Disk>⟧})) choice.now failure
+        (IsUntouched source.old source.new out.old out.new host.old host.new)
+        (around R.Source W.Sink H.CsvFiles H.Accept source.old out.old host.old)
+        (around R.Source W.Sink H.CsvFiles H.Accept source.new out.new host.new))) }
+
+    ensures unopened { IfErr result (λ failure. (failure ≡ Failure.Refused Refusal.Store)
+        × (IsUntouched source.old source.new out.old out.new host.old host.new)
+        × HasRisen (F.failed_calls folder.old) (F.failed_calls folder.new)) }
+    ensures kept { OnOk result (F.paths folder.new ≡ F.paths folder.old) }
+    ensures restored { OnErr result
+        (Restores before path.now (HasRisen (F.failed_calls folder.old) (F.failed_calls folder.new)) (F.paths folder.old) (F.paths folder.new)
+        ⊎ RemovesEmpty before path.now (HasRisen (F.failed_calls folder.old) (F.failed_calls folder.new)) (F.paths folder.old) (F.paths folder.new)) }
+    ensures count { F.failed_calls folder.old ≤ F.failed_calls folder.new }
     ensures unread { reads_input choice.now ≡ false → source.new ≡ source.old }
     ensures unasked { asks_host choice.now ≡ false → host.new ≡ host.old }
     ensures reads { R.reads source.new ≤ R.reads source.old + most_reads }
 {
-    match connect(rt, path, before, start) {
+    match connect(folder, path, before, start) {
         Some(conn) => {
             reopened(&conn);
-            Ok(run_on_connection(rt.alloc(), conn, choice, host, source, out))
+            Ok(run_on_connection(alloc, conn, choice, host, source, out))
         }
         None => Err(Failure::Refused(Refusal::Store)),
     }
 }
 
-/// Does the work of a subcommand over the file at a path as `run_on_path` does, closes the file, and hands
-/// back the closed files, which are still locked. There are none if nothing was opened, or if the log could
-/// not be copied: then it stays beside the file. If `init` is refused before a page of an office was written,
-/// what was at the path before is restored.
+/// Does the work of a subcommand over the file at a path as `run_on_path` does, closes the file, and returns what became
+/// of the files, which are still locked. If `init` is refused before a page of an office was written, what was at the path
+/// before is restored.
 ///
 /// After the close the database file alone stores the state of the office, unless the store failed in a
 /// command: what the commands led to that were acknowledged, from the state on that the files stored before.
 ///
 /// # Errors
 ///
-/// `Refused` with `Store` if there is no such file or it can't be opened or created, or with `NotAnOffice`
-/// if it is empty. Otherwise as the work fails.
-pub fn run_in_file<D: Start, H: Accept + CsvFiles, R: Source, W: Sink>(
-    rt: &HostRuntime,
+/// - `Refused` with `Store` if there is no such file or it can't be opened or created.
+/// - `Refused` with `NotAnOffice` if it has up to one byte, and no log with a byte beside it.
+/// - `Refused` with `Memory` if an allocation failed.
+/// - Otherwise as the work fails.
+pub fn run_in_file<D: Start, F: Folder, H: Accept + CsvFiles, R: Source, W: Sink>(
+    alloc: Global,
+    folder: &mut F,
     path: &str,
     start: D,
     choice: &Choice,
     host: &mut H,
     source: &mut R,
     out: &mut W,
-) -> (Result<(), Failure>, Option<Files<FileFrom<D>>>)
-    ensures done { IfSome result.1 (λ files. AreClean ⟦<FileFrom<D> as Disk>⟧ files.log files.db →
-        OnOk result.0 (WorksAndCloses ⟦<FileFrom<D> as Disk>⟧ (image_at D.Start) files
-        (λ before conn. WorksOnConnection (state (over_files {g = ⟦<FileFrom<D> as Disk>⟧})) choice.now before
-        (λ first last. DoesSubcommand (state (over_files {g = ⟦<FileFrom<D> as Disk>⟧})) choice.now first
-        (environment (R.remaining source.old) (R.reads source.old) (R.failed source.old) (W.written out.old) (W.failed out.old) (W.idle out.old)
-        (H.csv_at host.old) (H.failed_csv host.old) (H.clients host.old))
-        (environment (R.remaining source.new) (R.reads source.new) (R.failed source.new) (W.written out.new) (W.failed out.new) (W.idle out.new)
-        (H.csv_at host.new) (H.failed_csv host.new) (H.clients host.new)) last) conn))) }
-    ensures failed { IfSome result.1 (λ files. AreClean ⟦<FileFrom<D> as Disk>⟧ files.log files.db →
-        IfErr result.0 (λ failure. WorksAndCloses ⟦<FileFrom<D> as Disk>⟧ (image_at D.Start) files
-        (λ before conn. FailsOnConnection (state (over_files {g = ⟦<FileFrom<D> as Disk>⟧})) choice.now before failure
-        ((source.new ≡ source.old) × (out.new ≡ out.old) × (host.new ≡ host.old))
-        (environment (R.remaining source.old) (R.reads source.old) (R.failed source.old) (W.written out.old) (W.failed out.old) (W.idle out.old)
-        (H.csv_at host.old) (H.failed_csv host.old) (H.clients host.old))
-        (environment (R.remaining source.new) (R.reads source.new) (R.failed source.new) (W.written out.new) (W.failed out.new) (W.idle out.new)
-        (H.csv_at host.new) (H.failed_csv host.new) (H.clients host.new)) conn))) }
+) -> (Result<(), Failure>, StoreAfter<FileFrom<D>>)
+    ensures done { OnOk result.0 (DoesOnStore ⟦<FileFrom<D> as Disk>⟧ (image_at D.Start) choice.now
+        (around R.Source W.Sink H.CsvFiles H.Accept source.old out.old host.old)
+        (around R.Source W.Sink H.CsvFiles H.Accept source.new out.new host.new) result.1) }
+    ensures failed { IfErr result.0
+        (λ failure. FailsOnStore ⟦<FileFrom<D> as Disk>⟧ (image_at D.Start) choice.now failure
+        (IsUntouched source.old source.new out.old out.new host.old host.new)
+        (CannotBegin choice.now path.now failure (F.paths folder.old) (HasRisen (F.failed_calls folder.old) (F.failed_calls folder.new)))
+        (around R.Source W.Sink H.CsvFiles H.Accept source.old out.old host.old)
+        (around R.Source W.Sink H.CsvFiles H.Accept source.new out.new host.new) result.1) }
 
     // Whatever the disk returns, the work is done over an office of some good state.
     ensures some { OnOk result.0 (DoesOverSomeState (state (over_files {g = ⟦<FileFrom<D> as Disk>⟧})) choice.now
-        (environment (R.remaining source.old) (R.reads source.old) (R.failed source.old) (W.written out.old) (W.failed out.old) (W.idle out.old)
-        (H.csv_at host.old) (H.failed_csv host.old) (H.clients host.old))
-        (environment (R.remaining source.new) (R.reads source.new) (R.failed source.new) (W.written out.new) (W.failed out.new) (W.idle out.new)
-        (H.csv_at host.new) (H.failed_csv host.new) (H.clients host.new))) }
-    ensures some_failed { IfErr result.0 (λ failure. FailsOrFindsNoOffice (state (over_files {g = ⟦<FileFrom<D> as Disk>⟧})) choice.now failure
-        ((source.new ≡ source.old) × (out.new ≡ out.old) × (host.new ≡ host.old))
-        (environment (R.remaining source.old) (R.reads source.old) (R.failed source.old) (W.written out.old) (W.failed out.old) (W.idle out.old)
-        (H.csv_at host.old) (H.failed_csv host.old) (H.clients host.old))
-        (environment (R.remaining source.new) (R.reads source.new) (R.failed source.new) (W.written out.new) (W.failed out.new) (W.idle out.new)
-        (H.csv_at host.new) (H.failed_csv host.new) (H.clients host.new))) }
+        (around R.Source W.Sink H.CsvFiles H.Accept source.old out.old host.old)
+        (around R.Source W.Sink H.CsvFiles H.Accept source.new out.new host.new)) }
+    ensures some_failed { IfErr result.0
+        (λ failure. FailsOrFindsNoOffice (state (over_files {g = ⟦<FileFrom<D> as Disk>⟧})) choice.now failure
+        (IsUntouched source.old source.new out.old out.new host.old host.new)
+        (around R.Source W.Sink H.CsvFiles H.Accept source.old out.old host.old)
+        (around R.Source W.Sink H.CsvFiles H.Accept source.new out.new host.new)) }
+
+    ensures left { LeavesPaths choice.now path.now (is_err result.0) result.1 (HasRisen (F.failed_calls folder.old) (F.failed_calls folder.new))
+        (F.paths folder.old) (F.paths folder.new) }
     ensures unread { reads_input choice.now ≡ false → source.new ≡ source.old }
     ensures unasked { asks_host choice.now ≡ false → host.new ≡ host.old }
     ensures reads { R.reads source.new ≤ R.reads source.old + most_reads }
 {
-    let before = match state_before(rt, path, choice) {
+    let before = match state_before(folder, path, choice) {
         Ok(before) => before,
-        Err(failure) => return (Err(failure), None),
+        Err(failure) => return (Err(failure), StoreAfter::Untouched),
     };
-    match run_on_path(rt, path, before, start, choice, host, source, out) {
+    match run_on_path(
+        alloc, folder, path, before, start, choice, host, source, out,
+    ) {
         Ok((done, conn)) => {
             settled(&conn);
-            let undone = if done.is_err() {
-                before
-            } else {
-                PathState::Bytes
-            };
-            (done, close(rt, path, conn, undone))
+            let restored = to_restore(&done, before);
+            (done, close(folder, path, conn, restored))
         }
-        Err(failure) => (Err(failure), None),
+        Err(failure) => (Err(failure), StoreAfter::Untouched),
+    }
+}
+
+// What is restored after the work: what was there before, if it failed, and otherwise the file, which is an office's now.
+fn to_restore(done: &Result<(), Failure>, before: PathState) -> PathState
+    ensures { result ≡ (if is_err done.now then before else PathState.Bytes) }
+{
+    if done.is_err() {
+        before
+    } else {
+        PathState::Bytes
     }
 }
 
@@ -164,25 +173,30 @@ fn settled<S: Alter>(conn: &Connection<S>)
 }
 
 // Opens the file, or creates it. What an opening that failed has begun is removed.
-fn connect<D: Start>(
-    rt: &HostRuntime,
+fn connect<D: Start, F: Folder>(
+    folder: &mut F,
     path: &str,
     before: PathState,
     start: D,
 ) -> Option<Connection<FileStore<FileFrom<D>>>>
     ensures opened { IfSome result (λ conn. HasCleanDisk (file_state conn) → IsOpened conn) }
     ensures found { IfSome result (λ conn. HasCleanDisk (file_state conn) → FindsIn (image_at D.Start) (file_state conn)) }
+    ensures kept { IfSome result (λ _. F.paths folder.new ≡ F.paths folder.old) }
+    ensures failed { IfNone result (HasRisen (F.failed_calls folder.old) (F.failed_calls folder.new)) }
+    ensures restored { IfNone result
+        (Restores before path.now (HasRisen (F.failed_calls folder.old) (F.failed_calls folder.new)) (F.paths folder.old) (F.paths folder.new)
+        ⊎ RemovesEmpty before path.now (HasRisen (F.failed_calls folder.old) (F.failed_calls folder.new)) (F.paths folder.old) (F.paths folder.new)) }
+    ensures count { F.failed_calls folder.old ≤ F.failed_calls folder.new }
 {
-    match Connection::open_from(rt, path, false, start) {
+    match folder.open(path, start) {
         Ok(conn) => Some(conn),
-        Err((_, Some(left))) => {
-            let files = left.into_files();
-            restore(rt, path, before);
+        Err(Some(files)) => {
+            restore(folder, path, before);
             drop(files);
             None
         }
-        Err((_, None)) => {
-            remove_empty(rt, path, before);
+        Err(None) => {
+            remove_empty(folder, path, before);
             None
         }
     }
@@ -190,26 +204,27 @@ fn connect<D: Start>(
 
 // Copies the log into the file and removes it, while the file is still locked. If that fails, the log
 // stays beside the file, and the next opening reads it. If no office was created, what was at the path
-// before is restored. The files are handed back, still locked, if the log was copied.
-fn close<D: Start>(
-    rt: &HostRuntime,
+// before is restored.
+fn close<D: Start, F: Folder>(
+    folder: &mut F,
     path: &str,
     conn: Connection<FileStore<FileFrom<D>>>,
     before: PathState,
-) -> Option<Files<FileFrom<D>>>
-    ensures { IfSome result (λ files. AreClean ⟦<FileFrom<D> as Disk>⟧ files.log files.db → IsCopied conn files) }
+) -> StoreAfter<FileFrom<D>>
+    ensures closed { ClosesConnection ⟦<FileFrom<D> as Disk>⟧ conn result }
+    ensures left { LeavesClosed before path.now result (HasRisen (F.failed_calls folder.old) (F.failed_calls folder.new)) (F.paths folder.old)
+        (F.paths folder.new) }
+    ensures count { F.failed_calls folder.old ≤ F.failed_calls folder.new }
 {
     match conn.close_files() {
         Ok(files) => {
-            restore(rt, path, before);
-            remove_siblings(rt, path);
-            Some(files)
+            restore(folder, path, before);
+            remove_siblings(folder, path);
+            StoreAfter::Closed(files)
         }
         Err((_, store)) => {
-            let left = store.close();
-            restore(rt, path, before);
-            drop(left);
-            None
+            restore(folder, path, before);
+            StoreAfter::Left(store)
         }
     }
 }

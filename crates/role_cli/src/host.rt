@@ -67,7 +67,8 @@ pub trait Accept {
         server: &Server,
         office: &mut Office<S>,
     ) -> Result<Option<Answered>, Fault>
-        ensures served { IfOk result (λ answered. IsNextServed (state S.Store) (clients self.old) (clients self.new) office.old (status_in answered) office.new) }
+        ensures served { IfOk result
+            (λ answered. IsNextServed (state S.Store) (clients self.old) (clients self.new) office.old (status_in answered) office.new) }
         ensures closes { IfOk result (λ answered. IfSome answered (λ it. it.is_closed ≡ (it.status == 500))) }
         ensures refused { OnErr result (CallFails (clients self.old) (clients self.new) × (office.new ≡ office.old)) };
 }

@@ -1,13 +1,15 @@
 //! What is at the path of an office: what has to be there before it is opened, and what is removed if it could not be
 //! opened or created.
-ghost use Rattle.std.specs.Prelude.{◌≡◌, ◌⊎◌, ◌↔◌, Err, IfErr, IfNone, IfSome, IsOk};
+ghost use Rattle.std.specs.Prelude.{◌≡◌, ◌⊎◌, ◌↔◌, ◌≤◌, ◌∷◌, [], IfErr, IfOk, IfSome, OnOk};
+ghost use Rattle.rbac_sets.specs.Stream.{HasRisen};
 ghost use Rattle.role_cli.specs.FailureCause.{IsOpeningFailure};
-ghost use Rattle.role_cli.specs.private.Leftovers.{IsBegun, IsLogWithoutPage, IsReadAsNew};
+ghost use Rattle.role_cli.specs.Leftovers.{CannotBegin, HasByte, IsBefore, IsBegun, IsLogWithoutPage, IsStateOf, RemovesEmpty, RemovesSiblings, Restores};
+ghost use Rattle.role_cli.specs.Paths.{ChangesKnown, length_in, log_of, without};
 
 use crate::choice::Choice;
 use crate::failure::Failure;
+use crate::folder::{Entry, Folder};
 use rbac_sets::Refusal;
-use std::{fs, io};
 
 /// The size of the pages of a new database. A file that an opening has only begun has no more than the first one.
 const PAGE: u64 = 4_096;
@@ -24,6 +26,11 @@ const SHORTEST_LOG: u64 = LOG_HEADER + FRAME_HEADER + SMALLEST_PAGE;
 
 /// SQLite reads a file of up to one byte as a new database.
 const LONGEST_NEW: u64 = 1;
+
+/// The endings of the log and of its index.
+const LOG: &str = "-wal";
+
+const INDEX: &str = "-shm";
 
 /// What was at a path before an office was to be created there.
 #[derive(Clone, Copy, Debug, PartialEq, Eq)]
@@ -50,95 +57,103 @@ enum Removal {
 }
 
 /// What is at the path. Only `init` creates a file if there is none.
-pub(crate) fn state_before(
-    rt: &HostRuntime,
+///
+/// # Errors
+///
+/// - `Refused` with `Store` if there is no file at the path, or for `init` something that is no file; or if a call of the
+///   folder failed.
+/// - `Refused` with `NotAnOffice` if there is a file of up to one byte, and no log with a byte beside it: an opening
+///   would read that as a new database.
+/// - `Refused` with `Memory` if an allocation failed.
+pub(crate) fn state_before<F: Folder>(
+    folder: &mut F,
     path: &str,
     choice: &Choice,
 ) -> Result<PathState, Failure>
-    ensures { IfErr result (IsOpeningFailure choice.now) }
+    ensures before { IfOk result (λ before. IfSome (F.paths folder.old) (IsBefore choice.now path.now before)) }
+    ensures cannot { IfErr result
+        (λ failure. CannotBegin choice.now path.now failure (F.paths folder.old) (HasRisen (F.failed_calls folder.old) (F.failed_calls folder.new))) }
+    ensures refusal { IfErr result (IsOpeningFailure choice.now) }
+    ensures count { F.failed_calls folder.old ≤ F.failed_calls folder.new }
+    ensures same { F.paths folder.new ≡ F.paths folder.old }
 {
+    let found = folder.entry_at(path);
     if let Choice::Init(_) = choice {
-        return what_is_at(rt, path);
+        return state_of_new(found);
     }
-    require_office(rt, path)?;
+    let Entry::File(length) = found else {
+        return Err(Failure::Refused(Refusal::Store));
+    };
+    if length <= LONGEST_NEW {
+        require_log(folder, path)?;
+    }
     Ok(PathState::Bytes)
 }
 
-// What is at the path of a new office. Anything but a regular file is refused, and so is a dangling link.
-fn what_is_at(rt: &HostRuntime, path: &str) -> Result<PathState, Failure>
-    ensures { IfErr result (λ failure. failure ≡ Failure.Refused Refusal.Store) }
+// What is at the path of a new office. Anything but a file is refused, and so is a link to nothing.
+fn state_of_new(found: Entry) -> Result<PathState, Failure>
+    ensures ok { IfOk result (λ before. IsStateOf before found) }
+    ensures err { IfErr result (λ failure. (failure ≡ Failure.Refused Refusal.Store) × (found ≡ Entry.Other)) }
 {
-    match length_of(rt, path) {
-        Some(0) => Ok(PathState::EmptyFile),
-        Some(_) => Ok(PathState::Bytes),
-        None if fs::symlink_metadata(rt, path).is_ok() => Err(Failure::Refused(Refusal::Store)),
-        None => Ok(PathState::Nothing),
+    match found {
+        Entry::Nothing => Ok(PathState::Nothing),
+        Entry::File(0) => Ok(PathState::EmptyFile),
+        Entry::File(_) => Ok(PathState::Bytes),
+        Entry::Other => Err(Failure::Refused(Refusal::Store)),
     }
 }
 
-// Refuses a missing file, and one that an opening would read as a new database: it has up to one byte, and the
-// log beside it has none.
-fn require_office(rt: &HostRuntime, path: &str) -> Result<(), Failure>
-    ensures { IfErr result (λ failure. (failure ≡ Failure.Refused Refusal.Store) ⊎ (failure ≡ Failure.Refused Refusal.NotAnOffice)) }
+// Refuses a file of up to one byte, unless the log beside it has a byte.
+fn require_log<F: Folder>(folder: &mut F, path: &str) -> Result<(), Failure>
+    ensures ok { OnOk result (IfSome (F.paths folder.old) (λ known. HasByte (length_in (known.at (log_of path.now known))))) }
+    ensures new { IfErr result (λ failure. ((failure ≡ Failure.Refused Refusal.NotAnOffice)
+        × IfSome (F.paths folder.old) (λ known. ¬ (HasByte (length_in (known.at (log_of path.now known))))))
+        ⊎ (((failure ≡ Failure.Refused Refusal.Memory) ⊎ (failure ≡ Failure.Refused Refusal.Store))
+        × HasRisen (F.failed_calls folder.old) (F.failed_calls folder.new))) }
+    ensures count { F.failed_calls folder.old ≤ F.failed_calls folder.new }
+    ensures same { F.paths folder.new ≡ F.paths folder.old }
 {
-    require_content(length_of(rt, path), has_log(rt, path))
+    let log = match folder.beside(path, LOG) {
+        Ok(log) => log,
+        Err(refusal) => return Err(Failure::Refused(refusal)),
+    };
+    match length_of(folder.entry_at(log.as_str())) {
+        Some(1..) => Ok(()),
+        _ => Err(Failure::Refused(Refusal::NotAnOffice)),
+    }
 }
 
-// The same, by the length of the file, if it is there, and by whether the log beside it has a byte.
-fn require_content(file: Option<u64>, has_log: bool) -> Result<(), Failure>
-    ensures missing { IfNone file (result ≡ Err (Failure.Refused Refusal.Store)) }
-    ensures new { IfSome file (λ length. IsReadAsNew length has_log → result ≡ Err (Failure.Refused Refusal.NotAnOffice)) }
-    ensures other { IfSome file (λ length. IsReadAsNew length has_log ⊎ IsOk result) }
+// The length of the file, if there is one.
+fn length_of(entry: Entry) -> Option<u64>
+    ensures { result ≡ length_in entry }
 {
-    match file {
-        None => Err(Failure::Refused(Refusal::Store)),
-        Some(length) if length <= LONGEST_NEW && !has_log => {
-            Err(Failure::Refused(Refusal::NotAnOffice))
-        }
-        Some(_) => Ok(()),
+    match entry {
+        Entry::File(length) => Some(length),
+        Entry::Nothing | Entry::Other => None,
     }
 }
 
-// Whether there is a log beside the file that is not empty.
-fn has_log(rt: &HostRuntime, path: &str) -> bool {
-    match sibling(rt, path, "-wal") {
-        Ok(log) => matches!(length_of(rt, log.as_str()), Some(length) if length > 0),
-        Err(_) => false,
-    }
-}
-
-// The length of the file, if there is one. A folder, a pipe or a device is none.
-fn length_of(rt: &HostRuntime, path: &str) -> Option<u64> {
-    match fs::metadata(rt, path) {
-        Ok(found) if found.is_file() => Some(found.len()),
-        _ => None,
-    }
-}
-
-// The path of the file with this ending, beside the file that a link leads to, as `sqlite` opens it.
-fn sibling(rt: &HostRuntime, path: &str, ending: &str) -> io::Result<String> {
-    let real = fs::canonicalize(rt, path)?;
-    Ok(format!(in rt.alloc(); "{}{ending}", real.as_str())?)
-}
-
-/// Restores what was at the path before an office could not be opened or created, while the file is still
-/// locked. If more than a beginning was written, it stays, and the next opening reads it.
-pub(crate) fn restore(rt: &HostRuntime, path: &str, before: PathState) {
-    let Ok(log) = sibling(rt, path, "-wal") else {
+/// Removes what was begun at a path before an office could not be opened or created, while the file is still locked. If
+/// more than a beginning was written, it stays, and the next opening reads it.
+pub(crate) fn restore<F: Folder>(folder: &mut F, path: &str, before: PathState)
+    ensures restored { Restores before path.now (HasRisen (F.failed_calls folder.old) (F.failed_calls folder.new)) (F.paths folder.old)
+        (F.paths folder.new) }
+    ensures count { F.failed_calls folder.old ≤ F.failed_calls folder.new }
+{
+    let Ok(log) = folder.beside(path, LOG) else {
         return;
     };
-    match what_to_remove(before, length_of(rt, path), length_of(rt, log.as_str())) {
+    let file = length_of(folder.entry_at(path));
+    match what_to_remove(before, file, length_of(folder.entry_at(log.as_str()))) {
         Removal::Nothing => {}
-        Removal::Log => {
-            let _ = fs::remove_file(rt, log.as_str());
-        }
+        Removal::Log => folder.remove(log.as_str()),
         Removal::Content => {
-            remove_siblings(rt, path);
-            let _ = fs::File::create(rt, path);
+            remove_siblings(folder, path);
+            folder.make_empty(path);
         }
         Removal::File => {
-            remove_siblings(rt, path);
-            let _ = fs::remove_file(rt, path);
+            remove_siblings(folder, path);
+            folder.remove(path);
         }
     }
 }
@@ -161,17 +176,34 @@ fn what_to_remove(before: PathState, file: Option<u64>, log: Option<u64>) -> Rem
 }
 
 /// Removes an empty file that was created where there was nothing, and that could not be opened.
-pub(crate) fn remove_empty(rt: &HostRuntime, path: &str, before: PathState) {
-    if before == PathState::Nothing && length_of(rt, path) == Some(0) {
-        let _ = fs::remove_file(rt, path);
+pub(crate) fn remove_empty<F: Folder>(folder: &mut F, path: &str, before: PathState)
+    ensures removed { RemovesEmpty before path.now (HasRisen (F.failed_calls folder.old) (F.failed_calls folder.new)) (F.paths folder.old)
+        (F.paths folder.new) }
+    ensures count { F.failed_calls folder.old ≤ F.failed_calls folder.new }
+{
+    if before == PathState::Nothing && folder.entry_at(path) == Entry::File(0) {
+        folder.remove(path);
     }
 }
 
 /// Removes the log and its index.
-pub(crate) fn remove_siblings(rt: &HostRuntime, path: &str) {
-    for ending in ["-wal", "-shm"] {
-        if let Ok(other) = sibling(rt, path, ending) {
-            let _ = fs::remove_file(rt, other.as_str());
-        }
-    }
+pub(crate) fn remove_siblings<F: Folder>(folder: &mut F, path: &str)
+    ensures removed { RemovesSiblings path.now (HasRisen (F.failed_calls folder.old) (F.failed_calls folder.new)) (F.paths folder.old)
+        (F.paths folder.new) }
+    ensures count { F.failed_calls folder.old ≤ F.failed_calls folder.new }
+{
+    remove_beside(folder, path, LOG);
+    remove_beside(folder, path, INDEX);
+}
+
+// Removes the file with this ending beside the file that a path leads to.
+fn remove_beside<F: Folder>(folder: &mut F, path: &str, ending: &str)
+    ensures removed { ChangesKnown (λ known. known.beside path.now ending.now ∷ []) (λ known. without (known.beside path.now ending.now) known)
+        (HasRisen (F.failed_calls folder.old) (F.failed_calls folder.new)) (F.paths folder.old) (F.paths folder.new) }
+    ensures count { F.failed_calls folder.old ≤ F.failed_calls folder.new }
+{
+    let Ok(other) = folder.beside(path, ending) else {
+        return;
+    };
+    folder.remove(other.as_str());
 }

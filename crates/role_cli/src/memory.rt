@@ -37,7 +37,8 @@ pub(crate) fn replay_memory<R: Source, W: Sink>(
     source: &mut R,
     sink: &mut W,
 ) -> Result<(), Failure>
-    ensures done { OnOk result (ReplaysInMemory ⟦<MemoryFile as Disk>⟧ (R.remaining source.old) (R.remaining source.new) (W.written sink.old) (W.written sink.new)) }
+    ensures done { OnOk result
+        (ReplaysInMemory ⟦<MemoryFile as Disk>⟧ (R.remaining source.old) (R.remaining source.new) (W.written sink.old) (W.written sink.new)) }
     ensures stopped { IfErr result (λ failure. FailsInMemory ⟦<MemoryFile as Disk>⟧ failure ((source.new ≡ source.old) × (sink.new ≡ sink.old))
         (R.remaining source.old) (R.remaining source.new) (W.written sink.old) (W.written sink.new)) }
     ensures caused { IfErr result (λ failure. IsCaused failure

@@ -28,8 +28,8 @@ pub struct MemoryHost<'a> {
 
 impl<'a> MemoryHost<'a> {
     ghost use Rattle.std.specs.Prelude.{[], None, Some, map};
-    ghost use Rattle.rbac_sets.specs.Stream.{left_in_memory, written_in_memory};
-    ghost use Rattle.role_cli.specs.Hosts.{clients_in_memory, csv_in_memory, text_at};
+    ghost use Rattle.rbac_sets.specs.Stream.{left_in_memory};
+    ghost use Rattle.role_cli.specs.Hosts.{clients_in_memory, csv_in_memory, sent_in_memory, text_at};
 
     /// A CSV file at a path, with this text, and clients that send what these sources have, from the first to the
     /// last, and were sent nothing so far. It listens on no port.
@@ -40,7 +40,14 @@ impl<'a> MemoryHost<'a> {
         waiting: VecDeque<MemorySource<'a>>,
     ) -> MemoryHost<'a>
         ensures csv { csv_in_memory result ≡ text_at path.now text.now }
-        ensures clients { clients_in_memory result ≡ record { listening = None; accepted = 0; failed = 0; waiting = Some (map left_in_memory waiting.entry.items); replies = Some [] } }
+        ensures clients { clients_in_memory result ≡ record {
+          listening = None;
+          accepted = 0;
+          failed = 0;
+          waiting = Some
+              (map left_in_memory waiting.entry.items);
+          replies = Some [];
+        } }
     {
         MemoryHost {
             path,
@@ -56,7 +63,7 @@ impl<'a> MemoryHost<'a> {
 
     /// What the clients were sent, from the first to the last.
     pub fn replies(&self) -> &[MemorySink]
-        ensures { (clients_in_memory self.now).replies ≡ Some (map written_in_memory result.now) }
+        ensures { (clients_in_memory self.now).replies ≡ Some (map sent_in_memory result.now) }
     {
         &self.replies
     }

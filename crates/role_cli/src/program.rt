@@ -1,18 +1,17 @@
 //! What the program does for its arguments.
-ghost use Rattle.std.specs.Prelude.{◌≡◌, ◌⊎◌, ◌↔◌, ◌≤◌, ◌+◌, map, true, false, codes, IfErr, IfSome, IsErr, IsOk, OnOk};
-ghost use Rattle.sqlite.specs.Files.{over_files};
-ghost use Rattle.sqlite.specs.Held.{state};
+ghost use Rattle.std.specs.Prelude.{◌≡◌, ◌⊎◌, ◌↔◌, ◌≤◌, ◌+◌, ◌==◌, ℕ, map, None, true, false, is_err, IfErr, IfNone, IfSome, IsErr, IsOk, OnOk};
 ghost use Rattle.sqlite.specs.WalFiles.{image_at};
-ghost use Rattle.sqlite.specs.WalReads.{AreClean};
 ghost use Rattle.clap.specs.Words.{kind_of, subcommand_of, takes};
+ghost use Rattle.rbac_sets.specs.Stream.{HasRisen};
 ghost use Rattle.role_wire.specs.Replay.{most_reads};
+ghost use Rattle.role_cli.specs.Around.{IsUntouched, around};
 ghost use Rattle.role_cli.specs.CommandLine.{program};
-ghost use Rattle.role_cli.specs.Environment.{HasFailed, environment};
-ghost use Rattle.role_cli.specs.FileWork.{WorksAndCloses};
+ghost use Rattle.role_cli.specs.Environment.{HasFailed};
 ghost use Rattle.role_cli.specs.Hosts.{OnMachine};
-ghost use Rattle.role_cli.specs.ProgramOutcome.{FailsBy, IsDone, is_memory_replay};
+ghost use Rattle.role_cli.specs.Leftovers.{CannotBegin, LeavesPaths};
+ghost use Rattle.role_cli.specs.ProgramOutcome.{FailsBy, FailsSomehow, IsDone, IsDoneSomehow, is_memory_replay, path_of};
 ghost use Rattle.role_cli.specs.ErrorOutput.{IsLineOf, Says, SaysSome, both_or_neither_line, no_memory_line};
-ghost use Rattle.role_cli.specs.Work.{DoesSubcommand, FailsOnConnection, WorksOnConnection, asks_host, reads_input};
+ghost use Rattle.role_cli.specs.Work.{asks_host, reads_input};
 ghost use Rattle.role_cli.specs.ArgumentChoice.{AsksHelp, Chooses, IsHelp, ReplaysBothOrNeither};
 ghost use Rattle.role_cli.specs.declared.choice.Choice.{Choice};
 ghost use Rattle.role_cli.specs.declared.failure.Failure.{Failure};
@@ -20,12 +19,14 @@ ghost use Rattle.role_cli.specs.declared.failure.Failure.{Failure};
 use crate::choice::{Choice, Place, Unchosen, choose};
 use crate::failure::{Failure, report_no_memory, write};
 use crate::files::run_in_file;
+use crate::folder::{Folder, MachineFolder};
 use crate::host::{Accept, CsvFiles};
 use crate::machine::Machine;
 use crate::memory::replay_memory;
 use crate::memory_file::MemoryFile;
+use crate::store_after::StoreAfter;
 use rbac_sets::{Refusal, Sink, Source};
-use sqlite::{File, FileFrom, Files, Start, Unknown};
+use sqlite::{File, FileFrom, Start, Unknown};
 use sqlite_disk::Disk;
 use std::alloc::Global;
 
@@ -52,145 +53,154 @@ pub fn run<R: Source, W: Sink, E: Sink>(
     err: &mut E,
 ) -> u8
     ensures status { (result ≡ 0) ⊎ ((result ≡ 1) ⊎ (result ≡ 2)) }
+
+    // Status 0: help was asked for, or the choice in the arguments was done.
     ensures done { result ≡ 0 → (AsksHelp program (map (λ s. s.now) words.entry.now) × (source.new ≡ source.old))
-        ⊎ ((choice : Choice) × Chooses (subcommand_of program (map (λ s. s.now) words.entry.now)) choice × (reads_input choice ≡ false → source.new ≡ source.old)
-        × OnMachine (IsDone ⟦<MemoryFile as Disk>⟧ ⟦<File as Disk>⟧ choice)
-        (R.remaining source.old) (R.reads source.old) (R.failed source.old) (W.written out.old) (W.failed out.old) (W.idle out.old)
-        (R.remaining source.new) (R.reads source.new) (R.failed source.new) (W.written out.new) (W.failed out.new) (W.idle out.new)) }
+        ⊎ ((choice : Choice) × Chooses (subcommand_of program (map (λ s. s.now) words.entry.now)) choice
+        × (reads_input choice ≡ false → source.new ≡ source.old)
+        × OnMachine R.Source W.Sink (IsDoneSomehow ⟦<MemoryFile as Disk>⟧ ⟦<File as Disk>⟧ choice) source.old out.old source.new out.new) }
+
+    // Status 2: the arguments are no command line of the program, and nothing was read or written but to `err`.
     ensures refused { result ≡ 2 → (source.new ≡ source.old) × (out.new ≡ out.old) }
     ensures unchosen { result ≡ 2 → (takes program (map (λ s. s.now) words.entry.now) ≡ false)
         ⊎ (ReplaysBothOrNeither (subcommand_of program (map (λ s. s.now) words.entry.now))
-        × Says both_or_neither_line (E.written err.old) (E.written err.new) (HasFailed (E.failed err.old) (E.failed err.new) (E.idle err.old) (E.idle err.new))) }
-    ensures stopped { result ≡ 1 → (failure : Failure) × SaysSome (IsLineOf failure) (E.written err.old) (E.written err.new)
-        (HasFailed (E.failed err.old) (E.failed err.new) (E.idle err.old) (E.idle err.new))
+        × Says both_or_neither_line (E.written err.old) (E.written err.new)
+        (HasFailed (E.failed err.old) (E.failed err.new) (E.idle err.old) (E.idle err.new))) }
+
+    // Status 1: an allocation failed before anything was chosen, or the choice failed; one line says why.
+    ensures stopped { result ≡ 1 → (failure : Failure) × SaysSome (IsLineOf failure)
+        (E.written err.old) (E.written err.new) (HasFailed (E.failed err.old) (E.failed err.new) (E.idle err.old) (E.idle err.new))
         × (((failure ≡ Failure.Refused Refusal.Memory) × (source.new ≡ source.old) × (out.new ≡ out.old))
-        ⊎ ((choice : Choice) × Chooses (subcommand_of program (map (λ s. s.now) words.entry.now)) choice × (reads_input choice ≡ false → source.new ≡ source.old)
-        × OnMachine (FailsBy ⟦<MemoryFile as Disk>⟧ ⟦<File as Disk>⟧ choice failure ((source.new ≡ source.old) × (out.new ≡ out.old)))
-        (R.remaining source.old) (R.reads source.old) (R.failed source.old) (W.written out.old) (W.failed out.old) (W.idle out.old)
-        (R.remaining source.new) (R.reads source.new) (R.failed source.new) (W.written out.new) (W.failed out.new) (W.idle out.new))) }
+        ⊎ ((choice : Choice) × Chooses (subcommand_of program (map (λ s. s.now) words.entry.now)) choice
+        × (reads_input choice ≡ false → source.new ≡ source.old)
+        × OnMachine R.Source W.Sink
+        (FailsSomehow ⟦<MemoryFile as Disk>⟧ ⟦<File as Disk>⟧ choice failure ((source.new ≡ source.old) × (out.new ≡ out.old))
+        ((calls : ℕ) × CannotBegin choice (path_of choice) failure None (HasRisen 0 calls))) source.old out.old source.new out.new)) }
     ensures silent { result ≡ 0 → err.new ≡ err.old }
     ensures reads { R.reads source.new ≤ R.reads source.old + most_reads }
 {
     let mut machine = Machine::new(rt);
-    let (status, files) = run_with(rt, words, Unknown, &mut machine, source, out, err);
-    drop(files);
+    let mut folder = MachineFolder::new(rt);
+    let (status, became) = run_with(
+        rt.alloc(),
+        words,
+        Unknown,
+        &mut folder,
+        &mut machine,
+        source,
+        out,
+        err,
+    );
+    drop(became);
     status
 }
 
-/// Does the same as `run`, over files that hold what `start` represents, and with the CSV files and the clients
-/// of `host`, and returns the exit status and the files at FILE. They are closed, and still locked. There are
-/// none if none were opened, or if the log could not be copied into the database file.
+/// Does the same as `run`, over files that hold what `start` represents, at the paths of `folder`, and with the CSV files
+/// and the clients of `host`, and returns the exit status and what became of the files at FILE, which are still locked.
 ///
 /// If the status is 0, the work was done over the state that the files stored, and if it is 1, it failed over
-/// this state. After the close the database file alone stores the state that the work led to.
-pub fn run_with<D: Start, H: Accept + CsvFiles, R: Source, W: Sink, E: Sink>(
-    rt: &HostRuntime,
+/// this state or could not begin. After the close the database file alone stores the state that the work led to.
+pub fn run_with<D: Start, F: Folder, H: Accept + CsvFiles, R: Source, W: Sink, E: Sink>(
+    alloc: Global,
     words: &[&str],
     start: D,
+    folder: &mut F,
     host: &mut H,
     source: &mut R,
     out: &mut W,
     err: &mut E,
-) -> (u8, Option<Files<FileFrom<D>>>)
+) -> (u8, StoreAfter<FileFrom<D>>)
     ensures status { (result.0 ≡ 0) ⊎ ((result.0 ≡ 1) ⊎ (result.0 ≡ 2)) }
+
+    // Status 0: help was asked for, or the choice in the arguments was done.
     ensures done { result.0 ≡ 0 → (AsksHelp program (map (λ s. s.now) words.entry.now) × (source.new ≡ source.old) × (host.new ≡ host.old))
         ⊎ ((choice : Choice) × Chooses (subcommand_of program (map (λ s. s.now) words.entry.now)) choice
         × (reads_input choice ≡ false → source.new ≡ source.old) × (asks_host choice ≡ false → host.new ≡ host.old)
-        × IsDone ⟦<MemoryFile as Disk>⟧ ⟦<FileFrom<D> as Disk>⟧ choice
-        (environment (R.remaining source.old) (R.reads source.old) (R.failed source.old) (W.written out.old) (W.failed out.old) (W.idle out.old)
-        (H.csv_at host.old) (H.failed_csv host.old) (H.clients host.old))
-        (environment (R.remaining source.new) (R.reads source.new) (R.failed source.new) (W.written out.new) (W.failed out.new) (W.idle out.new)
-        (H.csv_at host.new) (H.failed_csv host.new) (H.clients host.new))
-        × IfSome result.1 (λ files. AreClean ⟦<FileFrom<D> as Disk>⟧ files.log files.db → WorksAndCloses ⟦<FileFrom<D> as Disk>⟧ (image_at D.Start) files
-        (λ before conn. WorksOnConnection (state (over_files {g = ⟦<FileFrom<D> as Disk>⟧})) choice before
-        (λ first last. DoesSubcommand (state (over_files {g = ⟦<FileFrom<D> as Disk>⟧})) choice first
-        (environment (R.remaining source.old) (R.reads source.old) (R.failed source.old) (W.written out.old) (W.failed out.old) (W.idle out.old)
-        (H.csv_at host.old) (H.failed_csv host.old) (H.clients host.old))
-        (environment (R.remaining source.new) (R.reads source.new) (R.failed source.new) (W.written out.new) (W.failed out.new) (W.idle out.new)
-        (H.csv_at host.new) (H.failed_csv host.new) (H.clients host.new)) last) conn))) }
-    ensures refused { result.0 ≡ 2 → ((source.new ≡ source.old) × (out.new ≡ out.old) × (host.new ≡ host.old)) }
+        × IsDone ⟦<MemoryFile as Disk>⟧ ⟦<FileFrom<D> as Disk>⟧ (image_at D.Start) choice
+        (around R.Source W.Sink H.CsvFiles H.Accept source.old out.old host.old)
+        (around R.Source W.Sink H.CsvFiles H.Accept source.new out.new host.new) result.1) }
+
+    // Status 2: the arguments are no command line of the program, and nothing was read or written but to `err`.
+    ensures refused { result.0 ≡ 2 → (IsUntouched source.old source.new out.old out.new host.old host.new) × (folder.new ≡ folder.old) }
     ensures unchosen { result.0 ≡ 2 → (takes program (map (λ s. s.now) words.entry.now) ≡ false)
         ⊎ (ReplaysBothOrNeither (subcommand_of program (map (λ s. s.now) words.entry.now))
-        × Says both_or_neither_line (E.written err.old) (E.written err.new) (HasFailed (E.failed err.old) (E.failed err.new) (E.idle err.old) (E.idle err.new))) }
-    ensures stopped { result.0 ≡ 1 → (failure : Failure) × SaysSome (IsLineOf failure) (E.written err.old) (E.written err.new)
-        (HasFailed (E.failed err.old) (E.failed err.new) (E.idle err.old) (E.idle err.new))
-        × (((failure ≡ Failure.Refused Refusal.Memory) × ((source.new ≡ source.old) × (out.new ≡ out.old) × (host.new ≡ host.old)))
+        × Says both_or_neither_line (E.written err.old) (E.written err.new)
+        (HasFailed (E.failed err.old) (E.failed err.new) (E.idle err.old) (E.idle err.new))) }
+
+    // Status 1: an allocation failed before anything was chosen, or the choice failed; one line says why.
+    ensures stopped { result.0 ≡ 1 → (failure : Failure) × SaysSome (IsLineOf failure)
+        (E.written err.old) (E.written err.new) (HasFailed (E.failed err.old) (E.failed err.new) (E.idle err.old) (E.idle err.new))
+        × (((failure ≡ Failure.Refused Refusal.Memory) × (IsUntouched source.old source.new out.old out.new host.old host.new))
         ⊎ ((choice : Choice) × Chooses (subcommand_of program (map (λ s. s.now) words.entry.now)) choice
         × (reads_input choice ≡ false → source.new ≡ source.old) × (asks_host choice ≡ false → host.new ≡ host.old)
-        × FailsBy ⟦<MemoryFile as Disk>⟧ ⟦<FileFrom<D> as Disk>⟧ choice failure ((source.new ≡ source.old) × (out.new ≡ out.old) × (host.new ≡ host.old))
-        (environment (R.remaining source.old) (R.reads source.old) (R.failed source.old) (W.written out.old) (W.failed out.old) (W.idle out.old)
-        (H.csv_at host.old) (H.failed_csv host.old) (H.clients host.old))
-        (environment (R.remaining source.new) (R.reads source.new) (R.failed source.new) (W.written out.new) (W.failed out.new) (W.idle out.new)
-        (H.csv_at host.new) (H.failed_csv host.new) (H.clients host.new))
-        × IfSome result.1 (λ files. AreClean ⟦<FileFrom<D> as Disk>⟧ files.log files.db → WorksAndCloses ⟦<FileFrom<D> as Disk>⟧ (image_at D.Start) files
-        (λ before conn. FailsOnConnection (state (over_files {g = ⟦<FileFrom<D> as Disk>⟧})) choice before failure
-        ((source.new ≡ source.old) × (out.new ≡ out.old) × (host.new ≡ host.old))
-        (environment (R.remaining source.old) (R.reads source.old) (R.failed source.old) (W.written out.old) (W.failed out.old) (W.idle out.old)
-        (H.csv_at host.old) (H.failed_csv host.old) (H.clients host.old))
-        (environment (R.remaining source.new) (R.reads source.new) (R.failed source.new) (W.written out.new) (W.failed out.new) (W.idle out.new)
-        (H.csv_at host.new) (H.failed_csv host.new) (H.clients host.new)) conn)))) }
+        × FailsBy ⟦<MemoryFile as Disk>⟧ ⟦<FileFrom<D> as Disk>⟧ (image_at D.Start) choice failure
+        (IsUntouched source.old source.new out.old out.new host.old host.new)
+        (CannotBegin choice (path_of choice) failure (F.paths folder.old) (HasRisen (F.failed_calls folder.old) (F.failed_calls folder.new)))
+        (around R.Source W.Sink H.CsvFiles H.Accept source.old out.old host.old)
+        (around R.Source W.Sink H.CsvFiles H.Accept source.new out.new host.new) result.1)) }
+
+    // What is at the paths then: what the work made, and nothing is removed but leftovers and a log that was copied.
+    ensures left { (folder.new ≡ folder.old) ⊎ ((choice : Choice) × Chooses (subcommand_of program (map (λ s. s.now) words.entry.now)) choice
+        × LeavesPaths choice (path_of choice) (result.0 == 1) result.1 (HasRisen (F.failed_calls folder.old) (F.failed_calls folder.new))
+        (F.paths folder.old) (F.paths folder.new)) }
     ensures silent { result.0 ≡ 0 → err.new ≡ err.old }
     ensures reads { R.reads source.new ≤ R.reads source.old + most_reads }
 {
-    match choose(rt.alloc(), words) {
+    match choose(alloc, words) {
         Ok(choice) => {
-            let (done, files) = run_choice(rt, &choice, start, host, source, out);
-            (status_of(rt.alloc(), done, err), files)
+            let (done, became) = run_choice(alloc, &choice, start, folder, host, source, out);
+            (status_of(alloc, done, err), became)
         }
         Err(Unchosen::Either) => {
             write(err, b"rbac: give FILE or --memory\n");
-            (EXIT_USAGE, None)
+            (EXIT_USAGE, StoreAfter::Untouched)
         }
         Err(Unchosen::Memory) => {
             report_no_memory(err);
-            (EXIT_FAILED, None)
+            (EXIT_FAILED, StoreAfter::Untouched)
         }
-        Err(Unchosen::Fault(error)) => (explain(rt.alloc(), &error, out, err), None),
+        Err(Unchosen::Fault(error)) => (explain(alloc, &error, out, err), StoreAfter::Untouched),
     }
 }
 
 // Does what was chosen.
-fn run_choice<D: Start, H: Accept + CsvFiles, R: Source, W: Sink>(
-    rt: &HostRuntime,
+fn run_choice<D: Start, F: Folder, H: Accept + CsvFiles, R: Source, W: Sink>(
+    alloc: Global,
     choice: &Choice,
     start: D,
+    folder: &mut F,
     host: &mut H,
     source: &mut R,
     out: &mut W,
-) -> (Result<(), Failure>, Option<Files<FileFrom<D>>>)
-    ensures done { OnOk result.0 (IsDone ⟦<MemoryFile as Disk>⟧ ⟦<FileFrom<D> as Disk>⟧ choice.now
-        (environment (R.remaining source.old) (R.reads source.old) (R.failed source.old) (W.written out.old) (W.failed out.old) (W.idle out.old)
-        (H.csv_at host.old) (H.failed_csv host.old) (H.clients host.old))
-        (environment (R.remaining source.new) (R.reads source.new) (R.failed source.new) (W.written out.new) (W.failed out.new) (W.idle out.new)
-        (H.csv_at host.new) (H.failed_csv host.new) (H.clients host.new))) }
-    ensures failed { IfErr result.0 (λ failure. FailsBy ⟦<MemoryFile as Disk>⟧ ⟦<FileFrom<D> as Disk>⟧ choice.now failure
-        ((source.new ≡ source.old) × (out.new ≡ out.old) × (host.new ≡ host.old))
-        (environment (R.remaining source.old) (R.reads source.old) (R.failed source.old) (W.written out.old) (W.failed out.old) (W.idle out.old)
-        (H.csv_at host.old) (H.failed_csv host.old) (H.clients host.old))
-        (environment (R.remaining source.new) (R.reads source.new) (R.failed source.new) (W.written out.new) (W.failed out.new) (W.idle out.new)
-        (H.csv_at host.new) (H.failed_csv host.new) (H.clients host.new))) }
-    ensures closed { IfSome result.1 (λ files. AreClean ⟦<FileFrom<D> as Disk>⟧ files.log files.db →
-        OnOk result.0 (WorksAndCloses ⟦<FileFrom<D> as Disk>⟧ (image_at D.Start) files
-        (λ before conn. WorksOnConnection (state (over_files {g = ⟦<FileFrom<D> as Disk>⟧})) choice.now before
-        (λ first last. DoesSubcommand (state (over_files {g = ⟦<FileFrom<D> as Disk>⟧})) choice.now first
-        (environment (R.remaining source.old) (R.reads source.old) (R.failed source.old) (W.written out.old) (W.failed out.old) (W.idle out.old)
-        (H.csv_at host.old) (H.failed_csv host.old) (H.clients host.old))
-        (environment (R.remaining source.new) (R.reads source.new) (R.failed source.new) (W.written out.new) (W.failed out.new) (W.idle out.new)
-        (H.csv_at host.new) (H.failed_csv host.new) (H.clients host.new)) last) conn))) }
-    ensures closed_failed { IfSome result.1 (λ files. AreClean ⟦<FileFrom<D> as Disk>⟧ files.log files.db →
-        IfErr result.0 (λ failure. WorksAndCloses ⟦<FileFrom<D> as Disk>⟧ (image_at D.Start) files
-        (λ before conn. FailsOnConnection (state (over_files {g = ⟦<FileFrom<D> as Disk>⟧})) choice.now before failure
-        ((source.new ≡ source.old) × (out.new ≡ out.old) × (host.new ≡ host.old))
-        (environment (R.remaining source.old) (R.reads source.old) (R.failed source.old) (W.written out.old) (W.failed out.old) (W.idle out.old)
-        (H.csv_at host.old) (H.failed_csv host.old) (H.clients host.old))
-        (environment (R.remaining source.new) (R.reads source.new) (R.failed source.new) (W.written out.new) (W.failed out.new) (W.idle out.new)
-        (H.csv_at host.new) (H.failed_csv host.new) (H.clients host.new)) conn))) }
+) -> (Result<(), Failure>, StoreAfter<FileFrom<D>>)
+    ensures done { OnOk result.0 (IsDone ⟦<MemoryFile as Disk>⟧ ⟦<FileFrom<D> as Disk>⟧ (image_at D.Start) choice.now
+        (around R.Source W.Sink H.CsvFiles H.Accept source.old out.old host.old)
+        (around R.Source W.Sink H.CsvFiles H.Accept source.new out.new host.new) result.1) }
+    ensures failed { IfErr result.0
+        (λ failure. FailsBy ⟦<MemoryFile as Disk>⟧ ⟦<FileFrom<D> as Disk>⟧ (image_at D.Start) choice.now failure
+        (IsUntouched source.old source.new out.old out.new host.old host.new)
+        (CannotBegin choice.now (path_of choice.now) failure (F.paths folder.old) (HasRisen (F.failed_calls folder.old) (F.failed_calls folder.new)))
+        (around R.Source W.Sink H.CsvFiles H.Accept source.old out.old host.old)
+        (around R.Source W.Sink H.CsvFiles H.Accept source.new out.new host.new) result.1) }
+    ensures left { (folder.new ≡ folder.old) ⊎ LeavesPaths choice.now (path_of choice.now) (is_err result.0) result.1
+        (HasRisen (F.failed_calls folder.old) (F.failed_calls folder.new)) (F.paths folder.old) (F.paths folder.new) }
     ensures unread { reads_input choice.now ≡ false → source.new ≡ source.old }
     ensures unasked { asks_host choice.now ≡ false → host.new ≡ host.old }
     ensures reads { R.reads source.new ≤ R.reads source.old + most_reads }
 {
+    match path_in(choice) {
+        Some(path) => run_in_file(alloc, folder, path, start, choice, host, source, out),
+        None => (replay_memory(alloc, source, out), StoreAfter::Untouched),
+    }
+}
+
+// The path of the office, if it is in a file.
+fn path_in(choice: &Choice) -> Option<&str>
+    ensures some { IfSome result (λ path. (is_memory_replay choice.now ≡ false) × (path.now ≡ path_of choice.now)) }
+    ensures none { IfNone result ((is_memory_replay choice.now ≡ true) × (reads_input choice.now ≡ true)) }
+{
     match choice {
-        Choice::Replay(Place::Memory) => (replay_memory(rt.alloc(), source, out), None),
+        Choice::Replay(Place::Memory) => None,
         Choice::Init(file)
         | Choice::Replay(Place::File(file))
         | Choice::Serve(file, _, _)
@@ -198,7 +208,7 @@ fn run_choice<D: Start, H: Accept + CsvFiles, R: Source, W: Sink>(
         | Choice::Export(file)
         | Choice::Report(file)
         | Choice::Check(file)
-        | Choice::Migrate(file) => run_in_file(rt, file.as_str(), start, choice, host, source, out),
+        | Choice::Migrate(file) => Some(file.as_str()),
     }
 }
 
@@ -206,6 +216,7 @@ fn run_choice<D: Start, H: Accept + CsvFiles, R: Source, W: Sink>(
 fn status_of<E: Sink>(alloc: Global, done: Result<(), Failure>, err: &mut E) -> u8
     ensures done { (result ≡ 0) ↔ IsOk done }
     ensures stopped { result ≡ 1 → IsErr done }
+    ensures failed { (result == 1) ≡ is_err done }
     ensures status { (result ≡ 0) ⊎ (result ≡ 1) }
     ensures reported { result ≡ 1 → IfErr done (λ failure. SaysSome (IsLineOf failure)
         (E.written err.old) (E.written err.new) (HasFailed (E.failed err.old) (E.failed err.new) (E.idle err.old) (E.idle err.new))) }

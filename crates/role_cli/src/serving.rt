@@ -33,9 +33,12 @@ pub fn serve_on<S: Alter, A: Accept, E: Sink>(
     err: &mut E,
 ) -> u8
     ensures status { (result ≡ 0) ⊎ (result ≡ 1) }
-    ensures done { result ≡ 0 → ServesConnections (state S.Store) (AllServed limit) (A.clients host.old) (A.clients host.new) office.old office.new × (err.new ≡ err.old) }
-    ensures failed { result ≡ 1 → (failure : Failure) × ServesConnections (state S.Store) (EndsBy limit failure) (A.clients host.old) (A.clients host.new) office.old office.new
-        × SaysSome (IsLineOf failure) (E.written err.old) (E.written err.new) (HasFailed (E.failed err.old) (E.failed err.new) (E.idle err.old) (E.idle err.new)) }
+    ensures done { result ≡ 0 → ServesConnections (state S.Store) (AllServed limit) (A.clients host.old)
+        (A.clients host.new) office.old office.new × (err.new ≡ err.old) }
+    ensures failed { result ≡ 1 → (failure : Failure)
+        × ServesConnections (state S.Store) (EndsBy limit failure) (A.clients host.old) (A.clients host.new) office.old office.new
+        × SaysSome (IsLineOf failure) (E.written err.old) (E.written err.new)
+        (HasFailed (E.failed err.old) (E.failed err.new) (E.idle err.old) (E.idle err.new)) }
 {
     match serve_all(alloc, office, host, limit) {
         Ok(()) => 0,
@@ -64,7 +67,9 @@ pub(crate) fn serve<S: Alter, A: Accept, W: Sink>(
     host: &mut A,
     out: &mut W,
 ) -> Result<(), Failure>
-    ensures done { OnOk result (ServesAll (state S.Store) port limit (A.clients host.old) (A.clients host.new) office.old (W.written out.old) (W.written out.new) office.new) }
+    ensures done { OnOk result
+        (ServesAll (state S.Store) port limit (A.clients host.old) (A.clients host.new) office.old (W.written out.old)
+        (W.written out.new) office.new) }
     ensures failed { IfErr result (λ failure. FailsToServe (state S.Store) port limit (A.clients host.old) (A.clients host.new) office.old failure
         (HasFailed (W.failed out.old) (W.failed out.new) (W.idle out.old) (W.idle out.new)) (W.written out.old) (W.written out.new) office.new) }
 {
@@ -103,7 +108,8 @@ fn serve_all<S: Alter, A: Accept>(
     limit: u32,
 ) -> Result<(), Failure>
     ensures all { OnOk result (ServesConnections (state S.Store) (AllServed limit) (A.clients host.old) (A.clients host.new) office.old office.new) }
-    ensures ended { IfErr result (λ failure. ServesConnections (state S.Store) (EndsBy limit failure) (A.clients host.old) (A.clients host.new) office.old office.new) }
+    ensures ended { IfErr result
+        (λ failure. ServesConnections (state S.Store) (EndsBy limit failure) (A.clients host.old) (A.clients host.new) office.old office.new) }
 {
     let server = match Server::new(alloc) {
         Ok(server) => server,
@@ -140,6 +146,7 @@ pub(crate) fn answered<S: Alter, R: Source, W: Sink>(
     sink: &mut W,
 ) -> Option<Answered>
     ensures over { IsServedOver (state S.Store) (HasRisen (R.failed source.old) (R.failed source.new))
+        (HasFailed (W.failed sink.old) (W.failed sink.new) (W.idle sink.old) (W.idle sink.new))
         (R.remaining source.old) (R.remaining source.new) (W.written sink.old) (W.written sink.new) office.old (status_in result) office.new }
     ensures somehow { IsServedSomehow (state S.Store) office.old (status_in result) office.new }
     ensures closes { IfSome result (λ it. it.is_closed ≡ (it.status == 500)) }

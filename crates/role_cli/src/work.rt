@@ -16,9 +16,10 @@ ghost use Rattle.role_tables.specs.Durability.{ForgetsNoFault};
 ghost use Rattle.role_wire.specs.Continuation.{Continues};
 ghost use Rattle.role_wire.specs.OfficeRequest.{RefusesRequest, DoesRequest};
 ghost use Rattle.role_wire.specs.Replay.{most_reads};
-ghost use Rattle.role_cli.specs.Environment.{HasFailed, environment};
+ghost use Rattle.role_cli.specs.Around.{IsUntouched, around};
+ghost use Rattle.role_cli.specs.Environment.{HasFailed};
 ghost use Rattle.role_cli.specs.FailureCause.{IsOpeningFailure, IsUnwritten};
-ghost use Rattle.role_cli.specs.Work.{BeginsRun, DoesSubcommand, DoesOverSomeState, FailsSubcommand, FailsOnConnection, FailsToImport, FailsOrFindsNoOffice, Imports, IsUnopened, RefusesText, StartsWell, WorksOnConnection, WritesPart, asks_host, reads_input};
+ghost use Rattle.role_cli.specs.Work.{BeginsRun, DoesOnConnection, DoesSubcommand, DoesOverSomeState, FailsSubcommand, FailsOnConnection, FailsToImport, FailsOrFindsNoOffice, Imports, IsUnopened, RefusesText, StartsWell, WritesPart, asks_host, reads_input};
 
 use crate::choice::Choice;
 use crate::failure::Failure;
@@ -58,31 +59,23 @@ pub fn run_on_connection<S: Alter, H: Accept + CsvFiles, R: Source, W: Sink>(
     out: &mut W,
 ) -> (Result<(), Failure>, Connection<S>)
     ensures clean { ForgetsNoFault (state S.Store conn) (state S.Store result.1) }
-    ensures done { HasCleanDisk (state S.Store result.1) → OnOk result.0 (WorksOnConnection (state S.Store) choice.now (state S.Store conn)
-        (λ first last. DoesSubcommand (state S.Store) choice.now first
-        (environment (R.remaining source.old) (R.reads source.old) (R.failed source.old) (W.written out.old) (W.failed out.old) (W.idle out.old)
-        (H.csv_at host.old) (H.failed_csv host.old) (H.clients host.old))
-        (environment (R.remaining source.new) (R.reads source.new) (R.failed source.new) (W.written out.new) (W.failed out.new) (W.idle out.new)
-        (H.csv_at host.new) (H.failed_csv host.new) (H.clients host.new)) last) result.1) }
+    ensures done { HasCleanDisk (state S.Store result.1) → OnOk result.0 (DoesOnConnection (state S.Store) choice.now (state S.Store conn)
+        (around R.Source W.Sink H.CsvFiles H.Accept source.old out.old host.old)
+        (around R.Source W.Sink H.CsvFiles H.Accept source.new out.new host.new) result.1) }
     ensures failed { HasCleanDisk (state S.Store result.1) → IfErr result.0
-        (λ failure. FailsOnConnection (state S.Store) choice.now (state S.Store conn) failure ((source.new ≡ source.old) × (out.new ≡ out.old) × (host.new ≡ host.old))
-        (environment (R.remaining source.old) (R.reads source.old) (R.failed source.old) (W.written out.old) (W.failed out.old) (W.idle out.old)
-        (H.csv_at host.old) (H.failed_csv host.old) (H.clients host.old))
-        (environment (R.remaining source.new) (R.reads source.new) (R.failed source.new) (W.written out.new) (W.failed out.new) (W.idle out.new)
-        (H.csv_at host.new) (H.failed_csv host.new) (H.clients host.new)) result.1) }
+        (λ failure. FailsOnConnection (state S.Store) choice.now (state S.Store conn) failure
+        (IsUntouched source.old source.new out.old out.new host.old host.new)
+        (around R.Source W.Sink H.CsvFiles H.Accept source.old out.old host.old)
+        (around R.Source W.Sink H.CsvFiles H.Accept source.new out.new host.new) result.1) }
 
     // Whatever the disk returns, the work is done over an office of some good state.
     ensures some { OnOk result.0 (DoesOverSomeState (state S.Store) choice.now
-        (environment (R.remaining source.old) (R.reads source.old) (R.failed source.old) (W.written out.old) (W.failed out.old) (W.idle out.old)
-        (H.csv_at host.old) (H.failed_csv host.old) (H.clients host.old))
-        (environment (R.remaining source.new) (R.reads source.new) (R.failed source.new) (W.written out.new) (W.failed out.new) (W.idle out.new)
-        (H.csv_at host.new) (H.failed_csv host.new) (H.clients host.new))) }
+        (around R.Source W.Sink H.CsvFiles H.Accept source.old out.old host.old)
+        (around R.Source W.Sink H.CsvFiles H.Accept source.new out.new host.new)) }
     ensures some_failed { IfErr result.0 (λ failure. FailsOrFindsNoOffice (state S.Store) choice.now failure
-        ((source.new ≡ source.old) × (out.new ≡ out.old) × (host.new ≡ host.old))
-        (environment (R.remaining source.old) (R.reads source.old) (R.failed source.old) (W.written out.old) (W.failed out.old) (W.idle out.old)
-        (H.csv_at host.old) (H.failed_csv host.old) (H.clients host.old))
-        (environment (R.remaining source.new) (R.reads source.new) (R.failed source.new) (W.written out.new) (W.failed out.new) (W.idle out.new)
-        (H.csv_at host.new) (H.failed_csv host.new) (H.clients host.new))) }
+        (IsUntouched source.old source.new out.old out.new host.old host.new)
+        (around R.Source W.Sink H.CsvFiles H.Accept source.old out.old host.old)
+        (around R.Source W.Sink H.CsvFiles H.Accept source.new out.new host.new)) }
     ensures unread { reads_input choice.now ≡ false → source.new ≡ source.old }
     ensures unasked { asks_host choice.now ≡ false → host.new ≡ host.old }
     ensures reads { R.reads source.new ≤ R.reads source.old + most_reads }
@@ -107,9 +100,11 @@ fn office_of<S: Alter>(
     ensures made { IfOk result (λ office. StartsWell choice.now office.facts) }
     ensures clean { MatchResult result (λ office. ForgetsNoFault (state S.Store conn) (state S.Store office.conn))
         (λ u. ForgetsNoFault (state S.Store conn) (state S.Store u.conn)) }
-    ensures begins { IfOk result (λ office. HasCleanDisk (state S.Store office.conn) → BeginsRun (state S.Store) choice.now (state S.Store conn) office) }
+    ensures begins { IfOk result
+        (λ office. HasCleanDisk (state S.Store office.conn) → BeginsRun (state S.Store) choice.now (state S.Store conn) office) }
     ensures refusal { IfErr result (λ u. IsOpeningFailure choice.now (Failure.Refused u.refusal)) }
-    ensures unopened { IfErr result (λ u. HasCleanDisk (state S.Store u.conn) → IsUnopened (state S.Store) choice.now (state S.Store conn) u.refusal (state S.Store u.conn)) }
+    ensures unopened { IfErr result
+        (λ u. HasCleanDisk (state S.Store u.conn) → IsUnopened (state S.Store) choice.now (state S.Store conn) u.refusal (state S.Store u.conn)) }
 {
     match choice {
         Choice::Init(_) => create(alloc, conn),
@@ -129,15 +124,11 @@ fn run_on_office<S: Alter, H: Accept + CsvFiles, R: Source, W: Sink>(
 ) -> Result<(), Failure>
     requires open { office.old.is_closed ≡ false }
     ensures done { OnOk result (DoesSubcommand (state S.Store) choice.now office.old
-        (environment (R.remaining source.old) (R.reads source.old) (R.failed source.old) (W.written out.old) (W.failed out.old) (W.idle out.old)
-        (H.csv_at host.old) (H.failed_csv host.old) (H.clients host.old))
-        (environment (R.remaining source.new) (R.reads source.new) (R.failed source.new) (W.written out.new) (W.failed out.new) (W.idle out.new)
-        (H.csv_at host.new) (H.failed_csv host.new) (H.clients host.new)) office.new) }
+        (around R.Source W.Sink H.CsvFiles H.Accept source.old out.old host.old)
+        (around R.Source W.Sink H.CsvFiles H.Accept source.new out.new host.new) office.new) }
     ensures failed { IfErr result (λ failure. FailsSubcommand (state S.Store) choice.now failure office.old
-        (environment (R.remaining source.old) (R.reads source.old) (R.failed source.old) (W.written out.old) (W.failed out.old) (W.idle out.old)
-        (H.csv_at host.old) (H.failed_csv host.old) (H.clients host.old))
-        (environment (R.remaining source.new) (R.reads source.new) (R.failed source.new) (W.written out.new) (W.failed out.new) (W.idle out.new)
-        (H.csv_at host.new) (H.failed_csv host.new) (H.clients host.new)) office.new) }
+        (around R.Source W.Sink H.CsvFiles H.Accept source.old out.old host.old)
+        (around R.Source W.Sink H.CsvFiles H.Accept source.new out.new host.new) office.new) }
     ensures continues { Continues (state S.Store) office.old office.new }
     ensures unread { reads_input choice.now ≡ false → source.new ≡ source.old }
     ensures unasked { asks_host choice.now ≡ false → host.new ≡ host.old }
@@ -161,7 +152,8 @@ fn run_on_office<S: Alter, H: Accept + CsvFiles, R: Source, W: Sink>(
 pub(crate) fn say<W: Sink>(out: &mut W, line: &[u8]) -> Result<(), Failure>
     ensures ok { OnOk result (Appends (W.written out.old) (W.written out.new) line.now) }
     ensures part { IfErr result (λ failure. (failure ≡ Failure.Refused Refusal.Store)
-        × HasFailed (W.failed out.old) (W.failed out.new) (W.idle out.old) (W.idle out.new) × WritesPart line.now (W.written out.old) (W.written out.new)) }
+        × HasFailed (W.failed out.old) (W.failed out.new) (W.idle out.old) (W.idle out.new)
+        × WritesPart line.now (W.written out.old) (W.written out.new)) }
 {
     match write_all(out, line) {
         Ok(()) => Ok(()),
@@ -238,7 +230,8 @@ fn imported<S: Alter>(alloc: Global, office: &mut Office<S>, text: &[u8]) -> Res
     ensures ok { IfOk result (λ line. (pairs : List Pair) × (answer : List ℕ) × (assignments text.now ≡ Ok pairs)
         × DoesRequest (state S.Store) office.old (Change (Import pairs)) answer office.new × (string_bytes line ≡ answer ++ (10 ∷ []))) }
     ensures err { IfErr result (λ refusal. (RefusesText text.now refusal × (office.new ≡ office.old))
-        ⊎ ((pairs : List Pair) × (assignments text.now ≡ Ok pairs) × (RefusesRequest (state S.Store) office.old (Change (Import pairs)) refusal office.new
+        ⊎ ((pairs : List Pair) × (assignments text.now ≡ Ok pairs)
+        × (RefusesRequest (state S.Store) office.old (Change (Import pairs)) refusal office.new
         ⊎ ((refusal ≡ Refusal.Memory) × ((answer : List ℕ) × DoesRequest (state S.Store) office.old (Change (Import pairs)) answer office.new))))) }
 {
     let pairs = read_assignments(alloc, text)?;
@@ -258,7 +251,8 @@ fn import_pairs<S: Alter>(
     ensures ok { IfOk result (λ line. (answer : List ℕ) × DoesRequest (state S.Store) office.old (Change (content_of command.now)) answer office.new
         × (string_bytes line ≡ answer ++ (10 ∷ []))) }
     ensures err { IfErr result (λ refusal. RefusesRequest (state S.Store) office.old (Change (content_of command.now)) refusal office.new
-        ⊎ ((refusal ≡ Refusal.Memory) × ((answer : List ℕ) × DoesRequest (state S.Store) office.old (Change (content_of command.now)) answer office.new))) }
+        ⊎ ((refusal ≡ Refusal.Memory)
+        × ((answer : List ℕ) × DoesRequest (state S.Store) office.old (Change (content_of command.now)) answer office.new))) }
 {
     let report = office.apply(alloc, command)?;
     import_line(alloc, report)

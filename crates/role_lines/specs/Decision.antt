@@ -13,14 +13,18 @@ use Rattle.review_mgr.specs.declared.query.Query.TheVariants.{CheckAccess}
 abbrev pub IsNameText : List ℕ → Type 0
 IsNameText bytes = IsUtf8 bytes × (is_name bytes ≡ true)
 
+-- the three are the texts of names
+abbrev pub AreNameTexts : (session operation object : List ℕ) → Type 0
+AreNameTexts session operation object = IsNameText session × IsNameText operation × IsNameText object
+
 module _ (S : RbacState) (session operation object : List ℕ) where
   -- the question isn't refused, and this is its answer
   pub record Decides (access : Bool) : Type 0 where
     pub unrefused : refused S (CheckAccess session operation object) ≡ None
     pub access_is : access ≡ has_access S session operation object
 
-  -- there is no decision: one of the three isn't a name, or the question is refused
+  -- There is no decision. If one of the three isn't a name, that is the refusal; if they are, it is that of the question.
   abbrev pub Refuses : Refusal → Type 0
   Refuses refusal =
-      ((refusal ≡ BadName) × ¬ (IsNameText session × IsNameText operation × IsNameText object))
-      ⊎ (refused S (CheckAccess session operation object) ≡ Some refusal)
+      ((refusal ≡ BadName) × ¬ (AreNameTexts session operation object))
+      ⊎ (AreNameTexts session operation object × (refused S (CheckAccess session operation object) ≡ Some refusal))

@@ -13,7 +13,8 @@ use std::alloc::Global;
 ///
 /// # Errors
 ///
-/// `BadName` if one of the three isn't a name, otherwise the refusals of `check_access`.
+/// `BadName` if one of the three isn't a name. Otherwise those of `check_access`, in its order: `NoSession`, `NoObject`,
+/// `NoOperation`.
 pub fn decide(
     state: &State,
     session: &[u8],

@@ -1,3 +1,4 @@
+use Rattle.std.proofs.Common.{refl}
 use Rattle.sqlite.specs.WalFiles.{image_at}
 use Rattle.role_cli.proofs.FileWork.{stands_in}
 use Rattle.role_wire.proofs.Results.{if_err-then}
@@ -29,3 +30,16 @@ returns-in-Some-clause-failed g c clean =
       durable = stands_in (image_at g.D.Start) c.in-Some.conn opened found c.reopened.ensures;
       work = fails;
     })
+
+pub returns-in-Some-clause-some : goal.returns-in-Some-clause-some
+returns-in-Some-clause-some g c = c.run_on_connection.ensures.some
+
+pub returns-in-Some-clause-some_failed : goal.returns-in-Some-clause-some_failed
+returns-in-Some-clause-some_failed g c = c.run_on_connection.ensures.some_failed
+
+-- The files could not be opened, and nothing else was touched.
+pub returns-in-None-clause-unopened : goal.returns-in-None-clause-unopened
+returns-in-None-clause-unopened g c = (refl, (refl, refl, refl), c.in-None.ensures.failed)
+
+pub returns-in-None-clause-restored : goal.returns-in-None-clause-restored
+returns-in-None-clause-restored g c = c.in-None.ensures.restored

@@ -1,4 +1,4 @@
-use Rattle.role_cli.proofs.FileWork.{done_stored, failed_stored, new_stored}
+use Rattle.role_cli.proofs.FileWork.{done_stored, failed_stored, migration_stored, new_stored}
 use Rattle.role_cli.proofs.laws.work_is_stored.Goals as goal
 
 pub returns-clause-done : goal.returns-clause-done
@@ -9,3 +9,6 @@ returns-clause-failed g c = failed_stored g.D.Disk
 
 pub returns-clause-created : goal.returns-clause-created
 returns-clause-created g c = new_stored g.D.Disk
+
+pub returns-clause-migrated : goal.returns-clause-migrated
+returns-clause-migrated g c = migration_stored g.D.Disk

@@ -1,40 +1,51 @@
-use Rattle.std.proofs.Common.{inl, inr}
-use Rattle.role_cli.specs.Hosts.{clients_on_machine, failed_on_machine}
-use Rattle.role_cli.specs.ProgramOutcome.{FailsBy, IsDone}
+use Rattle.std.proofs.Common.{inl, inr, subst}
+use Rattle.std.specs.Prelude.{None}
+use Rattle.rbac_sets.specs.Stream.{HasRisen}
+use Rattle.role_cli.specs.Hosts.{failed_in_folder}
+use Rattle.role_cli.specs.Leftovers.{CannotBegin}
+use Rattle.role_cli.specs.ProgramOutcome.{FailsSomehow, IsDoneSomehow, path_of}
 use Rattle.role_cli.proofs.Beginning.{fails_less}
 use Rattle.role_cli.proofs.Machines.{on_machine}
 use Rattle.role_cli.proofs.program.run.Goals as goal
 
 -- It was done on the machine of this runtime.
 pub returns-clause-done : goal.returns-clause-done
-returns-clause-done g c zero = elim (c.run_with-status.ensures.done zero) [
-  | inl (asks, same, _) ↦ inl (asks, same)
-  | inr (choice, chooses, unread, _, is, _) ↦ inr (
-    choice,
-    chooses,
-    unread,
-    on_machine (IsDone _ _ choice) (g.R.Source.remaining c.args.source.now) (g.R.Source.reads c.args.source.now) (g.R.Source.failed c.args.source.now) (g.W.Sink.written c.args.out.now) (g.W.Sink.failed c.args.out.now) (g.W.Sink.idle c.args.out.now)
-        (g.R.Source.remaining c.run_with-status.new.source) (g.R.Source.reads c.run_with-status.new.source) (g.R.Source.failed c.run_with-status.new.source) (g.W.Sink.written c.run_with-status.new.out) (g.W.Sink.failed c.run_with-status.new.out) (g.W.Sink.idle c.run_with-status.new.out) (clients_on_machine c.new-machine.result) (failed_on_machine c.new-machine.result) (c.run_with-status.new.host).port (c.run_with-status.new.host).accepted (c.run_with-status.new.host).failed (failed_on_machine c.run_with-status.new.host)
-        c.new-machine.ensures.clients c.new-machine.ensures.failed is,
-  )
-]
+returns-clause-done g c zero =
+    let machine = c.new-machine.result in
+    let now = c.run_with-status.new.host in
+    elim (c.run_with-status.ensures.done zero) [
+      | inl (asks, same, _) ↦ inl (asks, same)
+      | inr (choice, chooses, unread, _, is) ↦ inr (
+        choice,
+        chooses,
+        unread,
+        on_machine g.R.Source g.W.Sink (IsDoneSomehow _ _ choice) c.args.source.now c.run_with-status.new.source c.args.out.now c.run_with-status.new.out machine now c.new-machine.ensures.clients c.new-machine.ensures.failed
+            (_, c.run_with-status.result.1, is),
+      )
+    ]
 
 -- And so it failed.
 pub returns-clause-stopped : goal.returns-clause-stopped
 returns-clause-stopped g c one =
+    let machine = c.new-machine.result in
+    let now = c.run_with-status.new.host in
+    let calls = failed_in_folder c.run_with-status.new.folder in
     let (failure, reported, why) = c.run_with-status.ensures.stopped one in
     elim why [
       | inl (memory, kept) ↦ (failure, reported, inl (memory, kept.0, kept.1))
-      | inr (choice, chooses, unread, _, fails, _) ↦ (
+      | inr (choice, chooses, unread, _, fails) ↦ (
         failure,
         reported,
         inr (
           choice,
           chooses,
           unread,
-          on_machine (FailsBy _ _ choice failure _) (g.R.Source.remaining c.args.source.now) (g.R.Source.reads c.args.source.now) (g.R.Source.failed c.args.source.now) (g.W.Sink.written c.args.out.now) (g.W.Sink.failed c.args.out.now) (g.W.Sink.idle c.args.out.now)
-              (g.R.Source.remaining c.run_with-status.new.source) (g.R.Source.reads c.run_with-status.new.source) (g.R.Source.failed c.run_with-status.new.source) (g.W.Sink.written c.run_with-status.new.out) (g.W.Sink.failed c.run_with-status.new.out) (g.W.Sink.idle c.run_with-status.new.out) (clients_on_machine c.new-machine.result) (failed_on_machine c.new-machine.result) (c.run_with-status.new.host).port (c.run_with-status.new.host).accepted (c.run_with-status.new.host).failed (failed_on_machine c.run_with-status.new.host)
-              c.new-machine.ensures.clients c.new-machine.ensures.failed (fails_less _ _ choice failure _ _ _ _ (λ kept. (kept.0, kept.1)) fails),
+          on_machine g.R.Source g.W.Sink (FailsSomehow _ _ choice failure _ _) c.args.source.now c.run_with-status.new.source c.args.out.now c.run_with-status.new.out machine now c.new-machine.ensures.clients c.new-machine.ensures.failed (
+            _,
+            c.run_with-status.result.1,
+            fails_less _ _ _ choice failure _ _ _ _ _ _ c.run_with-status.result.1 (λ kept. (kept.0, kept.1))
+                (λ cannot. (calls, subst (λ n. CannotBegin choice (path_of choice) failure None (HasRisen n calls)) c.new-folder.ensures cannot)) fails,
+          ),
         ),
       )
     ]

@@ -1,28 +1,40 @@
-use Rattle.std.proofs.Common.{inl, inr, refl}
+use Rattle.std.proofs.Common.{inl, inr, refl, subst, sym}
+use Rattle.rbac_sets.specs.Stream.{HasRisen}
 use Rattle.rbac_sets.specs.declared.refusal.Refusal.TheVariants.{Memory}
 use Rattle.role_cli.specs.ErrorOutput.{no_memory_line}
+use Rattle.role_cli.specs.Leftovers.{LeavesPaths}
+use Rattle.role_cli.specs.ProgramOutcome.{path_of}
 use Rattle.role_cli.specs.declared.failure.Failure.TheVariants.{Refused}
-use Rattle.role_cli.proofs.Results.{if_err-all, if_some-then, on_ok-holds}
+use Rattle.role_cli.proofs.Results.{if_err-both, on_ok-holds}
 use Rattle.role_cli.proofs.program.run_with.Goals as goal
 
 -- The choice is the one in the arguments, and status 0 means that it was done.
 pub returns-in-Ok-clause-done : goal.returns-in-Ok-clause-done
 returns-in-Ok-clause-done g c zero =
-    let is = c.status_of.ensures.done.0 zero in
     inr (
       c.in-Ok.choice,
       c.in-Ok.ensures.ok,
       c.run_choice-done.ensures.unread,
       c.run_choice-done.ensures.unasked,
-      on_ok-holds c.run_choice-done.result.0 _ is c.run_choice-done.ensures.done,
-      if_some-then c.run_choice-done.result.1 _ _ c.run_choice-done.ensures.closed (λ files closed clean. on_ok-holds c.run_choice-done.result.0 _ is (closed clean)),
+      on_ok-holds c.run_choice-done.result.0 _ (c.status_of.ensures.done.0 zero) c.run_choice-done.ensures.done,
     )
 
 -- Status 1 means that it failed, and the line reports that failure.
 pub returns-in-Ok-clause-stopped : goal.returns-in-Ok-clause-stopped
 returns-in-Ok-clause-stopped g c one =
-    let (failure, reported, fails, closed) = if_err-all c.run_choice-done.result.0 _ _ c.run_choice-done.result.1 _ _ (c.status_of.ensures.stopped one) (c.status_of.ensures.reported one) c.run_choice-done.ensures.failed c.run_choice-done.ensures.closed_failed in
-    (failure, reported, inr (c.in-Ok.choice, c.in-Ok.ensures.ok, c.run_choice-done.ensures.unread, c.run_choice-done.ensures.unasked, fails, closed))
+    let (failure, reported, fails) = if_err-both c.run_choice-done.result.0 _ _ (c.status_of.ensures.stopped one) (c.status_of.ensures.reported one) c.run_choice-done.ensures.failed in
+    (failure, reported, inr (c.in-Ok.choice, c.in-Ok.ensures.ok, c.run_choice-done.ensures.unread, c.run_choice-done.ensures.unasked, fails))
+
+pub returns-in-Ok-clause-left : goal.returns-in-Ok-clause-left
+returns-in-Ok-clause-left g c =
+    let chosen = c.in-Ok.choice in
+    let paths = g.F.Folder.paths c.args.folder.now in
+    let now = g.F.Folder.paths c.run_choice-done.new.folder in
+    let call_failed = HasRisen (g.F.Folder.failed_calls c.args.folder.now) (g.F.Folder.failed_calls c.run_choice-done.new.folder) in
+    elim c.run_choice-done.ensures.left [
+      | inl same ↦ inl same
+      | inr leaves ↦ inr (chosen, c.in-Ok.ensures.ok, subst (λ b. LeavesPaths chosen (path_of chosen) b c.run_choice-done.result.1 call_failed paths now) (sym c.status_of.ensures.failed) leaves)
+    ]
 
 -- An allocation failed before anything was chosen.
 pub returns-in-Err-Memory-clause-stopped : goal.returns-in-Err-Memory-clause-stopped

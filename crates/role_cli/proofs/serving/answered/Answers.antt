@@ -4,7 +4,7 @@ pub returns-in-Ok-clause-over : goal.returns-in-Ok-clause-over
 returns-in-Ok-clause-over g c = c.in-Ok.ensures.served
 
 pub returns-in-Err-clause-over : goal.returns-in-Err-clause-over
-returns-in-Err-clause-over g c = (c.in-Err.field-0.cause, c.in-Err.ensures.stopped.1, c.in-Err.ensures.read_cause)
+returns-in-Err-clause-over g c = (c.in-Err.field-0.cause, c.in-Err.ensures.stopped.1, c.in-Err.ensures.read_cause, c.in-Err.ensures.write_cause)
 
 pub returns-in-Ok-clause-somehow : goal.returns-in-Ok-clause-somehow
 returns-in-Ok-clause-somehow g c =

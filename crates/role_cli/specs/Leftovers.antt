@@ -1,0 +1,136 @@
+-- What is at the path of an office before the work, and what is removed if no office could be opened or created.
+use Rattle.std.specs.Prelude.{⊤, ◌≡◌, ◌⊎◌, ◌≤◌, ◌<◌, ◌+◌, ℕ, Bool, false, List, [], ◌∷◌, Option, Some, None, IfSome, if◌then◌else◌}
+use Rattle.rbac_sets.specs.declared.refusal.Refusal.TheVariants.{Memory, NotAnOffice, Store}
+use Rattle.sqlite_disk.specs.declared.Disk.{Ghosts}
+use Rattle.role_cli.specs.Paths.{Changes, ChangesKnown, Paths, index_of, length_in, log_of, with_empty, without}
+use Rattle.role_cli.specs.Work.{creates}
+use Rattle.role_cli.specs.declared.choice.Choice.{Choice}
+use Rattle.role_cli.specs.declared.choice.Choice.TheVariants.{Init}
+use Rattle.role_cli.specs.declared.failure.Failure.{Failure}
+use Rattle.role_cli.specs.declared.failure.Failure.TheVariants.{Refused}
+use Rattle.role_cli.specs.declared.folder.Entry.{Entry}
+use Rattle.role_cli.specs.declared.folder.Entry.TheVariants as entry
+use Rattle.role_cli.specs.declared.leftovers.PathState.{PathState}
+use Rattle.role_cli.specs.declared.leftovers.PathState.TheVariants.{Nothing, EmptyFile, Bytes}
+use Rattle.role_cli.specs.declared.store_after.StoreAfter.{StoreAfter}
+use Rattle.role_cli.specs.declared.store_after.StoreAfter.TheVariants as after
+
+-- ---- before the work
+
+-- there is a file that is not empty
+abbrev pub HasByte : Option ℕ → Type 0
+HasByte None = ⊥
+HasByte (Some length) = 1 ≤ length
+
+-- an opening would read the file as a new database: it has up to one byte, and the log beside it has none
+abbrev pub IsReadAsNew : (length : ℕ) (log : Option ℕ) → Type 0
+IsReadAsNew length log = (length ≤ 1) × ¬ (HasByte log)
+
+-- at the path is a file that is no new database
+abbrev pub IsOffice : List ℕ → Paths → Type 0
+IsOffice path known = (length : ℕ) × (known.at path ≡ entry.File length) × ¬ (IsReadAsNew length (length_in (known.at (log_of path known))))
+
+-- at the path is a file that an opening would read as a new database
+abbrev pub IsNew : List ℕ → Paths → Type 0
+IsNew path known = (length : ℕ) × (known.at path ≡ entry.File length) × IsReadAsNew length (length_in (known.at (log_of path known)))
+
+-- what was at the path of a new office
+abbrev pub IsStateOf : PathState → Entry → Type 0
+IsStateOf Nothing it = it ≡ entry.Nothing
+IsStateOf EmptyFile it = it ≡ entry.File 0
+IsStateOf Bytes it = (length : ℕ) × (it ≡ entry.File length) × (1 ≤ length)
+
+-- This was at the path before the work: of an office, a file that is no new database.
+abbrev pub IsBefore : Choice → List ℕ → PathState → Paths → Type 0
+IsBefore (Init _) path before known = IsStateOf before (known.at path)
+IsBefore _ path before known = (before ≡ Bytes) × IsOffice path known
+
+-- there can be no office at a path that leads to this
+abbrev pub IsNoPlaceFor : Choice → Entry → Type 0
+IsNoPlaceFor (Init _) it = it ≡ entry.Other
+IsNoPlaceFor _ it = length_in it ≡ None
+
+-- The work can't begin: nothing at the path can be an office, the file would be read as a new database, or a call of the folder failed.
+abbrev pub CannotBegin : Choice → List ℕ → Failure → Option Paths → (call_failed : Type 0) → Type 0
+CannotBegin chosen path failure paths call_failed =
+    ((failure ≡ Refused Store) × IfSome paths (λ known. IsNoPlaceFor chosen (known.at path)))
+    ⊎ (((failure ≡ Refused NotAnOffice) × (creates chosen ≡ false) × IfSome paths (IsNew path))
+    ⊎ (((failure ≡ Refused Memory) ⊎ (failure ≡ Refused Store)) × call_failed))
+
+-- ---- after the work
+
+-- the sizes of the header of a log, of the header of each page in it, and of the smallest page of a database
+abbrev pub shortest_log : ℕ
+shortest_log = 32 + 24 + 512
+
+-- a log of this length, if there is one, holds no whole page
+abbrev pub HasNoPage : Option ℕ → Type 0
+HasNoPage None = ⊤
+HasNoPage (Some length) = length < shortest_log
+
+-- there is a log, and it holds no whole page
+abbrev pub IsLogWithoutPage : Option ℕ → Type 0
+IsLogWithoutPage None = ⊥
+IsLogWithoutPage (Some length) = length < shortest_log
+
+-- there is a file of at most one page, the first one of a new database, and its log holds no whole page
+abbrev pub IsBegun : (file log : Option ℕ) → Type 0
+IsBegun None log = ⊥
+IsBegun (Some length) log = (length ≤ 4096) × HasNoPage log
+
+-- the log of an office holds no page, or an office was only begun where there was none
+abbrev pub HasLeftover : PathState → List ℕ → Paths → Type 0
+HasLeftover Bytes path known = IsLogWithoutPage (length_in (known.at (log_of path known)))
+HasLeftover _ path known = IsBegun (length_in (known.at path)) (length_in (known.at (log_of path known)))
+
+-- the paths that this concerns
+abbrev pub leftovers : PathState → List ℕ → Paths → List (List ℕ)
+leftovers Bytes path known = log_of path known ∷ []
+leftovers _ path known = log_of path known ∷ (index_of path known ∷ (path ∷ []))
+
+-- neither a log nor its index is there
+abbrev pub without_siblings : List ℕ → Paths → Paths
+without_siblings path known = without (index_of path known) (without (log_of path known) known)
+
+-- what is at the paths once the leftover is removed: an office keeps its file, an empty file is empty again, and where nothing was is nothing
+abbrev pub without_leftover : PathState → List ℕ → Paths → Paths
+without_leftover Bytes path known = without (log_of path known) known
+without_leftover EmptyFile path known = with_empty path (without_siblings path known)
+without_leftover Nothing path known = without path (without_siblings path known)
+
+-- A leftover is removed, and nothing else is touched.
+abbrev pub Restores : PathState → List ℕ → (call_failed : Type 0) → Option Paths → Option Paths → Type 0
+Restores before path call_failed None now = now ≡ None
+Restores before path call_failed (Some known) now =
+    (HasLeftover before path known × Changes (leftovers before path known) (without_leftover before path known) call_failed known now)
+    ⊎ ((now ≡ Some known) × ((¬ HasLeftover before path known) ⊎ call_failed))
+
+-- An empty file is removed, if nothing was there before.
+abbrev pub RemovesEmpty : PathState → List ℕ → (call_failed : Type 0) → Option Paths → Option Paths → Type 0
+RemovesEmpty before path call_failed None now = now ≡ None
+RemovesEmpty before path call_failed (Some known) now =
+    ((before ≡ Nothing) × (known.at path ≡ entry.File 0) × Changes (path ∷ []) (without path known) call_failed known now)
+    ⊎ ((now ≡ Some known) × ¬ ((before ≡ Nothing) × (known.at path ≡ entry.File 0)))
+
+-- the log and its index
+abbrev pub siblings : List ℕ → Paths → List (List ℕ)
+siblings path known = log_of path known ∷ (index_of path known ∷ [])
+
+-- The log and its index are removed, and nothing else is touched.
+abbrev pub RemovesSiblings : List ℕ → (call_failed : Type 0) → Option Paths → Option Paths → Type 0
+RemovesSiblings path call_failed = ChangesKnown (siblings path) (without_siblings path) call_failed
+
+-- What is at the paths after the files of a connection were closed: a leftover is removed, and so are the log and its index once the log
+-- was copied into the file. Only then.
+abbrev pub LeavesClosed : {F : Type 0} {g : Ghosts F} → PathState → List ℕ → StoreAfter F g → (call_failed : Type 0) → Option Paths → Option Paths → Type 0
+LeavesClosed before path (after.Closed files) call_failed paths now =
+    (between : Option Paths) × Restores before path call_failed paths between × RemovesSiblings path call_failed between now
+LeavesClosed before path (after.Left store) call_failed paths now = Restores before path call_failed paths now
+LeavesClosed before path after.Untouched call_failed paths now = ⊥
+
+-- What is at the paths after the work. If it was done, the file is an office's: it is removed only if the work failed where nothing was.
+abbrev pub LeavesPaths : {F : Type 0} {g : Ghosts F} → Choice → List ℕ → (has_failed : Bool) → StoreAfter F g → (call_failed : Type 0) → Option Paths → Option Paths → Type 0
+LeavesPaths chosen path has_failed after.Untouched call_failed paths now = (now ≡ paths)
+    ⊎ ((before : PathState) × IfSome paths (IsBefore chosen path before) × (Restores before path call_failed paths now ⊎ RemovesEmpty before path call_failed paths now))
+LeavesPaths chosen path has_failed became call_failed paths now =
+    (before : PathState) × IfSome paths (IsBefore chosen path before) × LeavesClosed (if has_failed then before else Bytes) path became call_failed paths now

@@ -1,2 +1,0 @@
--- Definitions that no public contract reaches: whoever calls or audits this crate need not read them.
-pub mod Leftovers

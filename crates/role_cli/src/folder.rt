@@ -1,0 +1,180 @@
+//! The paths of a folder: what is there, without what it holds.
+ghost use Rattle.std.specs.Prelude.{◌≡◌, ◌≤◌, ◌⊎◌, IfErr, IfOk, IfSome, OnErr, string_bytes};
+ghost use Rattle.sqlite.specs.Files.{IsOpened, file_state};
+ghost use Rattle.sqlite.specs.Start.{FindsIn};
+ghost use Rattle.sqlite.specs.State.{HasCleanDisk};
+ghost use Rattle.sqlite.specs.WalFiles.{image_at};
+ghost use Rattle.rbac_sets.specs.Stream.{HasRisen};
+ghost use Rattle.role_cli.specs.Paths.{ChangesKnown, only, with_empty, without};
+
+use rbac_sets::Refusal;
+use sqlite::{Connection, FileFrom, FileStore, Files, Start};
+use std::{fs, io};
+
+/// What a path leads to.
+#[derive(Clone, Copy, Debug, PartialEq, Eq)]
+pub enum Entry {
+    /// Nothing.
+    Nothing,
+    /// A file of this many bytes.
+    File(u64),
+    /// Something else: a folder, a pipe, a device, or a link to nothing.
+    Other,
+}
+
+/// The paths of the files of offices.
+///
+/// Contracts cover what a path leads to if it is known. What a store writes through the files that it has opened is not
+/// a part of it.
+pub trait Folder {
+    ghost use Rattle.std.specs.Prelude.{ℕ, Option};
+    ghost use Rattle.role_cli.specs.Paths.{Paths};
+
+    // What the paths lead to, if it is known.
+    ghost paths: { Self → Option Paths };
+
+    // How often a path could not be made, or a file could not be opened, removed or emptied. The count saturates.
+    ghost failed_calls: { Self → ℕ };
+
+    /// What a path leads to.
+    fn entry_at(&self, path: &str) -> Entry
+        ensures { IfSome (paths self.now) (λ known. result ≡ known.at path.now) };
+
+    /// The path of the file with this ending, beside the file that a path leads to, as `sqlite` opens it.
+    ///
+    /// # Errors
+    ///
+    /// - `Memory` if an allocation failed.
+    /// - `Store` if the path leads to nothing, or it can't be found out where it leads to.
+    fn beside(&mut self, path: &str, ending: &str) -> Result<String, Refusal>
+        ensures named { IfOk result (λ name. IfSome (paths self.old) (λ known. string_bytes name ≡ known.beside path.now ending.now)) }
+        ensures refusal { IfErr result (λ refusal. (refusal ≡ Refusal.Memory) ⊎ (refusal ≡ Refusal.Store)) }
+        ensures failed { OnErr result (HasRisen (failed_calls self.old) (failed_calls self.new)) }
+        ensures count { failed_calls self.old ≤ failed_calls self.new }
+        ensures same { paths self.new ≡ paths self.old };
+
+    /// Removes the file at a path, if there is one. If that fails, it stays.
+    fn remove(&mut self, path: &str)
+        ensures removed { ChangesKnown (only path.now) (without path.now) (HasRisen (failed_calls self.old) (failed_calls self.new))
+            (paths self.old) (paths self.new) }
+        ensures count { failed_calls self.old ≤ failed_calls self.new };
+
+    /// Empties the file at a path, or creates an empty one. If that fails, the path stays as it is.
+    fn make_empty(&mut self, path: &str)
+        ensures emptied { ChangesKnown (only path.now) (with_empty path.now) (HasRisen (failed_calls self.old) (failed_calls self.new))
+            (paths self.old) (paths self.new) }
+        ensures count { failed_calls self.old ≤ failed_calls self.new };
+
+    /// Opens the files of the office at a path, or creates them. `start` represents what they hold.
+    ///
+    /// # Errors
+    ///
+    /// If they were opened, but are no database that can be used, they are handed back, still locked.
+    fn open<D: Start>(
+        &mut self,
+        path: &str,
+        start: D,
+    ) -> Result<Connection<FileStore<FileFrom<D>>>, Option<Files<FileFrom<D>>>>
+        ensures opened { IfOk result (λ conn. HasCleanDisk (file_state conn) → IsOpened conn) }
+        ensures found { IfOk result (λ conn. HasCleanDisk (file_state conn) → FindsIn (image_at D.Start) (file_state conn)) }
+        ensures failed { OnErr result (HasRisen (failed_calls self.old) (failed_calls self.new)) }
+        ensures count { failed_calls self.old ≤ failed_calls self.new }
+        ensures same { paths self.new ≡ paths self.old };
+}
+
+/// The folders of a runtime. What their paths lead to isn't known before it is asked.
+#[derive(Drop)]
+pub struct MachineFolder<'a> {
+    rt: &'a HostRuntime,
+    failed: u64,
+}
+
+impl<'a> MachineFolder<'a> {
+    ghost use Rattle.role_cli.specs.Hosts.{failed_in_folder};
+
+    /// The folders of this runtime. No call has failed.
+    pub fn new(rt: &'a HostRuntime) -> MachineFolder<'a>
+        ensures { failed_in_folder result ≡ 0 }
+    {
+        MachineFolder { rt, failed: 0 }
+    }
+
+    // One more call failed.
+    fn fail(&mut self)
+        ensures risen { HasRisen self.old.failed self.new.failed }
+        ensures count { self.old.failed ≤ self.new.failed }
+    {
+        self.failed = self.failed.saturating_add(1);
+    }
+}
+
+impl Folder for MachineFolder<'_> {
+    ghost use Rattle.std.specs.Prelude.{None};
+    ghost use Rattle.role_cli.specs.Hosts.{failed_in_folder};
+
+    ghost paths = { λ _. None };
+
+    ghost failed_calls = { failed_in_folder };
+
+    fn entry_at(&self, path: &str) -> Entry {
+        match fs::metadata(self.rt, path) {
+            Ok(found) if found.is_file() => Entry::File(found.len()),
+            Ok(_) => Entry::Other,
+            Err(_) if fs::symlink_metadata(self.rt, path).is_ok() => Entry::Other,
+            Err(_) => Entry::Nothing,
+        }
+    }
+
+    fn beside(&mut self, path: &str, ending: &str) -> Result<String, Refusal> {
+        match name_beside(self.rt, path, ending) {
+            Ok(name) => Ok(name),
+            Err(error) => {
+                self.fail();
+                if error.kind() == io::ErrorKind::OutOfMemory {
+                    Err(Refusal::Memory)
+                } else {
+                    Err(Refusal::Store)
+                }
+            }
+        }
+    }
+
+    fn remove(&mut self, path: &str) {
+        if let Err(error) = fs::remove_file(self.rt, path) {
+            // Where nothing is, nothing has to be removed.
+            if error.kind() != io::ErrorKind::NotFound {
+                self.fail();
+            }
+        }
+    }
+
+    fn make_empty(&mut self, path: &str) {
+        if fs::File::create(self.rt, path).is_err() {
+            self.fail();
+        }
+    }
+
+    fn open<D: Start>(
+        &mut self,
+        path: &str,
+        start: D,
+    ) -> Result<Connection<FileStore<FileFrom<D>>>, Option<Files<FileFrom<D>>>> {
+        match Connection::open_from(self.rt, path, false, start) {
+            Ok(conn) => Ok(conn),
+            Err((_, Some(left))) => {
+                self.fail();
+                Err(Some(left.into_files()))
+            }
+            Err((_, None)) => {
+                self.fail();
+                Err(None)
+            }
+        }
+    }
+}
+
+// The path of the file with this ending, beside the file that a link leads to.
+fn name_beside(rt: &HostRuntime, path: &str, ending: &str) -> io::Result<String> {
+    let real = fs::canonicalize(rt, path)?;
+    Ok(format!(in rt.alloc(); "{}{ending}", real.as_str())?)
+}
