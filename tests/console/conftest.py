@@ -1,6 +1,8 @@
 """Builds the front once, and gives each check of the console a network of its own."""
 
 import os
+import sys
+from unittest.mock import MagicMock
 
 import pytest
 
@@ -8,6 +10,11 @@ from front.running import PROGRAM, build
 from needs import lacking
 
 from .running import LONG
+
+# Without Selenium the modules are collected all the same, so that their checks are counted as skipped.
+if lacking(["selenium"]):
+    for name in ("", ".webdriver", ".webdriver.chrome.service", ".webdriver.common.by", ".webdriver.common.keys", ".common.exceptions"):
+        sys.modules[f"selenium{name}"] = MagicMock()
 
 WITHOUT_BROWSER = {"downloads", "serving", "page", "breaks", "sources"}
 
