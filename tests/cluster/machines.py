@@ -177,8 +177,10 @@ class Cluster:
             connection.close()
 
     def status(self, machine):
-        """Returns what a node reports about itself."""
-        _, body = self.get(machine, "/healthz")
+        """Returns what a node reports about itself. It gives strangers no reason, but other nodes and monitoring."""
+        status, body = self.get(machine, "/healthz")
+        if status == 503:
+            body = self.get(machine, "/healthz", 8081)[1] or body
         try:
             return json.loads(body)
         except ValueError:
