@@ -83,30 +83,57 @@ func filesOf(dir string) ([]string, error) {
 		}
 		return nil, err
 	}
-	current := filepath.Join(dir, fileName)
-	about, err := os.Stat(current)
+	parts, _, err := partsIn(dir)
 	if err != nil {
 		return nil, err
+	}
+	return append(parts, filepath.Join(dir, fileName)), nil
+}
+
+// partsIn returns the paths of the files of earlier parts in a folder, in the order of their entries, and the other names of the file
+// at hand. A crash while a part was closed leaves such a name.
+func partsIn(dir string) (parts, left []string, err error) {
+	about, err := os.Stat(filepath.Join(dir, fileName))
+	if err != nil {
+		return nil, nil, err
 	}
 	found, err := filepath.Glob(filepath.Join(escapeGlob(dir), partPrefix+"*.db"))
 	if err != nil {
-		return nil, err
+		return nil, nil, err
 	}
 	firsts := map[string]int64{}
-	var files []string
 	for _, path := range found {
 		var first, last int64
 		if _, err := fmt.Sscanf(filepath.Base(path), partPrefix+"%d-%d.db", &first, &last); err != nil {
 			continue
 		}
-		// A crash while a part was closed leaves two names of one file.
-		if other, err := os.Stat(path); err == nil && !os.SameFile(about, other) {
+		other, err := os.Stat(path)
+		switch {
+		case err != nil:
+		case os.SameFile(about, other):
+			left = append(left, path)
+		default:
 			firsts[path] = first
-			files = append(files, path)
+			parts = append(parts, path)
 		}
 	}
-	sort.Slice(files, func(i, j int) bool { return firsts[files[i]] < firsts[files[j]] })
-	return append(files, current), nil
+	sort.Slice(parts, func(i, j int) bool { return firsts[parts[i]] < firsts[parts[j]] })
+	return parts, left, nil
+}
+
+// removeLeftNames removes the other names of the file at hand. With one of them the next cut would leave two names of one part. The
+// office is locked.
+func removeLeftNames(dir string) error {
+	_, left, err := partsIn(dir)
+	if err != nil {
+		return err
+	}
+	for _, path := range left {
+		if err := os.Remove(path); err != nil {
+			return err
+		}
+	}
+	return nil
 }
 
 // escapeGlob returns a pattern that matches a path alone.
