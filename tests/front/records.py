@@ -341,7 +341,11 @@ def check_changed(bench):
     put()
     last = int(head.split(":")[0])
     change(front.office, f"DELETE FROM entry WHERE n = {last}")
-    verified(bench, "without the last entry", front.office)
+    refuted(bench, "without the last entry", front.office, "is of an entry that is not here")
+    bases = [path_of(front.office, name) for name in os.listdir(f"{front.office}.record") if name.startswith(f"base-{last}-")]
+    bench.same("base copies of the last entry", len(bases), 1)
+    os.remove(bases[0])
+    verified(bench, "without the last entry and its base copy", front.office)
     refuted(bench, "the tail cut off, with the head", front.office, f"ends at entry {last - 1}", "--head", head)
     # Who asked can be changed by somebody who computes the chain anew. Only a head that is known from elsewhere shows it.
     put()
@@ -385,9 +389,15 @@ def check_parts(bench):
     bench.same("show", [line.split("\t")[0] for line in shown.splitlines()], [str(n) for n in range(1, 14)])
     tenth = entries(front.office, 9, "record-1-10.db")[-1]
     os.rename(first, bench.path("record-1-10.db"))
-    verified(bench, "the part at hand", front.office)
-    out = tool("record", "verify", "--office", front.office)[1]
+    status, out, said = tool("record", "verify", "--office", front.office)
+    bench.same("without a part", (status, said), (2, "rbac-node: what is here is good, but entries are missing\n"))
     bench.same("what is missing", out.splitlines()[0], "entries 1 to 10 are not here: their part was moved away")
+    bench.same("the rest", "the office has the rows that the record gives" in out, True)
+    head = bench.write("heads", f"10:{tenth.chain}\n".encode())
+    status, out, said = tool("record", "verify", "--part", bench.path("record-1-10.db"), "--heads", head)
+    bench.same("the part alone", (status, out.splitlines()[-1], said), (0, f"head 10:{tenth.chain}", ""))
+    shown = tool("record", "show", "--part", bench.path("record-1-10.db"))[1]
+    bench.same("show the part alone", len(shown.splitlines()), 10)
     refuted(bench, "an old head", front.office, "entry 10, whose link is known, is not here", "--head", f"10:{tenth.chain}")
     os.rename(bench.path("record-1-10.db"), first)
     with closing(sqlite3.connect(first)) as opened:

@@ -45,7 +45,7 @@ func (f *Filter) where() (string, []any) {
 // Show prints the entries that a filter chooses: number, time, caller, reason, request and answer, with tabs between them. None of
 // them has a tab. An answer that a start has found has a star, and an entry without an answer has a question mark in its place.
 func (t *Tool) Show(ctx context.Context, filter Filter) error {
-	files, err := filesOf(t.dir())
+	files, err := t.files()
 	if err != nil {
 		return err
 	}
@@ -71,7 +71,7 @@ func (t *Tool) show(ctx context.Context, out *bufio.Writer, path string, filter 
 	if err != nil {
 		return 0, err
 	}
-	if parts[0].first > first {
+	if parts[0].first > first && t.Part == "" {
 		fmt.Fprintln(t.Err, missing(first, parts[0]))
 	}
 	if err := showEntries(ctx, out, v, filter); err != nil {

@@ -19,10 +19,10 @@ import (
 )
 
 // A Tool does what commands other than serve do with the record of an office, or with that of a node of several machines, whose
-// folder Data is.
+// folder Data is, or with the file Part alone, which was moved away.
 type Tool struct {
-	Office, Data, Program string
-	HangTimeout           time.Duration
+	Office, Data, Part, Program string
+	HangTimeout                 time.Duration
 	// Out is for what is asked for, and Err for what else has to be known.
 	Out, Err io.Writer
 	Log      *logs.Logger
@@ -30,10 +30,21 @@ type Tool struct {
 
 // dir returns the folder of the record.
 func (t *Tool) dir() string {
-	if t.Data != "" {
+	switch {
+	case t.Data != "":
 		return DirIn(t.Data)
+	case t.Part != "":
+		return filepath.Dir(t.Part)
 	}
 	return DirOf(t.Office)
+}
+
+// files returns the paths of the files of the record, in the order of their entries.
+func (t *Tool) files() ([]string, error) {
+	if t.Part != "" {
+		return []string{t.Part}, nil
+	}
+	return filesOf(t.dir())
 }
 
 // glance is how long it is looked whether a front has the office.
@@ -180,7 +191,7 @@ func (v *view) Close() {
 
 // PrintHead prints the head.
 func (t *Tool) PrintHead(ctx context.Context) error {
-	files, err := filesOf(t.dir())
+	files, err := t.files()
 	if err != nil {
 		return err
 	}
