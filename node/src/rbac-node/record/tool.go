@@ -12,6 +12,7 @@ import (
 	"path/filepath"
 	"sort"
 	"strings"
+	"syscall"
 	"time"
 
 	"rbac-node/logs"
@@ -55,10 +56,34 @@ func (t *Tool) lockIfFree(ctx context.Context) (*os.File, error) {
 	within, cancel := context.WithTimeout(ctx, glance)
 	defer cancel()
 	lock, err := single.Lock(within, t.Office+".lock")
+	if errors.Is(err, os.ErrPermission) || errors.Is(err, syscall.EROFS) {
+		return lockReadOnly(t.Office + ".lock")
+	}
 	if err != nil && within.Err() != nil && ctx.Err() == nil {
 		return nil, nil
 	}
 	return lock, err
+}
+
+// lockReadOnly locks a file that can't be written, unless a front has it: it returns nil then. If the file isn't there, no front has
+// it, and what is returned locks nothing.
+func lockReadOnly(path string) (*os.File, error) {
+	file, err := os.Open(path)
+	if errors.Is(err, os.ErrNotExist) {
+		return os.Open(os.DevNull)
+	}
+	if err != nil {
+		return nil, fmt.Errorf("lock: %w", err)
+	}
+	err = syscall.Flock(int(file.Fd()), syscall.LOCK_EX|syscall.LOCK_NB)
+	if err == nil {
+		return file, nil
+	}
+	_ = file.Close()
+	if errors.Is(err, syscall.EWOULDBLOCK) {
+		return nil, nil
+	}
+	return nil, fmt.Errorf("lock: %w", err)
 }
 
 var errFrontRuns = errors.New("a front has the office: stop it first")
@@ -161,8 +186,12 @@ type view struct {
 // openView opens a file as it is now.
 func openView(ctx context.Context, path string) (*view, error) {
 	v, err := openViewBy(ctx, path, "mode=ro&_busy_timeout="+busy)
-	if err != nil && strings.Contains(err.Error(), "unable to open") {
-		// A file beside which SQLite can't make its own, as in a backup that can't be written, isn't written by others either.
+	if err != nil && (strings.Contains(err.Error(), "unable to open") || strings.Contains(err.Error(), "readonly database")) {
+		// A file beside which SQLite can't make its own, as in a backup that can't be written, isn't written by others either. Opened
+		// in this way it is read without its log.
+		if log, logErr := os.Stat(path + walSuffix); logErr == nil && log.Size() > 0 {
+			return nil, fmt.Errorf("%s: it has a log, which can't be read in a folder that can't be written: copy the folder", path)
+		}
 		v, err = openViewBy(ctx, path, "mode=ro&immutable=1")
 	}
 	return v, err
