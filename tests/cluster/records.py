@@ -31,6 +31,9 @@ CALLERS = {"desk": "secret-of-the-desk", "boss": "secret-of-the-boss"}
 # What they may do everywhere.
 ALLOWED = ["addUser", "deleteUser", "addRole", "assignUser", "deassignUser", "createSession", "deleteSession", "addActiveRole"]
 
+# What verify says of a node that began with a snapshot.
+MISSING = "rbac-node: what is here is good, but entries are missing\n"
+
 # Names of sessions that are found nowhere by chance.
 SECRETS = [f"session-that-nobody-may-see-{number}" for number in range(8)]
 
@@ -127,7 +130,7 @@ def faults_of(cluster, judge):
     faults += unlike(commands, wanted, judge)
     for i in range(MACHINES):
         status, out, said = tool(cluster.node, "verify", "--data", cluster.data(f"node{i}"))
-        if (status, said) != (0, "") and commands:
+        if (status, said) not in ((0, ""), (2, MISSING)) and commands:
             faults.append(f"verify of node {i}: {out}{said}")
     return faults[:20]
 
@@ -249,7 +252,7 @@ def judge_joined(bench, cluster, asker):
     says = f"entries 1 to {first - 1} are not here: this part begins with a snapshot\n"
     bench.same("show says it", tool(cluster.node, "show", "--data", data)[::2], (0, says))
     status, out, said = tool(cluster.node, "verify", "--data", data)
-    bench.same("verify says it", (status, out.startswith(says), said), (0, True, ""))
+    bench.same("verify says it", (status, out.startswith(says), said), (2, True, MISSING))
 
 
 # What is done to the record of a node, whether the links are computed anew, and what the node says then.

@@ -204,7 +204,7 @@ class Rounds:
             self.front.ask("addRole", {"role": role})
         for number in range(kills):
             acknowledged = self.load()
-            verified(self.bench, f"after round {number}", self.front.office)
+            verified(self.bench, f"after round {number}", self.front.office, is_whole=not self.counts["parts"])
             if number % UNTIL_CUT == UNTIL_CUT - 1:
                 # A start finds the last answers before the part is closed.
                 self.front.start()
@@ -215,7 +215,7 @@ class Rounds:
             self.start()
             self.judge(number, acknowledged)
         self.bench.same("the end", self.front.end(), 0)
-        verified(self.bench, "at the end", self.front.office)
+        verified(self.bench, "at the end", self.front.office, is_whole=not self.counts["parts"])
         tool_says = tool("record", "show", "--office", self.front.office)[1]
         self.bench.same("names that show prints", SECRET in tool_says, False)
 

@@ -9,11 +9,13 @@ import sqlite3
 import subprocess
 from contextlib import closing
 
+from needs import skip
 from program.bench import PROGRAM as RBAC
 from program.bench import TESTS
 
 from .identities import CERTIFICATES, openssl, secured
 from .program import Front, Unix, refused_start, until
+from .running import PROGRAM
 
 from .recorded import (
     Model, chain_again, change, digest, entries, files_with, left_in_memory, link, path_of, refuted, rows_of, tool, verified
@@ -341,7 +343,11 @@ def check_changed(bench):
     put()
     last = int(head.split(":")[0])
     change(front.office, f"DELETE FROM entry WHERE n = {last}")
-    verified(bench, "without the last entry", front.office)
+    refuted(bench, "without the last entry", front.office, "is of an entry that is not here")
+    bases = [path_of(front.office, name) for name in os.listdir(f"{front.office}.record") if name.startswith(f"base-{last}-")]
+    bench.same("base copies of the last entry", len(bases), 1)
+    os.remove(bases[0])
+    verified(bench, "without the last entry and its base copy", front.office)
     refuted(bench, "the tail cut off, with the head", front.office, f"ends at entry {last - 1}", "--head", head)
     # Who asked can be changed by somebody who computes the chain anew. Only a head that is known from elsewhere shows it.
     put()
@@ -385,9 +391,14 @@ def check_parts(bench):
     bench.same("show", [line.split("\t")[0] for line in shown.splitlines()], [str(n) for n in range(1, 14)])
     tenth = entries(front.office, 9, "record-1-10.db")[-1]
     os.rename(first, bench.path("record-1-10.db"))
-    verified(bench, "the part at hand", front.office)
+    verified(bench, "the part at hand", front.office, is_whole=False)
     out = tool("record", "verify", "--office", front.office)[1]
     bench.same("what is missing", out.splitlines()[0], "entries 1 to 10 are not here: their part was moved away")
+    head = bench.write("heads", f"10:{tenth.chain}\n".encode())
+    status, out, said = tool("record", "verify", "--part", bench.path("record-1-10.db"), "--heads", head)
+    bench.same("the part alone", (status, out.splitlines()[-1], said), (0, f"head 10:{tenth.chain}", ""))
+    shown = tool("record", "show", "--part", bench.path("record-1-10.db"))[1]
+    bench.same("show the part alone", len(shown.splitlines()), 10)
     refuted(bench, "an old head", front.office, "entry 10, whose link is known, is not here", "--head", f"10:{tenth.chain}")
     os.rename(bench.path("record-1-10.db"), first)
     with closing(sqlite3.connect(first)) as opened:
@@ -435,3 +446,40 @@ def check_usage(bench):
         status, out, said = tool(*words, program=False)
         bench.same(f"{' '.join(words)}", (status, out, said.count("\n")), (1, "", 1))
     bench.same("what it makes", os.listdir(bench.folder), [])
+
+
+# Does a command while the folder at the first argument is mounted so that nothing in it can be written.
+READ_ONLY = 'mount --bind "$0" "$0" && mount -o remount,ro,bind "$0" && exec "$@"'
+
+
+def check_read_only(bench):
+    """Verify and show read a copy that can't be written, and leave nothing in it. They refuse one whose log they can't read."""
+    front = made(bench)
+    status, _, said = tool("record", "cut", "--office", front.office)
+    bench.same("cut", (status, said), (0, ""))
+    folder = bench.path("copy")
+    for what, leftover in [("a lock", ".lock"), ("no lock", None)]:
+        shutil.rmtree(folder, ignore_errors=True)
+        os.mkdir(folder)
+        shutil.copy(front.office, folder)
+        shutil.copytree(f"{front.office}.record", f"{folder}/office.record")
+        if leftover:
+            shutil.copy(f"{front.office}{leftover}", folder)
+        before = sorted(files_with(folder, ""))
+        for words in (["verify", "--program", RBAC], ["show"], ["head"]):
+            done = read_only(folder, "record", *words, "--office", f"{folder}/office")
+            bench.same(f"{words[0]} with {what}", (done.returncode, bool(done.stdout), done.stderr), (0, True, ""))
+        bench.same(f"files with {what}", sorted(files_with(folder, "")), before)
+    with open(f"{folder}/office.record/record.db-wal", "wb") as log:
+        log.write(b"x" * 100)
+    done = read_only(folder, "record", "show", "--office", f"{folder}/office")
+    bench.same("with a log", (done.returncode, "copy the folder" in done.stderr), (1, True))
+
+
+def read_only(folder, *words):
+    """Does a command of the program for a folder that can't be written."""
+    command = ["unshare", "--mount", "sh", "-c", READ_ONLY, folder, os.environ[PROGRAM], *words]
+    done = subprocess.run(command, capture_output=True, text=True, check=False)
+    if "mount" in done.stderr or "unshare" in done.stderr:
+        skip("mounts", "a folder that can't be written")
+    return done

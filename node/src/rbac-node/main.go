@@ -61,8 +61,16 @@ func main() {
 	err := run(os.Args[1:])
 	if err != nil && !errors.Is(err, flag.ErrHelp) {
 		fmt.Fprintln(os.Stderr, "rbac-node:", err)
-		os.Exit(1)
+		status := statusError{1, nil}
+		_ = errors.As(err, &status)
+		os.Exit(status.status)
 	}
+}
+
+// A statusError is an error with which the program ends with another status than 1.
+type statusError struct {
+	status int
+	error
 }
 
 // run does what the command line asks for.

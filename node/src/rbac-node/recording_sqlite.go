@@ -6,6 +6,7 @@ import (
 	"context"
 	"errors"
 	"flag"
+	"fmt"
 	"os"
 	"time"
 
@@ -42,18 +43,21 @@ func (withRecord) follow(s *settings, data, office string, log *logs.Logger, reg
 	})
 }
 
+// missingStatus is the status of verify if all that is here is good, but entries are missing.
+const missingStatus = 2
+
 // toolHangTimeout is how long a replay of the record may answer nothing in a command other than serve.
 const toolHangTimeout = 10 * time.Minute
 
 // recordCommand is what a command about a record needs.
 type recordCommand struct {
 	record.Tool
-	head   string
-	filter record.Filter
+	head, heads string
+	filter      record.Filter
 }
 
 var errRecordUsage = errors.New("usage: rbac-node record verify|show|head|cut|adopt --office FILE [options], " +
-	"rbac-node record verify|show|head --data FOLDER [options], or rbac-node backup --office FILE FOLDER")
+	"rbac-node record verify|show|head --data FOLDER|--part FILE [options], or rbac-node backup --office FILE FOLDER")
 
 func (withRecord) run(words []string) error {
 	c := &recordCommand{Tool: record.Tool{HangTimeout: toolHangTimeout, Out: os.Stdout, Err: os.Stderr, Log: logs.New(os.Stderr)}}
@@ -70,7 +74,13 @@ func (withRecord) run(words []string) error {
 		return err
 	}
 	isBackup := words[0] == "backup"
-	if c.Office == "" == (c.Data == "") || isBackup != (flags.NArg() == 1) || !isBackup && flags.NArg() > 0 {
+	given := 0
+	for _, path := range []string{c.Office, c.Data, c.Part} {
+		if path != "" {
+			given++
+		}
+	}
+	if given != 1 || isBackup != (flags.NArg() == 1) || !isBackup && flags.NArg() > 0 {
 		return errRecordUsage
 	}
 	return untilSignal(func(ctx context.Context) error {
@@ -87,6 +97,7 @@ func (c *recordCommand) define(flags *flag.FlagSet, name string) {
 	switch name {
 	case "verify", "show", "head":
 		flags.StringVar(&c.Data, "data", "", "folder of a node of several machines, in place of --office")
+		flags.StringVar(&c.Part, "part", "", "file of an earlier part alone, in place of --office")
 	}
 	if name != "show" && name != "head" {
 		flags.StringVar(&c.Program, "program", "rbac", "the proved program, a path or a name that is looked up in PATH")
@@ -94,6 +105,7 @@ func (c *recordCommand) define(flags *flag.FlagSet, name string) {
 	switch name {
 	case "verify":
 		flags.StringVar(&c.head, "head", "", "a head N:HASH that is known from elsewhere")
+		flags.StringVar(&c.heads, "heads", "", "file of such heads, one in a line, or the log of a front")
 	case "show":
 		flags.StringVar(&c.filter.User, "user", "", "only commands that name this user")
 		flags.StringVar(&c.filter.Role, "role", "", "only commands that name this role")
@@ -131,14 +143,29 @@ func (c *recordCommand) do(ctx context.Context, name string) error {
 	return errRecordUsage
 }
 
-// verify verifies a record, with the head that the command line may have.
+// verify verifies a record, with the heads that the command line may have.
 func (c *recordCommand) verify(ctx context.Context) error {
-	if c.head == "" {
-		return c.Verify(ctx, nil)
+	var heads []record.Head
+	if c.heads != "" {
+		file, err := os.Open(c.heads)
+		if err != nil {
+			return err
+		}
+		defer file.Close()
+		if heads, err = record.ReadHeads(file); err != nil {
+			return fmt.Errorf("%s: %w", c.heads, err)
+		}
 	}
-	head, err := record.ParseHead(c.head)
-	if err != nil {
-		return err
+	if c.head != "" {
+		head, err := record.ParseHead(c.head)
+		if err != nil {
+			return err
+		}
+		heads = append(heads, head)
 	}
-	return c.Verify(ctx, &head)
+	err := c.Verify(ctx, heads)
+	if errors.Is(err, record.ErrMissing) {
+		err = statusError{missingStatus, err}
+	}
+	return err
 }

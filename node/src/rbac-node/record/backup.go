@@ -10,6 +10,7 @@ import (
 	"fmt"
 	"io"
 	"os"
+	"os/exec"
 	"path/filepath"
 	"strconv"
 	"strings"
@@ -170,10 +171,18 @@ func (t *Tool) hold(ctx context.Context) (release func() error, err error) {
 	if err != nil {
 		return nil, err
 	}
-	if err := syscall.Kill(replay, syscall.SIGSTOP); err != nil {
+	forget, err := continueAfterDeath(replay)
+	if err != nil {
 		return nil, fmt.Errorf("pause the replay: %w", err)
 	}
-	resume := func() error { return syscall.Kill(replay, syscall.SIGCONT) }
+	if err := syscall.Kill(replay, syscall.SIGSTOP); err != nil {
+		forget()
+		return nil, fmt.Errorf("pause the replay: %w", err)
+	}
+	resume := func() error {
+		defer forget()
+		return syscall.Kill(replay, syscall.SIGCONT)
+	}
 	for deadline := time.Now().Add(pausing); !isPaused(replay); time.Sleep(time.Millisecond) {
 		if time.Now().After(deadline) {
 			_ = resume()
@@ -188,6 +197,36 @@ func (t *Tool) hold(ctx context.Context) (release func() error, err error) {
 		}
 		return nil
 	}, nil
+}
+
+// continueAfterDeath starts a program that continues a process if this one ends before it calls forget, even if it is killed.
+func continueAfterDeath(pid int) (forget func(), err error) {
+	guard := exec.Command("/bin/sh", "-c", `trap "" HUP INT TERM; echo; read -r word || kill -CONT "$0"`, strconv.Itoa(pid))
+	guard.SysProcAttr = &syscall.SysProcAttr{Setsid: true} // What ends the group of this process doesn't end it.
+	words, err := guard.StdinPipe()
+	if err != nil {
+		return nil, err
+	}
+	ready, err := guard.StdoutPipe()
+	if err != nil {
+		return nil, err
+	}
+	err = guard.Start()
+	if errors.Is(err, os.ErrNotExist) {
+		return func() {}, nil // An image has no shell. There this process is not to be killed.
+	}
+	if err != nil {
+		return nil, err
+	}
+	forget = func() {
+		_, _ = io.WriteString(words, "forget\n")
+		_ = guard.Wait() // Whatever its status is, the process goes on.
+	}
+	if _, err := ready.Read(make([]byte, 1)); err != nil {
+		forget()
+		return nil, err
+	}
+	return forget, nil
 }
 
 // replayOf returns the process of the program that has the office open.

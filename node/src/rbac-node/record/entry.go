@@ -80,11 +80,14 @@ func chained(before string, e *entry) string {
 
 func now() string { return time.Now().UTC().Format(recorded.TimeLayout) }
 
-// driver is SQLite with a function that maps the names of sessions.
+// driver is SQLite with a function that maps the names of sessions, and one that finds names in imports.
 const driver = "sqlite3-record"
 
 func init() {
 	sql.Register(driver, &sqlite3.SQLiteDriver{ConnectHook: func(conn *sqlite3.SQLiteConn) error {
+		if err := conn.RegisterFunc("import_has", importHas, true); err != nil {
+			return err
+		}
 		return conn.RegisterFunc("session_digest", func(name string) string { return digestOf(name) }, true)
 	}})
 }
@@ -114,8 +117,12 @@ type scanner interface{ Scan(places ...any) error }
 func entryOf(row scanner) (entry, error) {
 	var e entry
 	var answer, chain sql.NullString
-	err := row.Scan(&e.n, &e.at, &e.caller, &e.reason, &e.request, &answer, &e.found, &chain)
-	e.answer, e.ch = answer.String, chain.String
+	var found int64
+	err := row.Scan(&e.n, &e.at, &e.caller, &e.reason, &e.request, &answer, &found, &chain)
+	e.answer, e.ch, e.found = answer.String, chain.String, found == 1
+	if err == nil && found != 0 && found != 1 {
+		err = fmt.Errorf("entry %d has %d at found: somebody has written it", e.n, found)
+	}
 	return e, err
 }
 

@@ -3,8 +3,11 @@
 package record
 
 import (
+	"bufio"
+	"encoding/json"
 	"errors"
 	"fmt"
+	"io"
 	"strconv"
 	"strings"
 	"time"
@@ -25,10 +28,41 @@ const linkBytes = 64
 func ParseHead(text string) (Head, error) {
 	number, chain, _ := strings.Cut(text, ":")
 	n, err := strconv.ParseInt(number, 10, 64)
-	if err != nil || len(chain) != linkBytes {
+	head := Head{n, chain}
+	if err != nil || n < 1 || head.String() != text || len(chain) != linkBytes || strings.Trim(chain, "0123456789abcdef") != "" {
 		return Head{}, errors.New("a head is N:HASH, as `rbac-node record head` prints it")
 	}
-	return Head{n, chain}, nil
+	return head, nil
+}
+
+// ReadHeads reads heads from a file, one in a line. A line may also be one of the log of a front: those without a head are passed over.
+func ReadHeads(file io.Reader) (heads []Head, err error) {
+	lines := bufio.NewScanner(file)
+	for number := 1; lines.Scan(); number++ {
+		line := strings.TrimSpace(lines.Text())
+		if strings.HasPrefix(line, "{") {
+			var said struct {
+				Entry int64
+				Chain string
+			}
+			if json.Unmarshal([]byte(line), &said) != nil || said.Chain == "" {
+				continue
+			}
+			line = Head{said.Entry, said.Chain}.String()
+		}
+		if line == "" {
+			continue
+		}
+		head, err := ParseHead(line)
+		if err != nil {
+			return nil, fmt.Errorf("line %d: %w", number, err)
+		}
+		heads = append(heads, head)
+	}
+	if len(heads) == 0 && lines.Err() == nil {
+		return nil, errors.New("it has no head")
+	}
+	return heads, lines.Err()
 }
 
 // Head returns the head.

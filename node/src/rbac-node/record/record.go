@@ -142,7 +142,11 @@ func newRecord(options Options) *Record {
 func Open(ctx context.Context, options Options) (*Record, error) {
 	r := newRecord(options)
 	has, err := hasRecord(r.dir)
-	if err == nil && !has {
+	switch {
+	case err != nil:
+	case has:
+		err = removeLeftNames(r.dir)
+	default:
 		err = r.begin(ctx)
 	}
 	if err == nil {

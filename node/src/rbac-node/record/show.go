@@ -5,15 +5,64 @@ package record
 import (
 	"bufio"
 	"context"
+	"encoding/csv"
+	"errors"
 	"fmt"
+	"io"
 	"strconv"
 	"strings"
+	"unicode"
+	"unicode/utf16"
 
 	"rbac-node/recorded"
 )
 
 // A Filter chooses entries.
 type Filter recorded.Filter
+
+// ends of records of a text of assignments.
+var ends = strings.NewReplacer("\r\n", "\n", "\r", "\n")
+
+// importHas reports whether a text of assignments has a name in a column: users are in the first one, and roles in the second. In a
+// text that is no CSV, which the office refuses, a name may be anywhere.
+func importHas(text, name string, column int) bool {
+	reader := csv.NewReader(strings.NewReader(ends.Replace(strings.TrimPrefix(text, "\ufeff"))))
+	reader.FieldsPerRecord, reader.ReuseRecord = -1, true
+	for number := 0; ; number++ {
+		fields, err := reader.Read()
+		switch {
+		case errors.Is(err, io.EOF):
+			return false
+		case err != nil:
+			return strings.Contains(text, name)
+		case number > 0 && column < len(fields) && fields[column] == name: // The first record has the names of the columns.
+			return true
+		}
+	}
+}
+
+// printed returns a text in which letters that a terminal obeys, or that turn other letters round, are written as JSON does.
+func printed(text string) string {
+	isShown := func(letter rune) bool {
+		return letter == '\t' || letter >= ' ' && letter < 0x7f || letter >= 0xa0 && !unicode.In(letter, unicode.Cf, unicode.Zl, unicode.Zp)
+	}
+	if strings.IndexFunc(text, func(letter rune) bool { return !isShown(letter) }) < 0 {
+		return text
+	}
+	var out strings.Builder
+	for _, letter := range text {
+		switch {
+		case isShown(letter):
+			out.WriteRune(letter)
+		case letter > 0xffff:
+			first, second := utf16.EncodeRune(letter)
+			fmt.Fprintf(&out, "\\u%04x\\u%04x", first, second)
+		default:
+			fmt.Fprintf(&out, "\\u%04x", letter)
+		}
+	}
+	return out.String()
+}
 
 // where returns the condition of a filter, and its values. An import is chosen if its text has the name.
 func (f *Filter) where() (string, []any) {
@@ -27,10 +76,10 @@ func (f *Filter) where() (string, []any) {
 			values = append(values, value)
 		}
 	}
-	const inImport = " OR instr(coalesce(request ->> 'csv', ''), ?) > 0"
-	add(f.User, "request ->> 'user' = ?"+inImport)
+	const inImport = " OR import_has(coalesce(request ->> 'csv', ''), ?, "
+	add(f.User, "request ->> 'user' = ?"+inImport+"0)")
 	add(f.Role, "? IN (request ->> 'role', request ->> 'asc', request ->> 'desc') OR "+
-		"EXISTS (SELECT 1 FROM json_each(coalesce(request -> 'roles', '[]')) WHERE value = ?)"+inImport)
+		"EXISTS (SELECT 1 FROM json_each(coalesce(request -> 'roles', '[]')) WHERE value = ?)"+inImport+"1)")
 	add(f.Object, "request ->> 'object' = ?")
 	add(f.Function, "request ->> 'fn' = ?")
 	add(f.Caller, "caller = ?")
@@ -45,7 +94,7 @@ func (f *Filter) where() (string, []any) {
 // Show prints the entries that a filter chooses: number, time, caller, reason, request and answer, with tabs between them. None of
 // them has a tab. An answer that a start has found has a star, and an entry without an answer has a question mark in its place.
 func (t *Tool) Show(ctx context.Context, filter Filter) error {
-	files, err := filesOf(t.dir())
+	files, err := t.files()
 	if err != nil {
 		return err
 	}
@@ -71,7 +120,7 @@ func (t *Tool) show(ctx context.Context, out *bufio.Writer, path string, filter 
 	if err != nil {
 		return 0, err
 	}
-	if parts[0].first > first {
+	if parts[0].first > first && t.Part == "" {
 		fmt.Fprintln(t.Err, missing(first, parts[0]))
 	}
 	if err := showEntries(ctx, out, v, filter); err != nil {
@@ -100,7 +149,7 @@ func showEntries(ctx context.Context, out *bufio.Writer, v *view, filter Filter)
 			e.answer = "?"
 		}
 		fields := []string{strconv.FormatInt(e.n, 10), e.at, e.caller, e.reason, e.request, e.answer}
-		if _, err := out.WriteString(strings.Join(fields, "\t") + "\n"); err != nil {
+		if _, err := out.WriteString(printed(strings.Join(fields, "\t")) + "\n"); err != nil {
 			return err
 		}
 	}

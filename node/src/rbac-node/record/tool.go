@@ -12,6 +12,7 @@ import (
 	"path/filepath"
 	"sort"
 	"strings"
+	"syscall"
 	"time"
 
 	"rbac-node/logs"
@@ -19,10 +20,10 @@ import (
 )
 
 // A Tool does what commands other than serve do with the record of an office, or with that of a node of several machines, whose
-// folder Data is.
+// folder Data is, or with the file Part alone, which was moved away.
 type Tool struct {
-	Office, Data, Program string
-	HangTimeout           time.Duration
+	Office, Data, Part, Program string
+	HangTimeout                 time.Duration
 	// Out is for what is asked for, and Err for what else has to be known.
 	Out, Err io.Writer
 	Log      *logs.Logger
@@ -30,10 +31,21 @@ type Tool struct {
 
 // dir returns the folder of the record.
 func (t *Tool) dir() string {
-	if t.Data != "" {
+	switch {
+	case t.Data != "":
 		return DirIn(t.Data)
+	case t.Part != "":
+		return filepath.Dir(t.Part)
 	}
 	return DirOf(t.Office)
+}
+
+// files returns the paths of the files of the record, in the order of their entries.
+func (t *Tool) files() ([]string, error) {
+	if t.Part != "" {
+		return []string{t.Part}, nil
+	}
+	return filesOf(t.dir())
 }
 
 // glance is how long it is looked whether a front has the office.
@@ -44,10 +56,34 @@ func (t *Tool) lockIfFree(ctx context.Context) (*os.File, error) {
 	within, cancel := context.WithTimeout(ctx, glance)
 	defer cancel()
 	lock, err := single.Lock(within, t.Office+".lock")
+	if errors.Is(err, os.ErrPermission) || errors.Is(err, syscall.EROFS) {
+		return lockReadOnly(t.Office + ".lock")
+	}
 	if err != nil && within.Err() != nil && ctx.Err() == nil {
 		return nil, nil
 	}
 	return lock, err
+}
+
+// lockReadOnly locks a file that can't be written, unless a front has it: it returns nil then. If the file isn't there, no front has
+// it, and what is returned locks nothing.
+func lockReadOnly(path string) (*os.File, error) {
+	file, err := os.Open(path)
+	if errors.Is(err, os.ErrNotExist) {
+		return os.Open(os.DevNull)
+	}
+	if err != nil {
+		return nil, fmt.Errorf("lock: %w", err)
+	}
+	err = syscall.Flock(int(file.Fd()), syscall.LOCK_EX|syscall.LOCK_NB)
+	if err == nil {
+		return file, nil
+	}
+	_ = file.Close()
+	if errors.Is(err, syscall.EWOULDBLOCK) {
+		return nil, nil
+	}
+	return nil, fmt.Errorf("lock: %w", err)
 }
 
 var errFrontRuns = errors.New("a front has the office: stop it first")
@@ -83,30 +119,57 @@ func filesOf(dir string) ([]string, error) {
 		}
 		return nil, err
 	}
-	current := filepath.Join(dir, fileName)
-	about, err := os.Stat(current)
+	parts, _, err := partsIn(dir)
 	if err != nil {
 		return nil, err
+	}
+	return append(parts, filepath.Join(dir, fileName)), nil
+}
+
+// partsIn returns the paths of the files of earlier parts in a folder, in the order of their entries, and the other names of the file
+// at hand. A crash while a part was closed leaves such a name.
+func partsIn(dir string) (parts, left []string, err error) {
+	about, err := os.Stat(filepath.Join(dir, fileName))
+	if err != nil {
+		return nil, nil, err
 	}
 	found, err := filepath.Glob(filepath.Join(escapeGlob(dir), partPrefix+"*.db"))
 	if err != nil {
-		return nil, err
+		return nil, nil, err
 	}
 	firsts := map[string]int64{}
-	var files []string
 	for _, path := range found {
 		var first, last int64
 		if _, err := fmt.Sscanf(filepath.Base(path), partPrefix+"%d-%d.db", &first, &last); err != nil {
 			continue
 		}
-		// A crash while a part was closed leaves two names of one file.
-		if other, err := os.Stat(path); err == nil && !os.SameFile(about, other) {
+		other, err := os.Stat(path)
+		switch {
+		case err != nil:
+		case os.SameFile(about, other):
+			left = append(left, path)
+		default:
 			firsts[path] = first
-			files = append(files, path)
+			parts = append(parts, path)
 		}
 	}
-	sort.Slice(files, func(i, j int) bool { return firsts[files[i]] < firsts[files[j]] })
-	return append(files, current), nil
+	sort.Slice(parts, func(i, j int) bool { return firsts[parts[i]] < firsts[parts[j]] })
+	return parts, left, nil
+}
+
+// removeLeftNames removes the other names of the file at hand. With one of them the next cut would leave two names of one part. The
+// office is locked.
+func removeLeftNames(dir string) error {
+	_, left, err := partsIn(dir)
+	if err != nil {
+		return err
+	}
+	for _, path := range left {
+		if err := os.Remove(path); err != nil {
+			return err
+		}
+	}
+	return nil
 }
 
 // escapeGlob returns a pattern that matches a path alone.
@@ -123,8 +186,12 @@ type view struct {
 // openView opens a file as it is now.
 func openView(ctx context.Context, path string) (*view, error) {
 	v, err := openViewBy(ctx, path, "mode=ro&_busy_timeout="+busy)
-	if err != nil && strings.Contains(err.Error(), "unable to open") {
-		// A file beside which SQLite can't make its own, as in a backup that can't be written, isn't written by others either.
+	if err != nil && (strings.Contains(err.Error(), "unable to open") || strings.Contains(err.Error(), "readonly database")) {
+		// A file beside which SQLite can't make its own, as in a backup that can't be written, isn't written by others either. Opened
+		// in this way it is read without its log.
+		if log, logErr := os.Stat(path + walSuffix); logErr == nil && log.Size() > 0 {
+			return nil, fmt.Errorf("%s: it has a log, which can't be read in a folder that can't be written: copy the folder", path)
+		}
 		v, err = openViewBy(ctx, path, "mode=ro&immutable=1")
 	}
 	return v, err
@@ -153,7 +220,7 @@ func (v *view) Close() {
 
 // PrintHead prints the head.
 func (t *Tool) PrintHead(ctx context.Context) error {
-	files, err := filesOf(t.dir())
+	files, err := t.files()
 	if err != nil {
 		return err
 	}

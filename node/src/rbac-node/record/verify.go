@@ -8,6 +8,7 @@ import (
 	"fmt"
 	"os"
 	"path/filepath"
+	"sort"
 
 	"rbac-node/office"
 )
@@ -20,31 +21,65 @@ type verifier struct {
 	// of the record.
 	want *sums
 	at   Head
-	head *Head
+	// heads has the links that are known from elsewhere, by the numbers of their entries.
+	heads map[int64]string
+	// bases are the base copies that were there before the file at hand was opened.
+	bases []base
+	// newest is the last entry of the file that was read, which may have no answer.
+	newest int64
+	// isMissing says that entries aren't here.
+	isMissing bool
 	// last is the last entry that was read, and rows are those after it, if a rerun has led there.
 	last entry
 	rows string
 }
 
 // Verify reports whether the chain holds, whether the program gives the same answers, and whether the office has the rows that the
-// record gives. While a front has the office its rows are not compared. A head that is known from elsewhere shows whether the end
-// was cut off, or whether the chain was computed anew.
-func (t *Tool) Verify(ctx context.Context, head *Head) error {
-	if t.Data == "" {
+// record gives. While a front has the office its rows are not compared. Heads that are known from elsewhere show whether the end
+// was cut off, or whether the chain was computed anew. It returns ErrMissing if that is all that is wrong.
+func (t *Tool) Verify(ctx context.Context, heads []Head) error {
+	if t.Data == "" && t.Part == "" {
 		if err := CheckOffice(t.Office); err != nil {
 			return err
 		}
 	}
-	files, err := filesOf(t.dir())
+	files, err := t.files()
 	if err != nil {
 		return err
 	}
-	scratch, err := newScratch(t.Office+t.Data, t.dir(), forVerify)
+	scratch, err := newScratch(t.Office+t.Data+t.Part, t.dir(), forVerify)
 	if err != nil {
 		return err
 	}
 	defer os.RemoveAll(scratch)
-	v := &verifier{Tool: t, scratch: scratch, head: head}
+	v := &verifier{Tool: t, scratch: scratch, heads: map[int64]string{}}
+	for _, head := range heads {
+		if link, has := v.heads[head.N]; has && link != head.Chain {
+			return fmt.Errorf("entry %d has two known links: the chain was computed anew", head.N)
+		}
+		v.heads[head.N] = head.Chain
+	}
+	if err := v.files(ctx, files); err != nil {
+		return err
+	}
+	fmt.Fprintf(t.Out, "head %s\n", Head{v.last.n, v.last.ch})
+	if v.isMissing {
+		return ErrMissing
+	}
+	return nil
+}
+
+// ErrMissing is returned for a record of which all that is here is good.
+var ErrMissing = errors.New("what is here is good, but entries are missing")
+
+// files reads all files of a record.
+func (v *verifier) files(ctx context.Context, files []string) error {
+	if v.Part != "" {
+		if err := v.file(ctx, v.Part); err != nil {
+			return fmt.Errorf("%s: %w", v.Part, err)
+		}
+		return v.end()
+	}
 	current, err := v.look(ctx, files[len(files)-1])
 	if err != nil {
 		return err
@@ -58,13 +93,26 @@ func (t *Tool) Verify(ctx context.Context, head *Head) error {
 	if err := v.read(ctx, current, true); err != nil {
 		return fmt.Errorf("%s: %w", files[len(files)-1], err)
 	}
-	if t.Data != "" && v.want != nil {
+	if v.Data != "" && v.want != nil {
 		return fmt.Errorf("the newest snapshot is at entry %d, which is not here", v.at.N)
 	}
-	if head != nil && v.last.n < head.N {
-		return fmt.Errorf("the record ends at entry %d: those from there to %d are missing", v.last.n, head.N)
+	return v.end()
+}
+
+// end refuses a record that ends before a known head, or before a base copy.
+func (v *verifier) end() error {
+	last := v.last.n
+	for n := range v.heads {
+		if n > last {
+			last = n
+		}
 	}
-	fmt.Fprintf(t.Out, "head %s\n", Head{v.last.n, v.last.ch})
+	if v.last.n < last {
+		return fmt.Errorf("the record ends at entry %d: those from there to %d are missing", v.last.n, last)
+	}
+	if newest := len(v.bases) - 1; newest >= 0 && v.bases[newest].n > v.newest {
+		return fmt.Errorf("the base copy %s is of an entry that is not here", v.bases[newest].name())
+	}
 	return nil
 }
 
@@ -73,6 +121,12 @@ func (v *verifier) look(ctx context.Context, path string) (*view, error) {
 	if v.Data != "" {
 		return v.lookAtNode(ctx, path)
 	}
+	bases, err := basesIn(v.dir())
+	if err != nil {
+		return nil, err
+	}
+	sort.Slice(bases, func(i, j int) bool { return bases[i].n < bases[j].n })
+	v.bases = bases
 	lock, err := v.lockIfFree(ctx)
 	if err != nil {
 		return nil, err
@@ -143,9 +197,18 @@ func (v *verifier) file(ctx context.Context, path string) error {
 	if err := v.read(ctx, opened, false); err != nil {
 		return err
 	}
+	parts, err := partsOf(ctx, opened)
+	if err != nil {
+		return err
+	}
 	var first, last int64
-	if _, err := fmt.Sscanf(filepath.Base(path), partPrefix+"%d-%d.db", &first, &last); err == nil && v.last.n != last {
+	_, err = fmt.Sscanf(filepath.Base(path), partPrefix+"%d-%d.db", &first, &last)
+	switch {
+	case err != nil: // It has another name.
+	case v.last.n != last:
 		return fmt.Errorf("it ends at entry %d, and its name says %d", v.last.n, last)
+	case parts[0].first != first:
+		return fmt.Errorf("it begins with entry %d, and its name says %d", parts[0].first, first)
 	}
 	return nil
 }
@@ -171,8 +234,14 @@ func partsOf(ctx context.Context, opened *view) (parts []part, err error) {
 
 // read reads a file. The last one may have entries without an answer.
 func (v *verifier) read(ctx context.Context, opened *view, isLast bool) error {
+	if err := judgeFile(ctx, opened); err != nil {
+		return err
+	}
 	parts, err := partsOf(ctx, opened)
 	if err != nil {
+		return err
+	}
+	if err := v.judgeParts(ctx, opened, parts); err != nil {
 		return err
 	}
 	answered, last, err := lastOf(opened.tx)
@@ -182,6 +251,7 @@ func (v *verifier) read(ctx context.Context, opened *view, isLast bool) error {
 	if !isLast && last.n != answered.n {
 		return fmt.Errorf("entry %d has no answer", last.n)
 	}
+	v.newest = last.n
 	for i, p := range parts {
 		end, isEnd := answered.n, i == len(parts)-1
 		if !isEnd {
@@ -223,8 +293,14 @@ func (v *verifier) part(ctx context.Context, opened *view, p part, end int64, is
 	if err := v.compareNode(ctx, opened, p, end, again); err != nil {
 		return err
 	}
+	if err := v.compareBases(ctx, opened, p, end, again); err != nil {
+		return err
+	}
 	if err := again.each(ctx, v.checked(entriesAfter(ctx, opened.tx, v.last.n, end), p)); err != nil {
 		return err
+	}
+	if v.last.answer == unknown && isLast {
+		return fmt.Errorf("nobody knows the answer to entry %d, and no part begins anew after it", v.last.n)
 	}
 	if v.last.n != end {
 		return fmt.Errorf("entries %d to %d are missing", v.last.n+1, end)
@@ -257,12 +333,17 @@ func (v *verifier) join(p part) error {
 	switch next := v.last.n + 1; {
 	case p.first < next:
 		return fmt.Errorf("the part that begins with entry %d comes after entry %d", p.first, v.last.n)
+	case p.first > next && v.Part != "" && v.last.n == 0:
+		fmt.Fprintf(v.Out, "entry %d follows the head %s\n", p.first, Head{p.first - 1, p.before})
+		v.last = entry{n: p.first - 1, ch: p.before}
 	case p.first > next:
 		fmt.Fprintln(v.Out, missing(next, p))
-		if v.head != nil && next <= v.head.N && v.head.N < p.first {
-			return fmt.Errorf("entry %d, whose link is known, is not here", v.head.N)
+		for n := range v.heads {
+			if next <= n && n < p.first {
+				return fmt.Errorf("entry %d, whose link is known, is not here", n)
+			}
 		}
-		v.last = entry{n: p.first - 1, ch: p.before}
+		v.last, v.isMissing = entry{n: p.first - 1, ch: p.before}, true
 	case p.before != v.last.ch:
 		return fmt.Errorf("the part that begins with entry %d does not follow entry %d", p.first, v.last.n)
 	case (p.why == continued || p.why == joined) && p.rows != v.rows:
@@ -281,8 +362,9 @@ func (v *verifier) checked(next func() (*entry, error), p part) func() (*entry, 
 		if err != nil || e == nil {
 			return e, err
 		}
-		begins := p.entry("")
+		begins := p.entry(e.at)
 		isFirst := begins != nil && e.n == p.first
+		link, isKnown := v.heads[e.n]
 		switch {
 		case e.n != v.last.n+1:
 			return nil, fmt.Errorf("entry %d is missing", v.last.n+1)
@@ -290,9 +372,11 @@ func (v *verifier) checked(next func() (*entry, error), p part) func() (*entry, 
 			return nil, fmt.Errorf("entry %d has no answer", e.n)
 		case chained(v.last.ch, e) != e.ch:
 			return nil, fmt.Errorf("the chain breaks at entry %d: it or the one before it was changed", e.n)
-		case v.head != nil && v.head.N == e.n && v.head.Chain != e.ch:
+		case isKnown && link != e.ch:
 			return nil, fmt.Errorf("entry %d has another link than the one that is known: the chain was computed anew", e.n)
-		case isFirst && e.request != begins.request || !isFirst && !e.isCommand() && !e.isReview():
+		case v.last.answer == unknown && e.answer != unknown && !(isFirst && p.why == adopted):
+			return nil, fmt.Errorf("nobody knows the answer to entry %d, and no part begins anew after it", v.last.n)
+		case isFirst && *e != *begins || !isFirst && !e.isCommand() && !e.isReview():
 			return nil, fmt.Errorf("entry %d is not what its part says", e.n)
 		}
 		v.last = *e
