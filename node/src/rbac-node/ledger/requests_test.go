@@ -41,6 +41,7 @@ func (f *fakeKV) commit(ctx context.Context) (*clientv3.TxnResponse, error) {
 	}
 	found := &etcdserverpb.RangeResponse{Kvs: []*mvccpb.KeyValue{{ModRevision: revision}}}
 	return &clientv3.TxnResponse{Responses: []*etcdserverpb.ResponseOp{
+		{Response: &etcdserverpb.ResponseOp_ResponseRange{ResponseRange: &etcdserverpb.RangeResponse{}}},
 		{Response: &etcdserverpb.ResponseOp_ResponseRange{ResponseRange: found}},
 	}}, nil
 }
@@ -67,7 +68,7 @@ func TestHead(t *testing.T) {
 		return context.WithValue(context.Background(), wanted{}, revision)
 	}
 	for _, one := range []struct{ read, newest int64 }{{7, 7}, {9, 9}, {5, 9}} {
-		if given, err := l.Head(reads(one.read)); given != one.read || l.head.Load() != one.newest || err != nil {
+		if given, err := l.Head(reads(one.read), Place{}); given != one.read || l.head.Load() != one.newest || err != nil {
 			t.Errorf("a read of %d returns %d, %v, and the newest is %d", one.read, given, err, l.head.Load())
 		}
 	}
@@ -78,7 +79,7 @@ func TestHead(t *testing.T) {
 		go func() {
 			defer group.Done()
 			for i := 0; i < 20_000; i++ {
-				if given, err := l.Head(reads(reader)); given != reader || err != nil {
+				if given, err := l.Head(reads(reader), Place{}); given != reader || err != nil {
 					t.Errorf("a read of %d returns %d, %v", reader, given, err)
 					return
 				}
@@ -107,7 +108,7 @@ func TestAttempts(t *testing.T) {
 			attempts := 0
 			within, cancel := context.WithTimeout(context.Background(), 200*time.Millisecond)
 			defer cancel()
-			_, err := newFake(t, func(context.Context) (int64, error) { attempts++; return 0, one.err }).Head(within)
+			_, err := newFake(t, func(context.Context) (int64, error) { attempts++; return 0, one.err }).Head(within, Place{})
 			if !errors.Is(err, one.err) || (attempts == 1) != one.isFinal || attempts > 5 {
 				t.Errorf("%d attempts: %v", attempts, err)
 			}

@@ -39,7 +39,7 @@ const (
 // themselves.
 type Log interface {
 	Append(ctx context.Context, id string, units []ledger.Unit) (entry ledger.Entry, before int64, err error)
-	Head(ctx context.Context) (int64, error)
+	Head(ctx context.Context, done ledger.Place) (int64, error)
 	Follow(ctx context.Context, after int64, deliver func(ledger.Entry) error) error
 	State(ctx context.Context) (ledger.State, error)
 	Trim(ctx context.Context, state ledger.State, needless int64) (floor int64, err error)
@@ -128,6 +128,8 @@ type Node struct {
 	isFed atomic.Bool
 	// applied is the place of the log up to which all entries have their answers.
 	applied atomic.Pointer[place]
+	// done is the place of the last entry that was fed, or of the snapshot of the start.
+	done atomic.Pointer[ledger.Place]
 	// heard is when the newest read of the log began whose entries all have their answers, in nanoseconds since the
 	// start, or -1.
 	heard atomic.Int64
@@ -169,6 +171,7 @@ func New(options Options, shared Log, log *logs.Logger, registry *metrics.Regist
 	}
 	n.heard.Store(-1)
 	n.applied.Store(&place{})
+	n.done.Store(&ledger.Place{})
 	n.differs.Store("")
 	n.stage.Store("etcd is asked")
 	n.addMetrics(registry)

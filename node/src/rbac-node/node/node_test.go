@@ -11,6 +11,7 @@ import (
 	"time"
 
 	"rbac-node/api"
+	"rbac-node/ledger"
 	"rbac-node/logs"
 	"rbac-node/metrics"
 	"rbac-node/office"
@@ -97,6 +98,22 @@ func TestApply(t *testing.T) {
 	}
 	if at := n.applied.Load(); at.revision != 2 || at.count != 5 {
 		t.Errorf("applied is %+v", at)
+	}
+}
+
+// A node ends when the log no longer has what it has done, whoever asks.
+func TestLogWentBack(t *testing.T) {
+	n, log, _ := newNode(t)
+	running(t, n.feed)
+	done := entry(7, "a")
+	n.tasks <- task{0, func() { n.apply(done) }}
+	eventually(t, "it is done", func() bool { return n.applied.Load().revision == 7 })
+	log.lost = ledger.ErrWentBack
+	if err := n.confirm(context.Background()); !errors.Is(err, ledger.ErrWentBack) {
+		t.Errorf("%v", err)
+	}
+	if log.done != done.Place {
+		t.Errorf("it asks for %+v", log.done)
 	}
 }
 

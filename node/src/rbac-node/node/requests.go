@@ -2,6 +2,7 @@ package node
 
 import (
 	"context"
+	"errors"
 	"fmt"
 	"net/http"
 	"time"
@@ -244,7 +245,8 @@ func (n *Node) appendBatch(ctx context.Context, id string, b *batch) error {
 
 // confirm reads the newest revision of the log through a quorum. One read is for all questions that wait when it
 // begins; those that come during the read wait for the next one. With each read the replay is probed, so that it is
-// known what it has answered, and that it answers.
+// known what it has answered, and that it answers. If the log no longer has what the replay has done, the node ends: so no question
+// is answered from what was taken back.
 func (n *Node) confirm(ctx context.Context) error {
 	for ctx.Err() == nil {
 		waiting, end := context.WithTimeout(ctx, readInterval)
@@ -252,7 +254,8 @@ func (n *Node) confirm(ctx context.Context) error {
 		end()
 		read := time.Since(n.start)
 		within, cancel := context.WithTimeout(ctx, n.options.AnswerTimeout)
-		if head, err := n.shared.Head(within); err == nil { // Otherwise the askers have waited long enough.
+		head, err := n.shared.Head(within, *n.done.Load())
+		if err == nil { // Otherwise the askers have waited long enough.
 			n.seen.Store(head)
 			_ = n.submit(within, task{head, func() {
 				n.send([]byte(probe), func([]byte) { n.hear(read) })
@@ -260,6 +263,9 @@ func (n *Node) confirm(ctx context.Context) error {
 			}})
 		}
 		cancel()
+		if errors.Is(err, ledger.ErrWentBack) {
+			return err
+		}
 	}
 	return nil
 }
