@@ -3,6 +3,7 @@ package node
 import (
 	"context"
 	"fmt"
+	"os"
 	"time"
 
 	"rbac-node/ledger"
@@ -23,7 +24,7 @@ type copied struct {
 }
 
 // takeSnapshot copies the office between two runs of the replay. What takes long is done in the background. If an
-// earlier snapshot isn't finished yet, none is made at this place.
+// earlier snapshot isn't finished yet, or the copy fails, there is none of this place.
 func (n *Node) takeSnapshot() error {
 	if len(n.copies) == cap(n.copies) {
 		n.log.Warn("no snapshot: the last one is not finished yet", "revision", n.revision)
@@ -32,12 +33,13 @@ func (n *Node) takeSnapshot() error {
 	if err := n.replay.Close(); err != nil {
 		return err
 	}
-	file, err := n.store.Begin(n.file())
-	if err != nil {
-		return err
-	}
+	file, failed := n.store.Begin(n.file())
 	if err := n.reopen(); err != nil {
 		return err
+	}
+	if failed != nil {
+		n.noteSnapshot(n.revision, failed)
+		return nil
 	}
 	made := office.Snapshot{Revision: n.revision, Count: n.count, Record: n.head()}
 	if n.order.isExact {
@@ -45,6 +47,14 @@ func (n *Node) takeSnapshot() error {
 	}
 	n.copies <- copied{file, made}
 	return nil
+}
+
+// noteSnapshot notes whether the snapshot of a place was made. Without it the node goes on, and takes one at the next place.
+func (n *Node) noteSnapshot(revision int64, err error) {
+	n.isFailing.Store(err != nil)
+	if err != nil {
+		n.log.Error("no snapshot: the log can't be trimmed until there is one of a later place", "revision", revision, "why", err)
+	}
 }
 
 // maintain finishes snapshots, and checks again and again what all nodes report about theirs. A full etcd refuses what is
@@ -59,10 +69,12 @@ func (n *Node) maintain(ctx context.Context) error {
 		n.attempt(ctx, "the log is not trimmed", n.trimLog)
 		select {
 		case one := <-n.copies:
-			if err := n.finish(ctx, one); err != nil {
-				return err
+			err := n.finish(ctx, one)
+			if ctx.Err() != nil {
+				return nil
 			}
-			isRegistered = false
+			n.noteSnapshot(one.snapshot.Revision, err)
+			isRegistered = isRegistered && err != nil
 		case <-ticker.C:
 		case <-ctx.Done():
 			return nil
@@ -87,6 +99,7 @@ func (n *Node) finish(ctx context.Context, one copied) error {
 	defer cancel()
 	if n.options.Record != nil && one.snapshot.Record != "" {
 		if err := n.options.Record.Keep(within, one.snapshot.Record); err != nil {
+			_ = os.Remove(one.file)
 			return err
 		}
 	}

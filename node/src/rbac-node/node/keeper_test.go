@@ -142,6 +142,44 @@ func TestTakeSnapshotWithoutReplay(t *testing.T) {
 	}
 }
 
+// A snapshot that fails ends no node: the office can't be copied, or what was copied can't be checked. The node says so until it has
+// one of a later place, and leaves nothing of what failed.
+func TestFailedSnapshot(t *testing.T) {
+	n, log, _ := newNode(t)
+	n.options.SnapshotCommands = 1
+	left := func() int {
+		t.Helper()
+		files, err := filepath.Glob(filepath.Join(office.FolderIn(n.options.Data), "*"))
+		if err != nil {
+			t.Fatal(err)
+		}
+		return len(files)
+	}
+	n.apply(entry(1, "a")) // There is no office to copy.
+	if n.err != nil || !n.isFailing.Load() || len(n.copies) > 0 {
+		t.Fatalf("%v", n.err)
+	}
+	officeOf(t, n)
+	n.isFailing.Store(false)
+	n.apply(entry(2, "b")) // There is no program to check the copy.
+	if n.err != nil || len(n.copies) != 1 {
+		t.Fatalf("%v", n.err)
+	}
+	running(t, n.maintain)
+	eventually(t, "it has failed", n.isFailing.Load)
+	eventually(t, "it is registered", func() bool { return log.registrations() > 0 })
+	if left() > 0 {
+		t.Errorf("%d files are left", left())
+	}
+	if sent := n.replay.(*fakeReplay).sent(); len(sent) != 0 {
+		t.Errorf("sent was %v", sent)
+	}
+	n.apply(entry(3, "c"))
+	if n.err != nil || n.applied.Load().revision != 3 {
+		t.Errorf("it doesn't go on: %v", n.err)
+	}
+}
+
 // A full etcd refuses registrations: the node goes on, and registers as soon as it can.
 func TestKeepWithFullLog(t *testing.T) {
 	n, log, _ := newNode(t)

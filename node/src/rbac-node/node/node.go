@@ -137,6 +137,8 @@ type Node struct {
 	// this one in the order of their names. stage says what a start does.
 	snapshot, seen, rank atomic.Int64
 	stage                atomic.Value
+	// isFailing says that the last snapshot that was begun has failed.
+	isFailing atomic.Bool
 	// differs is the text that describes where this node differs from most others, or empty.
 	differs atomic.Value
 }

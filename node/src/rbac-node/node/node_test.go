@@ -202,6 +202,15 @@ func TestRenewed(t *testing.T) {
 	}
 }
 
+// A node that could take no snapshots doesn't start.
+func TestNewWithoutDigester(t *testing.T) {
+	t.Setenv("PATH", t.TempDir())
+	n, err := New(Options{Data: t.TempDir()}, newFakeLog(), logs.New(io.Discard), &metrics.Registry{})
+	if n != nil || err == nil || !strings.Contains(err.Error(), "sqlite3") {
+		t.Errorf("%v, %v", n, err)
+	}
+}
+
 // Two nodes may be in one process, and one that can't be made is none.
 func TestNew(t *testing.T) {
 	for i := 0; i < 2; i++ {
