@@ -40,6 +40,16 @@ type Place struct {
 	key string
 }
 
+// Size returns how many bytes the unit takes in an entry, with the line that says who asks.
+func (u *Unit) Size() int {
+	head, _ := json.Marshal(u) // It has nothing that can't be written.
+	size := len(head) + 1
+	for _, line := range u.Lines {
+		size += len(line) + 1
+	}
+	return size
+}
+
 // An Entry is a batch of units with its place in the order.
 type Entry struct {
 	Place

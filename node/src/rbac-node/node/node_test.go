@@ -85,14 +85,14 @@ func TestFeedEndsWithReplay(t *testing.T) {
 // An entry is applied once, and what waits for it comes after it, in the order of the log.
 func TestApply(t *testing.T) {
 	n, _, first := newNode(t)
-	n.perform(task{2, func() { n.sendQuestions(&request{nil, of(api.Question, "q2"), make(chan reply, 1)}) }})
+	n.perform(task{2, func() { n.sendQuestions(newRequest(nil, of(api.Question, "q2"))) }})
 	n.perform(task{1, func() { n.apply(entry(2, "c")) }})
 	n.perform(task{0, func() { n.apply(entry(1, "a", "", strings.Repeat("x", office.MaxLineBytes+1), "b")) }})
 	n.perform(task{0, func() { n.apply(entry(1, "a")) }})
 	n.perform(task{0, func() { n.apply(entry(2, "c")) }})
 	over, cancel := context.WithCancel(context.Background())
 	cancel()
-	n.sendQuestions(&request{over.Done(), of(api.Question, "nobody waits"), nil})
+	n.sendQuestions(newRequest(over.Done(), of(api.Question, "nobody waits")))
 	if sent := strings.Join(first.sent(), " "); sent != "a b c q2" || len(n.held) > 0 {
 		t.Errorf("sent was %s, and %d wait", sent, len(n.held))
 	}
