@@ -364,6 +364,19 @@ type Member struct {
 	Snapshots []office.Snapshot `json:"snapshots"`
 	// Form is the newest form of entries that it reads, or 0 if that is form 1.
 	Form int `json:"form,omitempty"`
+	// Run names the run of the node that reports this, and Settings what has to be the same on all nodes. Older nodes report neither.
+	Run      string    `json:"run,omitempty"`
+	Settings *Settings `json:"settings,omitempty"`
+}
+
+// Settings say at which places of the log nodes take snapshots.
+type Settings struct {
+	Every      int64 `json:"every"`
+	EveryBytes int64 `json:"every_bytes"`
+}
+
+func (s Settings) String() string {
+	return fmt.Sprintf("--every %d --every-bytes %d", s.Every, s.EveryBytes)
 }
 
 // Register writes what a node reports about itself.

@@ -2,8 +2,10 @@ package node
 
 import (
 	"context"
+	"errors"
 	"fmt"
 	"os"
+	"strconv"
 	"time"
 
 	"rbac-node/ledger"
@@ -67,6 +69,9 @@ func (n *Node) maintain(ctx context.Context) error {
 			isRegistered = n.attempt(ctx, "the snapshots are not registered", n.announce)
 		}
 		n.attempt(ctx, "the log is not trimmed", n.trimLog)
+		if n.isTaken {
+			return errNameTaken
+		}
 		select {
 		case one := <-n.copies:
 			err := n.finish(ctx, one)
@@ -121,8 +126,24 @@ func (n *Node) announce(ctx context.Context) error {
 	if len(found) > 0 {
 		n.snapshot.Store(found[0].Revision)
 	}
-	return n.shared.Register(ctx, ledger.Member{Name: n.options.Name, Peer: n.options.Peer, Snapshots: found})
+	settings := n.settings()
+	err = n.shared.Register(ctx, ledger.Member{
+		Name: n.options.Name, Peer: n.options.Peer, Snapshots: found, Run: n.run(), Settings: &settings,
+	})
+	n.isNamed = n.isNamed || err == nil
+	return err
 }
+
+// run names this run of the node.
+func (n *Node) run() string { return strconv.FormatInt(n.start.UnixNano(), 36) }
+
+// settings are what has to be the same on all nodes.
+func (n *Node) settings() ledger.Settings {
+	return ledger.Settings{Every: n.options.SnapshotCommands, EveryBytes: n.options.SnapshotBytes}
+}
+
+// errNameTaken reports that two nodes have one name.
+var errNameTaken = errors.New("another node has registered under the name of this one since: give each node another --name")
 
 // trimLog judges the snapshots of all nodes, and trims the log.
 func (n *Node) trimLog(ctx context.Context) error {
@@ -134,6 +155,7 @@ func (n *Node) trimLog(ctx context.Context) error {
 	for i, member := range state.Members { // They are in the order of their names.
 		if member.Name == n.options.Name {
 			n.rank.Store(int64(i))
+			n.isTaken = n.isNamed && member.Run != "" && member.Run != n.run()
 		}
 	}
 	if err := n.judgeSnapshots(state.Members); err != nil {
@@ -160,6 +182,9 @@ func (n *Node) judgeSnapshots(members []ledger.Member) error {
 		return err
 	}
 	why := difference(n.options.Name, own, members)
+	if why == "" {
+		why = otherSettings(n.options.Name, n.settings(), members)
+	}
 	if n.differs.Swap(why) != why && why != "" {
 		n.log.Error("refusing to serve", "why", why)
 	}
@@ -192,6 +217,26 @@ func difference(name string, own []office.Snapshot, members []ledger.Member) str
 		}
 	}
 	return ""
+}
+
+// otherSettings reports that most nodes take snapshots at other places than a node, if they do: with no place in common wrong rows would
+// be found nowhere. Of two nodes the one with the later name has to change.
+func otherSettings(name string, own ledger.Settings, members []ledger.Member) string {
+	agree, differ := 1, []ledger.Member{}
+	for _, member := range members {
+		switch {
+		case member.Name == name || member.Settings == nil:
+		case *member.Settings == own:
+			agree++
+		default:
+			differ = append(differ, member)
+		}
+	}
+	if len(differ) < agree || len(differ) == agree && name < differ[0].Name {
+		return ""
+	}
+	return fmt.Sprintf("%s differs: it has %s, and %s has %s; start all nodes with the same, and delete the keys of those that are gone",
+		name, own, differ[0].Name, differ[0].Settings)
 }
 
 // snapshotAt returns the snapshot of a node at a revision.

@@ -137,6 +137,9 @@ type Node struct {
 	// this one in the order of their names. stage says what a start does.
 	snapshot, seen, rank atomic.Int64
 	stage                atomic.Value
+	// isNamed says that this node is registered, and isTaken that another one is under the same name. Both belong to the goroutine that
+	// finishes snapshots.
+	isNamed, isTaken bool
 	// isFailing says that the last snapshot that was begun has failed.
 	isFailing atomic.Bool
 	// differs is the text that describes where this node differs from most others, or empty.
