@@ -480,10 +480,14 @@ func (f *follower) catchUp(ctx context.Context) (revision int64, err error) {
 
 // keys returns the keys of the entries that were not delivered yet, in the order of the log, and the revision up to which
 // it has all of them. etcd reads whole entries for their keys, and all that there are if it has to sort or to select
-// them: so it is asked for a few at once.
+// them: so it is asked for a few at once. Those of generations that ended before what was delivered are left out.
 func (f *follower) keys(ctx context.Context) (found []*mvccpb.KeyValue, revision int64, err error) {
 	end := clientv3.WithRange(clientv3.GetPrefixRangeEnd("log/"))
-	for from, more := "log/", true; more; {
+	from := "log/"
+	if generation := f.generation.Load(); generation <= f.after {
+		from = keyOf(generation)
+	}
+	for more := true; more; {
 		reply, err := f.transact(ctx, "read of the log", clientv3.OpGet("floor"),
 			clientv3.OpGet(from, end, clientv3.WithKeysOnly(), clientv3.WithLimit(maxPageKeys)))
 		if err != nil {

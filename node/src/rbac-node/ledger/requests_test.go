@@ -226,3 +226,57 @@ func TestPages(t *testing.T) {
 		})
 	}
 }
+
+// A keysKV counts the reads of keys alone.
+type keysKV struct {
+	clientv3.KV
+	reads int
+}
+
+type keysTxn struct {
+	clientv3.Txn
+	kv *keysKV
+}
+
+func (k *keysKV) Txn(ctx context.Context) clientv3.Txn { return &keysTxn{k.KV.Txn(ctx), k} }
+
+func (k *keysTxn) Then(ops ...clientv3.Op) clientv3.Txn {
+	for _, op := range ops {
+		if op.IsKeysOnly() {
+			k.kv.reads++
+		}
+	}
+	return k.Txn.Then(ops...)
+}
+
+// Who goes on from a place in the newest generation doesn't read the keys of earlier ones.
+func TestKeysFromPlace(t *testing.T) {
+	l := newLedger(t)
+	for i := 0; i < 3*maxPageKeys; i++ {
+		mustAppend(t, l, fmt.Sprint("old", i))
+	}
+	mustTrim(t, l, head(t, l), true)
+	begins := mustState(t, l).generation
+	mustAppend(t, l, "new1")
+	place := head(t, l)
+	mustAppend(t, l, "new2")
+	for _, one := range []struct {
+		name           string
+		after          int64
+		entries, reads int
+	}{
+		{"the beginning", 0, 3*maxPageKeys + 2, 4},
+		{"the last entry but one", place, 1, 1},
+		{"the beginning of the generation", begins, 2, 1},
+		{"the place before it", begins - 1, 2, 4},
+	} {
+		counting := &keysKV{KV: l.kv}
+		later := New(l.client, "test", logs.New(io.Discard))
+		later.generation.Store(begins)
+		later.kv = counting
+		found, err := all(t, later, one.after)
+		if err != nil || len(found) != one.entries || counting.reads != one.reads {
+			t.Errorf("from %s: %d entries by %d reads of keys, %v", one.name, len(found), counting.reads, err)
+		}
+	}
+}
