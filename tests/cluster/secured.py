@@ -44,12 +44,13 @@ class Secured:
         ]  # fmt: skip
         self.processes = [Process(words, bench.path("etcd.log"))]
 
-    def ctl(self, *words):
-        """Runs etcdctl, and returns whether it succeeded."""
+    def ctl(self, *words, typed=""):
+        """Runs etcdctl with an input, and returns whether it succeeded."""
         command = ["etcdctl", "--endpoints", self.etcd, "--cacert", "ca.crt", "--cert", "client.crt", "--key", "client.key", *words]
         done = subprocess.run(
-            command, cwd=self.bench.folder, env={**os.environ, "ETCDCTL_API": "3"}, capture_output=True, timeout=SECONDS, check=False
-        )
+            command, cwd=self.bench.folder, env={**os.environ, "ETCDCTL_API": "3"}, input=typed.encode(), capture_output=True,
+            timeout=SECONDS, check=False,
+        )  # fmt: skip
         return done.returncode == 0
 
     def node(self, i, program):
@@ -107,6 +108,17 @@ def wait(holds, what):
         time.sleep(0.1)
 
 
+def judge_password(bench, secured):
+    """Nodes go on after the password of their user in etcd has changed, once the file has the new one."""
+    words = "--user root:secret user passwd node --interactive=false".split()
+    bench.same("the password is changed", secured.ctl(*words, typed="another\n"), True)
+    (bench.folder / "password").write_text("another\n", encoding="utf-8")
+    for i, (here, _) in enumerate(secured.ports):
+        command = json.dumps({"user": f"changed{i}"})
+        wait(lambda: secured.ask(here, "POST", "/v1/addUser", command)[0] in (200, 409), f"node {i} does commands")  # noqa: B023
+        bench.same(f"node {i} has not ended", secured.processes[1 + i].process.poll(), None)
+
+
 def check_secured(bench):
     """Only clients with a certificate of the authority get answers, at both ports; a new node fetches a snapshot."""
     secured = Secured(bench)
@@ -139,6 +151,7 @@ def check_secured(bench):
         bench.same("it has fetched a snapshot", "fetched a snapshot" in said, True)
         given = secured.ask(secured.ports[1][0], "POST", "/v1/assignedRoles", '{"user":"a"}')
         bench.same("a question to the new node", given, (200, b'{"ok":true,"value":[]}'))
+        judge_password(bench, secured)
     finally:
         for process in reversed(secured.processes):
             process.stop()

@@ -40,11 +40,11 @@ def check_texts(bench):
 # The files of one side of connections.
 FILES = ("cert", "key", "ca")
 
-# Options of other programs on the page: of etcd, etcdctl, curl, useradd and systemctl.
+# Options of other programs on the page: of etcd, etcdctl, curl, useradd, systemctl and the tests.
 OTHERS = {
     "data-dir", "initial-cluster", "initial-cluster-state", "initial-advertise-peer-urls", "listen-peer-urls",
     "listen-client-urls", "advertise-client-urls", "initial-cluster-token", "endpoints", "prefix", "print-value-only",
-    "system", "home-dir", "shell", "now", "peer-urls", "long", "quota-backend-bytes",
+    "system", "home-dir", "shell", "now", "peer-urls", "long", "quota-backend-bytes", "gate",
 }  # fmt: skip
 
 

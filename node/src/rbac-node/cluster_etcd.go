@@ -15,6 +15,7 @@ import (
 	"time"
 
 	"go.etcd.io/etcd/clientv3"
+	"go.etcd.io/etcd/etcdserver/etcdserverpb"
 	"go.uber.org/zap"
 	"google.golang.org/grpc"
 
@@ -49,13 +50,36 @@ func (s *clusterSettings) connect() (*clientv3.Client, error) {
 		return nil, err
 	}
 	if s.passwordFile != "" {
-		password, err := os.ReadFile(s.passwordFile)
-		if err != nil {
-			return nil, fmt.Errorf("password: %w", err)
+		if config.Password, err = passwordIn(s.passwordFile); err != nil {
+			return nil, err
 		}
-		config.Password = strings.TrimSpace(string(password))
+		config.DialOptions = append(config.DialOptions, grpc.WithChainUnaryInterceptor(withPasswordIn(s.passwordFile)))
 	}
 	return clientv3.New(config)
+}
+
+func passwordIn(file string) (string, error) {
+	password, err := os.ReadFile(file)
+	if err != nil {
+		return "", fmt.Errorf("password: %w", err)
+	}
+	return strings.TrimSpace(string(password)), nil
+}
+
+// withPasswordIn makes a client of etcd ask for each token with the password that a file has then.
+func withPasswordIn(file string) grpc.UnaryClientInterceptor {
+	return func(
+		ctx context.Context, method string, request, reply any, conn *grpc.ClientConn, invoke grpc.UnaryInvoker, options ...grpc.CallOption,
+	) error {
+		if asked, is := request.(*etcdserverpb.AuthenticateRequest); is {
+			password, err := passwordIn(file)
+			if err != nil {
+				return err
+			}
+			request = &etcdserverpb.AuthenticateRequest{Name: asked.Name, Password: password}
+		}
+		return invoke(ctx, method, request, reply, conn, options...)
+	}
 }
 
 // hostsOf returns the names and addresses in URLs.

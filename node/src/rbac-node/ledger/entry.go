@@ -32,11 +32,28 @@ type Unit struct {
 	Lines [][]byte `json:"-"`
 }
 
-// An Entry is a batch of units with its place in the order.
-type Entry struct {
+// A Place names an entry of the log. Without an ID it is a revision alone, such as that of a snapshot.
+type Place struct {
 	Revision int64
 	ID       string
-	Units    []Unit
+	// key is that of the entry below the prefix.
+	key string
+}
+
+// Size returns how many bytes the unit takes in an entry, with the line that says who asks.
+func (u *Unit) Size() int {
+	head, _ := json.Marshal(u) // It has nothing that can't be written.
+	size := len(head) + 1
+	for _, line := range u.Lines {
+		size += len(line) + 1
+	}
+	return size
+}
+
+// An Entry is a batch of units with its place in the order.
+type Entry struct {
+	Place
+	Units []Unit
 	// Form is that in which it was written.
 	Form int
 }
@@ -72,8 +89,8 @@ func textOf(units []Unit, form int) (string, error) {
 }
 
 // entryOf reads an entry.
-func entryOf(revision int64, id string, text []byte) Entry {
-	e, lines := Entry{Revision: revision, ID: id, Form: 1}, bytes.Split(text, []byte("\n"))
+func entryOf(place Place, text []byte) Entry {
+	e, lines := Entry{Place: place, Form: 1}, bytes.Split(text, []byte("\n"))
 	if !bytes.HasPrefix(text, beginsUnit) {
 		e.Units = []Unit{{Lines: lines}}
 		return e

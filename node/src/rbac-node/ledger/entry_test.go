@@ -39,13 +39,13 @@ func TestEntryText(t *testing.T) {
 			if err != nil {
 				t.Fatal(err)
 			}
-			e := entryOf(7, "a", []byte(text))
+			e := entryOf(Place{Revision: 7, ID: "a"}, []byte(text))
 			if e.Form != one.form || e.Revision != 7 || !reflect.DeepEqual(e.Units, one.read) {
 				t.Errorf("%s is read as %+v", text, e)
 			}
 		})
 	}
-	spoiled := entryOf(7, "a", []byte(`{"by":"ann"`+"\n"+first+"\n"+`{"by":"b","at":"c"}`+"\n"+second))
+	spoiled := entryOf(Place{Revision: 7, ID: "a"}, []byte(`{"by":"ann"`+"\n"+first+"\n"+`{"by":"b","at":"c"}`+"\n"+second))
 	want := []Unit{{Lines: lines(first)}, {Caller: "b", At: "c", Lines: lines(second)}}
 	if !reflect.DeepEqual(spoiled.Units, want) {
 		t.Errorf("an entry that no node has written is read as %+v", spoiled.Units)

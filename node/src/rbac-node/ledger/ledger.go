@@ -54,6 +54,10 @@ const (
 // ErrTrimmed reports that entries that are still needed were deleted.
 var ErrTrimmed = errors.New("the log was trimmed meanwhile")
 
+// ErrWentBack reports that the log is not the one that it was.
+var ErrWentBack = errors.New("etcd no longer has what this node has done: it was restored to an earlier time, so move the snapshots of " +
+	"all nodes that are newer away")
+
 // errSlow reports that a page of the log didn't come in time.
 var errSlow = errors.New("a page of the log did not come in time")
 
@@ -242,7 +246,7 @@ func (l *Ledger) Append(ctx context.Context, id string, units []Unit) (entry Ent
 		case err != nil:
 			return entry, 0, err
 		case reply.Succeeded:
-			return entryOf(reply.Header.Revision, id, []byte(text)), revisionOf(read(reply, 0)), nil
+			return entryOf(Place{reply.Header.Revision, id, key}, []byte(text)), revisionOf(read(reply, 0)), nil
 		case len(read(reply, 1)) > 0:
 			return entry, 0, nil
 		}
@@ -255,13 +259,28 @@ func (l *Ledger) Append(ctx context.Context, id string, units []Unit) (entry Ent
 	}
 }
 
-// Head returns the revision of the newest entry.
-func (l *Ledger) Head(ctx context.Context) (int64, error) {
-	reply, err := l.transact(ctx, "read of the head", clientv3.OpGet("head"))
+// Head returns the revision of the newest entry. It fails with ErrWentBack if the log hasn't a place that was done before the call.
+func (l *Ledger) Head(ctx context.Context, done Place) (int64, error) {
+	ops := []clientv3.Op{clientv3.OpGet("floor"), clientv3.OpGet("head")}
+	if done.key != "" {
+		ops = append(ops, clientv3.OpGet(done.key, clientv3.WithKeysOnly()))
+	}
+	reply, err := l.transact(ctx, "read of the head", ops...)
 	if err != nil {
 		return 0, err
 	}
-	head := revisionOf(read(reply, 0))
+	floor, err := floorOf(reply)
+	if err != nil {
+		return 0, err
+	}
+	head := revisionOf(read(reply, 1))
+	isAdopted := head == 0 && floor == done.Revision // Then the log begins after a place without an entry.
+	if head < done.Revision && !isAdopted {
+		return 0, ErrWentBack
+	}
+	if done.key != "" && done.key >= keyOf(floor) && revisionOf(read(reply, 2)) != done.Revision {
+		return 0, ErrWentBack
+	}
 	raiseTo(&l.head, head)
 	return head, nil
 }
@@ -345,6 +364,19 @@ type Member struct {
 	Snapshots []office.Snapshot `json:"snapshots"`
 	// Form is the newest form of entries that it reads, or 0 if that is form 1.
 	Form int `json:"form,omitempty"`
+	// Run names the run of the node that reports this, and Settings what has to be the same on all nodes. Older nodes report neither.
+	Run      string    `json:"run,omitempty"`
+	Settings *Settings `json:"settings,omitempty"`
+}
+
+// Settings say at which places of the log nodes take snapshots.
+type Settings struct {
+	Every      int64 `json:"every"`
+	EveryBytes int64 `json:"every_bytes"`
+}
+
+func (s Settings) String() string {
+	return fmt.Sprintf("--every %d --every-bytes %d", s.Every, s.EveryBytes)
 }
 
 // Register writes what a node reports about itself.
@@ -448,10 +480,14 @@ func (f *follower) catchUp(ctx context.Context) (revision int64, err error) {
 
 // keys returns the keys of the entries that were not delivered yet, in the order of the log, and the revision up to which
 // it has all of them. etcd reads whole entries for their keys, and all that there are if it has to sort or to select
-// them: so it is asked for a few at once.
+// them: so it is asked for a few at once. Those of generations that ended before what was delivered are left out.
 func (f *follower) keys(ctx context.Context) (found []*mvccpb.KeyValue, revision int64, err error) {
 	end := clientv3.WithRange(clientv3.GetPrefixRangeEnd("log/"))
-	for from, more := "log/", true; more; {
+	from := "log/"
+	if generation := f.generation.Load(); generation <= f.after {
+		from = keyOf(generation)
+	}
+	for more := true; more; {
 		reply, err := f.transact(ctx, "read of the log", clientv3.OpGet("floor"),
 			clientv3.OpGet(from, end, clientv3.WithKeysOnly(), clientv3.WithLimit(maxPageKeys)))
 		if err != nil {
@@ -510,7 +546,8 @@ func (f *follower) page(ctx context.Context, keys []*mvccpb.KeyValue) (size int,
 // deliverEntry delivers an entry.
 func (f *follower) deliverEntry(kv *mvccpb.KeyValue) error {
 	f.after = kv.CreateRevision
-	return f.deliver(entryOf(f.after, path.Base(string(kv.Key)), kv.Value))
+	key := string(kv.Key)
+	return f.deliver(entryOf(Place{f.after, path.Base(key), key}, kv.Value))
 }
 
 // watch delivers what etcd's watch reports until it ends, or until entries that the log is known to have don't come: a
@@ -534,6 +571,7 @@ func (f *follower) watch(ctx context.Context, from int64) error {
 				return ctx.Err()
 			}
 			for _, event := range reply.Events {
+				event.Kv.Key = event.Kv.Key[len(f.prefix):]
 				if err := f.deliverEntry(event.Kv); err != nil {
 					return err
 				}

@@ -7,6 +7,7 @@ import (
 	"io"
 	"net"
 	"os/exec"
+	"path"
 	"testing"
 	"time"
 
@@ -62,7 +63,7 @@ func mustAppend(t *testing.T, l *Ledger, id string) {
 func all(t *testing.T, l *Ledger, after int64) ([]Entry, error) {
 	ctx, cancel := context.WithTimeout(context.Background(), 20*time.Second)
 	defer cancel()
-	head, err := l.Head(ctx)
+	head, err := l.Head(ctx, Place{})
 	if err != nil {
 		t.Fatal(err)
 	}
@@ -105,7 +106,7 @@ func TestAppendOnce(t *testing.T) {
 
 // head returns the revision of the newest entry.
 func head(t *testing.T, l *Ledger) int64 {
-	revision, err := l.Head(context.Background())
+	revision, err := l.Head(context.Background(), Place{})
 	if err != nil {
 		t.Fatal(err)
 	}
@@ -204,7 +205,7 @@ func TestUseLeader(t *testing.T) {
 	l.members = append([]string{"http://127.0.0.1:1"}, l.members...)
 	over, cancel := context.WithCancel(ctx)
 	cancel()
-	if _, err := l.Head(over); err == nil {
+	if _, err := l.Head(over, Place{}); err == nil {
 		t.Error("a read after the end of its context")
 	}
 	if used := l.client.Endpoints(); len(used) != 2 {
@@ -215,6 +216,46 @@ func TestUseLeader(t *testing.T) {
 	if used := l.client.Endpoints(); len(used) != 1 || used[0] != l.members[1] {
 		t.Errorf("used are %v", used)
 	}
+}
+
+// A read of the head fails if the log hasn't what was done: it ends before, or has something else there. What was trimmed was done.
+func TestWentBack(t *testing.T) {
+	l, ctx := newLedger(t), context.Background()
+	adopted, err := l.Adopt(ctx)
+	if err != nil {
+		t.Fatal(err)
+	}
+	judge := func(what string, done Place, isLost bool) {
+		t.Helper()
+		if _, err := l.Head(ctx, done); errors.Is(err, ErrWentBack) != isLost {
+			t.Errorf("%s: %v", what, err)
+		}
+	}
+	mustState(t, l) // As a node that starts.
+	judge("the adopted office", Place{Revision: adopted}, false)
+	judge("a snapshot after it", Place{Revision: adopted + 1}, true)
+	first, _, err := l.Append(ctx, "a", units("a"))
+	if err != nil {
+		t.Fatal(err)
+	}
+	mustAppend(t, l, "b")
+	found, err := all(t, l, adopted)
+	if err != nil || len(found) != 2 || found[0].Place != first.Place {
+		t.Fatalf("the log has %+v, %v, and not %+v first", found, err, first)
+	}
+	last := found[1].Place
+	judge("the last entry", last, false)
+	judge("an entry before", first.Place, false)
+	judge("a snapshot", Place{Revision: last.Revision}, false)
+	judge("a snapshot after the last entry", Place{Revision: last.Revision + 1}, true)
+	judge("a later entry", Place{last.Revision + 1, "b", last.key}, true)
+	judge("another entry", Place{last.Revision, "c", path.Dir(last.key) + "/c"}, true)
+	judge("the same entry at another place", Place{first.Revision, "b", last.key}, true)
+	for i := 0; i < 2; i++ {
+		mustTrim(t, l, head(t, l), true)
+		mustAppend(t, l, fmt.Sprint(i))
+	}
+	judge("what was trimmed", last, false)
 }
 
 func TestAdopt(t *testing.T) {

@@ -41,6 +41,7 @@ func (f *fakeKV) commit(ctx context.Context) (*clientv3.TxnResponse, error) {
 	}
 	found := &etcdserverpb.RangeResponse{Kvs: []*mvccpb.KeyValue{{ModRevision: revision}}}
 	return &clientv3.TxnResponse{Responses: []*etcdserverpb.ResponseOp{
+		{Response: &etcdserverpb.ResponseOp_ResponseRange{ResponseRange: &etcdserverpb.RangeResponse{}}},
 		{Response: &etcdserverpb.ResponseOp_ResponseRange{ResponseRange: found}},
 	}}, nil
 }
@@ -67,7 +68,7 @@ func TestHead(t *testing.T) {
 		return context.WithValue(context.Background(), wanted{}, revision)
 	}
 	for _, one := range []struct{ read, newest int64 }{{7, 7}, {9, 9}, {5, 9}} {
-		if given, err := l.Head(reads(one.read)); given != one.read || l.head.Load() != one.newest || err != nil {
+		if given, err := l.Head(reads(one.read), Place{}); given != one.read || l.head.Load() != one.newest || err != nil {
 			t.Errorf("a read of %d returns %d, %v, and the newest is %d", one.read, given, err, l.head.Load())
 		}
 	}
@@ -78,7 +79,7 @@ func TestHead(t *testing.T) {
 		go func() {
 			defer group.Done()
 			for i := 0; i < 20_000; i++ {
-				if given, err := l.Head(reads(reader)); given != reader || err != nil {
+				if given, err := l.Head(reads(reader), Place{}); given != reader || err != nil {
 					t.Errorf("a read of %d returns %d, %v", reader, given, err)
 					return
 				}
@@ -107,7 +108,7 @@ func TestAttempts(t *testing.T) {
 			attempts := 0
 			within, cancel := context.WithTimeout(context.Background(), 200*time.Millisecond)
 			defer cancel()
-			_, err := newFake(t, func(context.Context) (int64, error) { attempts++; return 0, one.err }).Head(within)
+			_, err := newFake(t, func(context.Context) (int64, error) { attempts++; return 0, one.err }).Head(within, Place{})
 			if !errors.Is(err, one.err) || (attempts == 1) != one.isFinal || attempts > 5 {
 				t.Errorf("%d attempts: %v", attempts, err)
 			}
@@ -223,5 +224,59 @@ func TestPages(t *testing.T) {
 				}
 			}
 		})
+	}
+}
+
+// A keysKV counts the reads of keys alone.
+type keysKV struct {
+	clientv3.KV
+	reads int
+}
+
+type keysTxn struct {
+	clientv3.Txn
+	kv *keysKV
+}
+
+func (k *keysKV) Txn(ctx context.Context) clientv3.Txn { return &keysTxn{k.KV.Txn(ctx), k} }
+
+func (k *keysTxn) Then(ops ...clientv3.Op) clientv3.Txn {
+	for _, op := range ops {
+		if op.IsKeysOnly() {
+			k.kv.reads++
+		}
+	}
+	return k.Txn.Then(ops...)
+}
+
+// Who goes on from a place in the newest generation doesn't read the keys of earlier ones.
+func TestKeysFromPlace(t *testing.T) {
+	l := newLedger(t)
+	for i := 0; i < 3*maxPageKeys; i++ {
+		mustAppend(t, l, fmt.Sprint("old", i))
+	}
+	mustTrim(t, l, head(t, l), true)
+	begins := mustState(t, l).generation
+	mustAppend(t, l, "new1")
+	place := head(t, l)
+	mustAppend(t, l, "new2")
+	for _, one := range []struct {
+		name           string
+		after          int64
+		entries, reads int
+	}{
+		{"the beginning", 0, 3*maxPageKeys + 2, 4},
+		{"the last entry but one", place, 1, 1},
+		{"the beginning of the generation", begins, 2, 1},
+		{"the place before it", begins - 1, 2, 4},
+	} {
+		counting := &keysKV{KV: l.kv}
+		later := New(l.client, "test", logs.New(io.Discard))
+		later.generation.Store(begins)
+		later.kv = counting
+		found, err := all(t, later, one.after)
+		if err != nil || len(found) != one.entries || counting.reads != one.reads {
+			t.Errorf("from %s: %d entries by %d reads of keys, %v", one.name, len(found), counting.reads, err)
+		}
 	}
 }

@@ -25,6 +25,9 @@ type fakeLog struct {
 	isFull     bool
 	hasNoRules bool
 	refusals   atomic.Int64
+	// done is what the node had done at the last read of the head, and lost why that fails.
+	done       ledger.Place
+	lost       error
 	registered []ledger.Member
 	entries    chan ledger.Entry
 }
@@ -40,13 +43,14 @@ func (l *fakeLog) Append(_ context.Context, id string, units []ledger.Unit) (ent
 		return entry, 0, errFull
 	}
 	l.revision++
-	return ledger.Entry{Revision: l.revision, ID: id, Units: units, Form: ledger.Form}, l.revision - 1, nil
+	return ledger.Entry{Place: ledger.Place{Revision: l.revision, ID: id}, Units: units, Form: ledger.Form}, l.revision - 1, nil
 }
 
-func (l *fakeLog) Head(context.Context) (int64, error) {
+func (l *fakeLog) Head(_ context.Context, done ledger.Place) (int64, error) {
 	l.mutex.Lock()
 	defer l.mutex.Unlock()
-	return l.revision, nil
+	l.done = done
+	return l.revision, l.lost
 }
 
 func (l *fakeLog) Follow(ctx context.Context, _ int64, deliver func(ledger.Entry) error) error {
@@ -217,7 +221,7 @@ func entry(revision int64, lines ...string) ledger.Entry {
 	for _, line := range lines {
 		u.Lines = append(u.Lines, []byte(line))
 	}
-	return ledger.Entry{Revision: revision, ID: fmt.Sprint(revision), Units: []ledger.Unit{u}}
+	return ledger.Entry{Place: ledger.Place{Revision: revision, ID: fmt.Sprint(revision)}, Units: []ledger.Unit{u}}
 }
 
 // of returns a batch of one call.

@@ -87,5 +87,11 @@ func (n *Node) addMetrics(registry *metrics.Registry) {
 	gauge("revision", "Revision of the last entry that was applied.", func(s status) float64 { return float64(s.Revision) })
 	gauge("commands", "Commands of the log that were applied.", func(s status) float64 { return float64(s.Count) })
 	gauge("snapshot_revision", "Revision of the newest snapshot.", func(s status) float64 { return float64(s.Snapshot) })
+	gauge("snapshot_failing", "1 if the last snapshot could not be made.", func(status) float64 {
+		if n.isFailing.Load() {
+			return 1
+		}
+		return 0
+	})
 	gauge("age_seconds", "How old the state may be.", func(s status) float64 { return s.Age })
 }

@@ -2,7 +2,10 @@ package node
 
 import (
 	"context"
+	"errors"
 	"fmt"
+	"os"
+	"strconv"
 	"time"
 
 	"rbac-node/ledger"
@@ -23,7 +26,7 @@ type copied struct {
 }
 
 // takeSnapshot copies the office between two runs of the replay. What takes long is done in the background. If an
-// earlier snapshot isn't finished yet, none is made at this place.
+// earlier snapshot isn't finished yet, or the copy fails, there is none of this place.
 func (n *Node) takeSnapshot() error {
 	if len(n.copies) == cap(n.copies) {
 		n.log.Warn("no snapshot: the last one is not finished yet", "revision", n.revision)
@@ -32,12 +35,13 @@ func (n *Node) takeSnapshot() error {
 	if err := n.replay.Close(); err != nil {
 		return err
 	}
-	file, err := n.store.Begin(n.file())
-	if err != nil {
-		return err
-	}
+	file, failed := n.store.Begin(n.file())
 	if err := n.reopen(); err != nil {
 		return err
+	}
+	if failed != nil {
+		n.noteSnapshot(n.revision, failed)
+		return nil
 	}
 	made := office.Snapshot{Revision: n.revision, Count: n.count, Record: n.head()}
 	if n.order.isExact {
@@ -45,6 +49,14 @@ func (n *Node) takeSnapshot() error {
 	}
 	n.copies <- copied{file, made}
 	return nil
+}
+
+// noteSnapshot notes whether the snapshot of a place was made. Without it the node goes on, and takes one at the next place.
+func (n *Node) noteSnapshot(revision int64, err error) {
+	n.isFailing.Store(err != nil)
+	if err != nil {
+		n.log.Error("no snapshot: the log can't be trimmed until there is one of a later place", "revision", revision, "why", err)
+	}
 }
 
 // maintain finishes snapshots, and checks again and again what all nodes report about theirs. A full etcd refuses what is
@@ -57,12 +69,17 @@ func (n *Node) maintain(ctx context.Context) error {
 			isRegistered = n.attempt(ctx, "the snapshots are not registered", n.announce)
 		}
 		n.attempt(ctx, "the log is not trimmed", n.trimLog)
+		if n.isTaken {
+			return errNameTaken
+		}
 		select {
 		case one := <-n.copies:
-			if err := n.finish(ctx, one); err != nil {
-				return err
+			err := n.finish(ctx, one)
+			if ctx.Err() != nil {
+				return nil
 			}
-			isRegistered = false
+			n.noteSnapshot(one.snapshot.Revision, err)
+			isRegistered = isRegistered && err != nil
 		case <-ticker.C:
 		case <-ctx.Done():
 			return nil
@@ -87,6 +104,7 @@ func (n *Node) finish(ctx context.Context, one copied) error {
 	defer cancel()
 	if n.options.Record != nil && one.snapshot.Record != "" {
 		if err := n.options.Record.Keep(within, one.snapshot.Record); err != nil {
+			_ = os.Remove(one.file)
 			return err
 		}
 	}
@@ -108,8 +126,24 @@ func (n *Node) announce(ctx context.Context) error {
 	if len(found) > 0 {
 		n.snapshot.Store(found[0].Revision)
 	}
-	return n.shared.Register(ctx, ledger.Member{Name: n.options.Name, Peer: n.options.Peer, Snapshots: found})
+	settings := n.settings()
+	err = n.shared.Register(ctx, ledger.Member{
+		Name: n.options.Name, Peer: n.options.Peer, Snapshots: found, Run: n.run(), Settings: &settings,
+	})
+	n.isNamed = n.isNamed || err == nil
+	return err
 }
+
+// run names this run of the node.
+func (n *Node) run() string { return strconv.FormatInt(n.start.UnixNano(), 36) }
+
+// settings are what has to be the same on all nodes.
+func (n *Node) settings() ledger.Settings {
+	return ledger.Settings{Every: n.options.SnapshotCommands, EveryBytes: n.options.SnapshotBytes}
+}
+
+// errNameTaken reports that two nodes have one name.
+var errNameTaken = errors.New("another node has registered under the name of this one since: give each node another --name")
 
 // trimLog judges the snapshots of all nodes, and trims the log.
 func (n *Node) trimLog(ctx context.Context) error {
@@ -121,6 +155,7 @@ func (n *Node) trimLog(ctx context.Context) error {
 	for i, member := range state.Members { // They are in the order of their names.
 		if member.Name == n.options.Name {
 			n.rank.Store(int64(i))
+			n.isTaken = n.isNamed && member.Run != "" && member.Run != n.run()
 		}
 	}
 	if err := n.judgeSnapshots(state.Members); err != nil {
@@ -147,6 +182,9 @@ func (n *Node) judgeSnapshots(members []ledger.Member) error {
 		return err
 	}
 	why := difference(n.options.Name, own, members)
+	if why == "" {
+		why = otherSettings(n.options.Name, n.settings(), members)
+	}
 	if n.differs.Swap(why) != why && why != "" {
 		n.log.Error("refusing to serve", "why", why)
 	}
@@ -179,6 +217,26 @@ func difference(name string, own []office.Snapshot, members []ledger.Member) str
 		}
 	}
 	return ""
+}
+
+// otherSettings reports that most nodes take snapshots at other places than a node, if they do: with no place in common wrong rows would
+// be found nowhere. Of two nodes the one with the later name has to change.
+func otherSettings(name string, own ledger.Settings, members []ledger.Member) string {
+	agree, differ := 1, []ledger.Member{}
+	for _, member := range members {
+		switch {
+		case member.Name == name || member.Settings == nil:
+		case *member.Settings == own:
+			agree++
+		default:
+			differ = append(differ, member)
+		}
+	}
+	if len(differ) < agree || len(differ) == agree && name < differ[0].Name {
+		return ""
+	}
+	return fmt.Sprintf("%s differs: it has %s, and %s has %s; start all nodes with the same, and delete the keys of those that are gone",
+		name, own, differ[0].Name, differ[0].Settings)
 }
 
 // snapshotAt returns the snapshot of a node at a revision.

@@ -8,6 +8,7 @@ import (
 	"strings"
 	"testing"
 
+	"rbac-node/api"
 	"rbac-node/ledger"
 	"rbac-node/office"
 )
@@ -60,6 +61,70 @@ func TestDifference(t *testing.T) {
 				t.Errorf("%q", why)
 			}
 		})
+	}
+}
+
+// A node has to take snapshots where most nodes do.
+func TestOtherSettings(t *testing.T) {
+	own := ledger.Settings{Every: 10, EveryBytes: 99}
+	with := func(name string, s *ledger.Settings) ledger.Member { return ledger.Member{Name: name, Settings: s} }
+	same, fewer, bytes := &ledger.Settings{Every: 10, EveryBytes: 99}, &ledger.Settings{Every: 3, EveryBytes: 99},
+		&ledger.Settings{Every: 10, EveryBytes: 98}
+	for _, one := range []struct {
+		name    string
+		others  []ledger.Member
+		refuses bool
+	}{
+		{"nobody else", members(), false},
+		{"all agree", members(with("b", same), with("c", same)), false},
+		{"nodes that don't say", members(with("b", nil), with("c", nil)), false},
+		{"most agree", members(with("b", same), with("c", fewer)), false},
+		{"most differ", members(with("b", fewer), with("c", bytes)), true},
+		{"one of two, the later one", members(with("a", bytes)), true},
+		{"one of two, the earlier one", members(with("x", bytes)), false},
+		{"what it registered before", members(with("n", fewer)), false},
+	} {
+		t.Run(one.name, func(t *testing.T) {
+			if why := otherSettings("n", own, one.others); (why != "") != one.refuses {
+				t.Errorf("%q", why)
+			}
+		})
+	}
+}
+
+// A node refuses to serve while its settings differ, and says what to do.
+func TestRefusesWithOtherSettings(t *testing.T) {
+	n, log, _ := newNode(t)
+	other := &ledger.Settings{Every: 7, EveryBytes: 1 << 20}
+	log.state.Members = members(ledger.Member{Name: "b", Settings: other}, ledger.Member{Name: "c", Settings: other})
+	if err := n.trimLog(context.Background()); err != nil {
+		t.Fatal(err)
+	}
+	if why := n.status().Why; !strings.Contains(why, "--every 7") || !strings.Contains(why, "the same") {
+		t.Errorf("%q", why)
+	}
+	if _, err := n.Do(context.Background(), of(api.Command, "c")); !errors.Is(err, api.Diverged) {
+		t.Errorf("%v", err)
+	}
+}
+
+// Of two nodes with one name the one that was there before ends. A node that starts anew takes over from its last run.
+func TestNameTaken(t *testing.T) {
+	n, log, _ := newNode(t)
+	log.state.Members = members(ledger.Member{Name: "a", Run: "an earlier run"})
+	if err := n.trimLog(context.Background()); err != nil || n.isTaken {
+		t.Fatalf("before it is registered: %v", err)
+	}
+	if err := n.announce(context.Background()); err != nil {
+		t.Fatal(err)
+	}
+	log.state.Members = log.registered
+	if err := n.trimLog(context.Background()); err != nil || n.isTaken {
+		t.Fatalf("as it has registered: %v", err)
+	}
+	log.state.Members = members(ledger.Member{Name: "a", Run: "another node"})
+	if err := n.maintain(context.Background()); !errors.Is(err, errNameTaken) {
+		t.Errorf("%v", err)
 	}
 }
 
@@ -139,6 +204,44 @@ func TestTakeSnapshotWithoutReplay(t *testing.T) {
 	}
 	if err := n.replay.Close(); err != nil {
 		t.Errorf("the replay that has ended: %v", err)
+	}
+}
+
+// A snapshot that fails ends no node: the office can't be copied, or what was copied can't be checked. The node says so until it has
+// one of a later place, and leaves nothing of what failed.
+func TestFailedSnapshot(t *testing.T) {
+	n, log, _ := newNode(t)
+	n.options.SnapshotCommands = 1
+	left := func() int {
+		t.Helper()
+		files, err := filepath.Glob(filepath.Join(office.FolderIn(n.options.Data), "*"))
+		if err != nil {
+			t.Fatal(err)
+		}
+		return len(files)
+	}
+	n.apply(entry(1, "a")) // There is no office to copy.
+	if n.err != nil || !n.isFailing.Load() || len(n.copies) > 0 {
+		t.Fatalf("%v", n.err)
+	}
+	officeOf(t, n)
+	n.isFailing.Store(false)
+	n.apply(entry(2, "b")) // There is no program to check the copy.
+	if n.err != nil || len(n.copies) != 1 {
+		t.Fatalf("%v", n.err)
+	}
+	running(t, n.maintain)
+	eventually(t, "it has failed", n.isFailing.Load)
+	eventually(t, "it is registered", func() bool { return log.registrations() > 0 })
+	if left() > 0 {
+		t.Errorf("%d files are left", left())
+	}
+	if sent := n.replay.(*fakeReplay).sent(); len(sent) != 0 {
+		t.Errorf("sent was %v", sent)
+	}
+	n.apply(entry(3, "c"))
+	if n.err != nil || n.applied.Load().revision != 3 {
+		t.Errorf("it doesn't go on: %v", n.err)
 	}
 }
 

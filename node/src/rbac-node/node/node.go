@@ -39,7 +39,7 @@ const (
 // themselves.
 type Log interface {
 	Append(ctx context.Context, id string, units []ledger.Unit) (entry ledger.Entry, before int64, err error)
-	Head(ctx context.Context) (int64, error)
+	Head(ctx context.Context, done ledger.Place) (int64, error)
 	Follow(ctx context.Context, after int64, deliver func(ledger.Entry) error) error
 	State(ctx context.Context) (ledger.State, error)
 	Trim(ctx context.Context, state ledger.State, needless int64) (floor int64, err error)
@@ -128,6 +128,8 @@ type Node struct {
 	isFed atomic.Bool
 	// applied is the place of the log up to which all entries have their answers.
 	applied atomic.Pointer[place]
+	// done is the place of the last entry that was fed, or of the snapshot of the start.
+	done atomic.Pointer[ledger.Place]
 	// heard is when the newest read of the log began whose entries all have their answers, in nanoseconds since the
 	// start, or -1.
 	heard atomic.Int64
@@ -135,6 +137,11 @@ type Node struct {
 	// this one in the order of their names. stage says what a start does.
 	snapshot, seen, rank atomic.Int64
 	stage                atomic.Value
+	// isNamed says that this node is registered, and isTaken that another one is under the same name. Both belong to the goroutine that
+	// finishes snapshots.
+	isNamed, isTaken bool
+	// isFailing says that the last snapshot that was begun has failed.
+	isFailing atomic.Bool
 	// differs is the text that describes where this node differs from most others, or empty.
 	differs atomic.Value
 }
@@ -169,6 +176,7 @@ func New(options Options, shared Log, log *logs.Logger, registry *metrics.Regist
 	}
 	n.heard.Store(-1)
 	n.applied.Store(&place{})
+	n.done.Store(&ledger.Place{})
 	n.differs.Store("")
 	n.stage.Store("etcd is asked")
 	n.addMetrics(registry)

@@ -11,6 +11,7 @@ import (
 	"time"
 
 	"rbac-node/api"
+	"rbac-node/ledger"
 	"rbac-node/logs"
 	"rbac-node/metrics"
 	"rbac-node/office"
@@ -84,19 +85,35 @@ func TestFeedEndsWithReplay(t *testing.T) {
 // An entry is applied once, and what waits for it comes after it, in the order of the log.
 func TestApply(t *testing.T) {
 	n, _, first := newNode(t)
-	n.perform(task{2, func() { n.sendQuestions(&request{nil, of(api.Question, "q2"), make(chan reply, 1)}) }})
+	n.perform(task{2, func() { n.sendQuestions(newRequest(nil, of(api.Question, "q2"))) }})
 	n.perform(task{1, func() { n.apply(entry(2, "c")) }})
 	n.perform(task{0, func() { n.apply(entry(1, "a", "", strings.Repeat("x", office.MaxLineBytes+1), "b")) }})
 	n.perform(task{0, func() { n.apply(entry(1, "a")) }})
 	n.perform(task{0, func() { n.apply(entry(2, "c")) }})
 	over, cancel := context.WithCancel(context.Background())
 	cancel()
-	n.sendQuestions(&request{over.Done(), of(api.Question, "nobody waits"), nil})
+	n.sendQuestions(newRequest(over.Done(), of(api.Question, "nobody waits")))
 	if sent := strings.Join(first.sent(), " "); sent != "a b c q2" || len(n.held) > 0 {
 		t.Errorf("sent was %s, and %d wait", sent, len(n.held))
 	}
 	if at := n.applied.Load(); at.revision != 2 || at.count != 5 {
 		t.Errorf("applied is %+v", at)
+	}
+}
+
+// A node ends when the log no longer has what it has done, whoever asks.
+func TestLogWentBack(t *testing.T) {
+	n, log, _ := newNode(t)
+	running(t, n.feed)
+	done := entry(7, "a")
+	n.tasks <- task{0, func() { n.apply(done) }}
+	eventually(t, "it is done", func() bool { return n.applied.Load().revision == 7 })
+	log.lost = ledger.ErrWentBack
+	if err := n.confirm(context.Background()); !errors.Is(err, ledger.ErrWentBack) {
+		t.Errorf("%v", err)
+	}
+	if log.done != done.Place {
+		t.Errorf("it asks for %+v", log.done)
 	}
 }
 
@@ -182,6 +199,15 @@ func TestRenewed(t *testing.T) {
 			}
 			group.Wait()
 		})
+	}
+}
+
+// A node that could take no snapshots doesn't start.
+func TestNewWithoutDigester(t *testing.T) {
+	t.Setenv("PATH", t.TempDir())
+	n, err := New(Options{Data: t.TempDir()}, newFakeLog(), logs.New(io.Discard), &metrics.Registry{})
+	if n != nil || err == nil || !strings.Contains(err.Error(), "sqlite3") {
+		t.Errorf("%v, %v", n, err)
 	}
 }
 

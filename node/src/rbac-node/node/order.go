@@ -109,6 +109,7 @@ func (n *Node) apply(entry ledger.Entry) {
 	}
 	n.revision, n.count = entry.Revision, before+count
 	reached := &place{n.revision, n.count}
+	n.done.Store(&entry.Place)
 	if entry.Form > 1 {
 		// No entry of form 1 comes after this one, and all nodes that read it have the same numbers.
 		n.progress.then(func() { n.order.isExact = true })

@@ -67,7 +67,7 @@ func TestRules(t *testing.T) {
 			n, _, replay := newNode(t)
 			replay.says = refusing
 			n.begin(office.Snapshot{Policy: first}, first)
-			n.apply(ledger.Entry{Revision: 1, ID: "x", Form: 2, Units: []ledger.Unit{{Rule: test.rule, Lines: test.lines}}})
+			n.apply(ledger.Entry{Place: ledger.Place{Revision: 1, ID: "x"}, Form: 2, Units: []ledger.Unit{{Rule: test.rule, Lines: test.lines}}})
 			var wanted []string
 			for _, place := range test.done {
 				wanted = append(wanted, string(test.lines[place]))
@@ -92,7 +92,7 @@ func TestSameNumbers(t *testing.T) {
 			name = "no"
 		}
 		entries = append(entries, ledger.Entry{
-			Revision: int64(i), ID: name, Form: 1 + i/4, Units: []ledger.Unit{{Lines: users(name)}},
+			Place: ledger.Place{Revision: int64(i), ID: name}, Form: 1 + i/4, Units: []ledger.Unit{{Lines: users(name)}},
 		})
 	}
 	numbers := func(s office.Snapshot) (after []state.Numbers) {

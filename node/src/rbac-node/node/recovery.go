@@ -9,6 +9,7 @@ import (
 	"time"
 
 	"rbac-node/faults"
+	"rbac-node/ledger"
 	"rbac-node/office"
 )
 
@@ -44,6 +45,7 @@ func (n *Node) recoverOffice(ctx context.Context) error {
 	}
 	n.revision, n.count = base.Revision, base.Count
 	n.applied.Store(&place{base.Revision, base.Count})
+	n.done.Store(&ledger.Place{Revision: base.Revision})
 	n.log.Info("recovered", "revision", base.Revision, "commands", base.Count)
 	n.stage.Store("not all of the log is applied yet")
 	state, err := n.shared.State(ctx)

@@ -2,6 +2,7 @@ package node
 
 import (
 	"context"
+	"errors"
 	"fmt"
 	"net/http"
 	"time"
@@ -16,7 +17,7 @@ import (
 // probe is a question that costs the office little.
 const probe = `{"fn":"sessionRoles","session":"-"}`
 
-// maxUnitBytes is how many bytes the lines of one request for commands may have: etcd refuses values of more than 1.5 MiB, and the
+// maxUnitBytes is how many bytes one request for commands may have in the log: etcd refuses values of more than 1.5 MiB, and the
 // requests before it in a batch have at most maxBatchBytes.
 const maxUnitBytes = 768 << 10
 
@@ -25,6 +26,26 @@ type request struct {
 	over  <-chan struct{}
 	batch api.Batch
 	reply chan reply
+	// unit is what the log gets if there are commands, but for the time, and size how many bytes that are.
+	unit ledger.Unit
+	size int
+}
+
+// newRequest returns a request.
+func newRequest(over <-chan struct{}, b api.Batch) *request {
+	r := &request{over: over, batch: b, reply: make(chan reply, 1)}
+	if b.Kind != api.Command {
+		return r
+	}
+	r.unit = ledger.Unit{At: recorded.TimeLayout, Rule: ruleOf(b)}
+	for _, call := range logged(b) {
+		if call.Kind == api.Command {
+			r.unit.Caller, r.unit.Reason = call.Caller, call.Reason // They are the same for all.
+		}
+		r.unit.Lines = append(r.unit.Lines, call.Line)
+	}
+	r.size = r.unit.Size()
+	return r
 }
 
 // A reply has the answers to a request, or why there are none.
@@ -52,8 +73,6 @@ func (n *Node) Do(ctx context.Context, b api.Batch) (api.Answers, error) {
 		return api.Answers{}, api.Unavailable
 	case b.Kind == api.Command && ruleOf(b) != nil && !n.shared.HasRules():
 		return api.Answers{}, api.Upgrading
-	case sizeOf(b) > maxUnitBytes:
-		return api.Answers{}, api.BadRequest(http.StatusRequestEntityTooLarge)
 	}
 	if err := n.admit(b); err != nil {
 		return api.Answers{}, err
@@ -70,7 +89,10 @@ func (n *Node) Do(ctx context.Context, b api.Batch) (api.Answers, error) {
 	n.touch(b.Calls)
 	within, cancel := context.WithTimeout(ctx, n.options.AnswerTimeout)
 	defer cancel()
-	r := &request{within.Done(), b, make(chan reply, 1)}
+	r := newRequest(within.Done(), b)
+	if r.size > maxUnitBytes {
+		return api.Answers{}, api.BadRequest(http.StatusRequestEntityTooLarge)
+	}
 	if faults.Has(faults.AnswersBeforeLog) && b.Kind == api.Command {
 		r.over = ctx.Done()
 		return n.guess(r), nil
@@ -100,17 +122,6 @@ func (n *Node) guess(r *request) api.Answers {
 		texts[i] = []byte(`{"ok":true}`)
 	}
 	return api.Answers{Texts: texts, Point: api.Point{Revision: n.applied.Load().revision + 1}}
-}
-
-// sizeOf returns how many bytes of a batch go into the log.
-func sizeOf(b api.Batch) (size int) {
-	if b.Kind != api.Command {
-		return 0
-	}
-	for _, call := range logged(b) {
-		size += len(call.Line)
-	}
-	return size
 }
 
 // touch says that the sessions are used which questions name.
@@ -173,7 +184,7 @@ func gather(ctx context.Context, from <-chan *request, least int, late <-chan ti
 			}
 		}
 		if r.isWaiting() {
-			found, size = append(found, r), size+sizeOf(r.batch)
+			found, size = append(found, r), size+r.size
 		}
 	}
 	return found
@@ -216,14 +227,8 @@ func (n *Node) appendCommands(ctx context.Context) error {
 func (n *Node) appendBatch(ctx context.Context, id string, b *batch) error {
 	units, at := make([]ledger.Unit, len(b.requests)), time.Now().UTC().Format(recorded.TimeLayout)
 	for i, r := range b.requests {
-		calls := logged(r.batch)
-		units[i] = ledger.Unit{At: at, Rule: ruleOf(r.batch)}
-		for _, call := range calls {
-			if call.Kind == api.Command {
-				units[i].Caller, units[i].Reason = call.Caller, call.Reason // They are the same for all.
-			}
-			units[i].Lines = append(units[i].Lines, call.Line)
-		}
+		units[i] = r.unit
+		units[i].At = at
 	}
 	n.pending.Store(id, b)
 	entry, before, err := n.shared.Append(ctx, id, units)
@@ -244,7 +249,8 @@ func (n *Node) appendBatch(ctx context.Context, id string, b *batch) error {
 
 // confirm reads the newest revision of the log through a quorum. One read is for all questions that wait when it
 // begins; those that come during the read wait for the next one. With each read the replay is probed, so that it is
-// known what it has answered, and that it answers.
+// known what it has answered, and that it answers. If the log no longer has what the replay has done, the node ends: so no question
+// is answered from what was taken back.
 func (n *Node) confirm(ctx context.Context) error {
 	for ctx.Err() == nil {
 		waiting, end := context.WithTimeout(ctx, readInterval)
@@ -252,7 +258,8 @@ func (n *Node) confirm(ctx context.Context) error {
 		end()
 		read := time.Since(n.start)
 		within, cancel := context.WithTimeout(ctx, n.options.AnswerTimeout)
-		if head, err := n.shared.Head(within); err == nil { // Otherwise the askers have waited long enough.
+		head, err := n.shared.Head(within, *n.done.Load())
+		if err == nil { // Otherwise the askers have waited long enough.
 			n.seen.Store(head)
 			_ = n.submit(within, task{head, func() {
 				n.send([]byte(probe), func([]byte) { n.hear(read) })
@@ -260,6 +267,9 @@ func (n *Node) confirm(ctx context.Context) error {
 			}})
 		}
 		cancel()
+		if errors.Is(err, ledger.ErrWentBack) {
+			return err
+		}
 	}
 	return nil
 }

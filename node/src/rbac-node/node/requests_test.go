@@ -2,11 +2,13 @@ package node
 
 import (
 	"context"
+	"encoding/json"
 	"strings"
 	"testing"
 	"time"
 
 	"rbac-node/api"
+	"rbac-node/ledger"
 )
 
 func TestGather(t *testing.T) {
@@ -31,7 +33,7 @@ func TestGather(t *testing.T) {
 	} {
 		from := make(chan *request, maxBatchLines)
 		for _, ctx := range one.asked {
-			from <- &request{over: ctx.Done(), batch: of(api.Command, "c")}
+			from <- newRequest(ctx.Done(), of(api.Command, "c"))
 		}
 		if found := gather(one.ctx, from, one.least, one.late); len(found) != one.wanted {
 			t.Errorf("%s: %d", one.what, len(found))
@@ -43,9 +45,37 @@ func TestGather(t *testing.T) {
 func TestGatherMost(t *testing.T) {
 	from := make(chan *request, maxBatchLines+1)
 	for i := 0; i <= maxBatchLines; i++ {
-		from <- &request{batch: of(api.Command, strings.Repeat("c", maxBatchBytes/2))}
+		from <- newRequest(nil, of(api.Command, strings.Repeat("c", maxBatchBytes/2)))
 	}
 	if found := gather(context.Background(), from, 1, nil); len(found) != 2 {
 		t.Errorf("%d long requests", len(found))
+	}
+}
+
+// A batch is small enough for etcd, also if what is said about its commands is longer than they are.
+func TestGatherReasons(t *testing.T) {
+	const mostOfEtcd = 3 << 19
+	from := make(chan *request, maxBatchLines)
+	for i := 0; i < maxBatchLines; i++ {
+		size := 1000
+		if i == maxBatchLines-1 {
+			size = maxUnitBytes - 4000
+		}
+		b := of(api.Command, strings.Repeat("c", size))
+		b.Calls[0].Caller, b.Calls[0].Reason = "token:desk", strings.Repeat("<", 256)
+		from <- newRequest(nil, b)
+	}
+	for len(from) > 0 {
+		size := 0
+		for _, r := range gather(context.Background(), from, 1, nil) {
+			head, err := json.Marshal(&ledger.Unit{Caller: r.batch.Calls[0].Caller, Reason: r.batch.Calls[0].Reason})
+			if err != nil {
+				t.Fatal(err)
+			}
+			size += len(head) + len(r.batch.Calls[0].Line)
+		}
+		if size > mostOfEtcd {
+			t.Errorf("a batch of %d bytes", size)
+		}
 	}
 }

@@ -29,6 +29,8 @@ const (
 	recordMark = "-record"
 	// copiedSuffix ends the name of a snapshot that another node has made.
 	copiedSuffix = "-copied"
+	// digester is the program that reads rows for a digest.
+	digester = "sqlite3"
 	// nameField is the field in the head of a reply that names the snapshot.
 	nameField = "Snapshot"
 )
@@ -58,7 +60,7 @@ func Run(ctx context.Context, program, command, file string) error {
 func Digest(ctx context.Context, file string) (string, error) {
 	hash, said := sha256.New(), bytes.Buffer{}
 	source := url.URL{Scheme: "file", Opaque: (&url.URL{Path: file}).EscapedPath(), RawQuery: "immutable=1"}
-	command := exec.CommandContext(ctx, "sqlite3", "-batch", "-readonly", source.String())
+	command := exec.CommandContext(ctx, digester, "-batch", "-readonly", source.String())
 	command.Stdin, command.Stdout, command.Stderr = strings.NewReader(rowsQuery), hash, &said
 	if err := command.Run(); err != nil {
 		return "", fmt.Errorf("digest by sqlite3: %w: %s", err, bytes.TrimSpace(said.Bytes()))
@@ -103,8 +105,12 @@ type Store struct {
 // FolderIn returns the folder of the snapshots of a node whose folder this is.
 func FolderIn(data string) string { return filepath.Join(data, "snapshots") }
 
-// Open returns the store of a node, which it makes in the folder of the node. It deletes what a crash left unfinished.
+// Open returns the store of a node, which it makes in the folder of the node. It deletes what a crash left unfinished. Without the
+// program that makes digests it fails, since the node could take no snapshot.
 func Open(data, program string) (*Store, error) {
+	if _, err := exec.LookPath(digester); err != nil {
+		return nil, fmt.Errorf("snapshots need the program %s, which Debian's package of that name has: %w", digester, err)
+	}
 	folder := FolderIn(data)
 	if err := os.MkdirAll(folder, 0o700); err != nil {
 		return nil, fmt.Errorf("snapshots: %w", err)
@@ -199,11 +205,15 @@ func (s *Store) save(from io.Reader) (string, error) {
 	if err != nil {
 		return "", fmt.Errorf("snapshot: %w", err)
 	}
-	defer file.Close()
-	if _, err := io.Copy(file, from); err != nil {
-		return "", fmt.Errorf("snapshot: %w", err)
+	_, err = io.Copy(file, from)
+	if err == nil {
+		err = file.Sync()
 	}
-	if err := file.Sync(); err != nil {
+	if closing := file.Close(); err == nil {
+		err = closing
+	}
+	if err != nil {
+		_ = os.Remove(file.Name()) // A full disk gets its room back.
 		return "", fmt.Errorf("snapshot: %w", err)
 	}
 	return file.Name(), nil

@@ -55,6 +55,9 @@ func (e *entry) values() []any {
 	return []any{e.n, e.at, e.caller, e.reason, e.request, e.answer, e.found, e.ch}
 }
 
+// size returns about how many bytes the entry takes.
+func (e *entry) size() int { return len(e.request) + len(e.answer) + len(e.reason) + len(e.caller) }
+
 // isCommand reports whether the replay gets the entry.
 func (e *entry) isCommand() bool { return strings.HasPrefix(e.request, `{"fn":`) }
 

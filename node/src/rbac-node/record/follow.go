@@ -10,6 +10,9 @@ import (
 	"os"
 	"path/filepath"
 	"sync"
+	"time"
+
+	sqlite3 "github.com/mattn/go-sqlite3"
 
 	"rbac-node/api"
 )
@@ -17,8 +20,12 @@ import (
 // preparedName is the name of a mapped copy of the office with which the record may begin.
 const preparedName = "prepared"
 
-// mostQueued is how many entries may wait to be written.
-const mostQueued = 50_000
+const (
+	// mostQueued is how many entries may wait to be written, and mostQueuedBytes how many bytes they may have.
+	mostQueued, mostQueuedBytes = 50_000, 64 << 20
+	// retryPause is the time between two attempts to write.
+	retryPause = time.Second
+)
 
 // DirIn returns the folder of the record of a node whose folder this is.
 func DirIn(data string) string { return filepath.Join(data, "record") }
@@ -37,10 +44,11 @@ type Follower struct {
 	mutex sync.Mutex // for what follows
 	// room says that entries were written, or that writing has failed.
 	room *sync.Cond
-	// added is the last entry, and queue has those that aren't written yet. known has the links of entries that were written before
-	// the start, and come again.
+	// added is the last entry, and queue has those that aren't written yet, with queued bytes. known has the links of entries that were
+	// written before the start, and come again.
 	added  entry
 	queue  []entry
+	queued int
 	known  []string
 	begun  bool
 	err    error
@@ -238,7 +246,7 @@ func (f *Follower) add(e entry) {
 		f.known = f.known[1:]
 		return
 	}
-	f.queue = append(f.queue, e)
+	f.queue, f.queued = append(f.queue, e), f.queued+e.size()
 	select {
 	case f.wake <- struct{}{}:
 	default:
@@ -255,11 +263,16 @@ func (f *Follower) Added() string {
 	return Head{f.added.n, f.added.ch}.String()
 }
 
-// Room waits until few entries wait to be written.
+// Room waits until few entries wait to be written. If they can't be written, and too many wait, the node has to end: after its next
+// start they come again from the log.
 func (f *Follower) Room() {
 	f.mutex.Lock()
 	defer f.mutex.Unlock()
-	for len(f.queue) > mostQueued && f.err == nil {
+	for f.err == nil && (len(f.queue) > mostQueued || f.queued > mostQueuedBytes) {
+		if why := f.Why(); why != "" {
+			f.fail(fmt.Errorf("%d entries wait, and can't be written: %s", len(f.queue), why))
+			return
+		}
 		f.room.Wait()
 	}
 }
@@ -283,7 +296,7 @@ func (f *Follower) Failure() error {
 	return f.err
 }
 
-// run writes entries until the record is closed.
+// run writes entries until the record is closed, or can't go on.
 func (f *Follower) run() {
 	defer close(f.ended)
 	for {
@@ -292,51 +305,120 @@ func (f *Follower) run() {
 		case <-f.life.Done():
 			return
 		}
-		f.flush("NORMAL")
+		for f.flush("NORMAL") != nil {
+			select {
+			case <-time.After(retryPause):
+			case <-f.failed:
+				return
+			case <-f.life.Done():
+				return
+			}
+		}
 	}
 }
 
-// flush writes the entries that wait. At the level FULL all that was written is synced.
-func (f *Follower) flush(level string) {
+// flush writes the entries that wait. At the level FULL all that was written is synced. If it fails they go on waiting, so that no later
+// entry is ever written before them.
+func (f *Follower) flush(level string) error {
 	f.writing.Lock()
 	defer f.writing.Unlock()
 	f.mutex.Lock()
-	queue := f.queue
-	f.queue = nil
+	queue, err := f.queue, f.err
 	f.mutex.Unlock()
-	err := f.append(queue, level)
+	if err != nil {
+		return err
+	}
+	err = f.append(queue, level)
+	f.noteWriting(err)
 	f.mutex.Lock()
 	defer f.mutex.Unlock()
-	if err != nil {
+	switch {
+	case err == nil:
+		if f.queue = f.queue[len(queue):]; len(f.queue) == 0 {
+			f.queue = nil // Otherwise it would keep what was written.
+		}
+		for i := range queue {
+			f.queued -= queue[i].size()
+		}
+	case !mayPass(err):
 		f.fail(err)
 	}
 	f.room.Broadcast()
+	return err
+}
+
+// mayPass reports whether the same write may succeed later, such as when a disk was full.
+func mayPass(err error) bool {
+	var failed sqlite3.Error
+	if !errors.As(err, &failed) {
+		return false
+	}
+	switch failed.Code {
+	case sqlite3.ErrFull, sqlite3.ErrIoErr, sqlite3.ErrBusy, sqlite3.ErrLocked, sqlite3.ErrNomem, sqlite3.ErrCantOpen, sqlite3.ErrReadonly:
+		return true
+	}
+	return false
+}
+
+// noteWriting notes whether entries can be written, and logs when that changes.
+func (f *Follower) noteWriting(err error) {
+	f.Record.mutex.Lock()
+	defer f.Record.mutex.Unlock()
+	switch {
+	case err != nil && f.failing == "":
+		f.Log.Error("the record can't be written, so its entries wait", "why", err)
+	case err == nil && f.failing != "":
+		f.Log.Info("the record can be written again")
+	}
+	if f.failing = ""; err != nil {
+		f.failing = err.Error()
+	}
 }
 
 func (f *Follower) append(queue []entry, level string) error {
 	if err := f.sync(level); err != nil {
 		return err
 	}
+	isAgain := f.Why() != ""
+	if isAgain {
+		_, _ = f.db.Exec("ROLLBACK") // A commit that failed may have left its transaction open.
+	}
 	err := inTransaction(f.db, func(tx *sql.Tx) error {
-		insert, err := tx.Prepare(addEntry)
-		if err != nil {
-			return err
-		}
-		defer insert.Close()
-		for i := range queue {
-			if _, err := insert.Exec(queue[i].values()...); err != nil {
+		rest := queue
+		if isAgain {
+			// A write that was reported as failed may be there all the same.
+			last, _, err := lastOf(tx)
+			if err != nil {
 				return err
 			}
+			for len(rest) > 0 && rest[0].n <= last.n {
+				rest = rest[1:]
+			}
 		}
-		if level == "FULL" {
-			_, err = tx.Exec("UPDATE part SET why = why") // Without a write nothing would be synced.
-		}
-		return err
+		return insertAll(tx, rest, level)
 	})
 	if err == nil && len(queue) > 0 {
 		f.Record.mutex.Lock()
 		defer f.Record.mutex.Unlock()
 		f.head = queue[len(queue)-1]
+	}
+	return err
+}
+
+// insertAll inserts entries with their answers. At the level FULL something is written even if there are none.
+func insertAll(tx *sql.Tx, entries []entry, level string) error {
+	insert, err := tx.Prepare(addEntry)
+	if err != nil {
+		return err
+	}
+	defer insert.Close()
+	for i := range entries {
+		if _, err := insert.Exec(entries[i].values()...); err != nil {
+			return err
+		}
+	}
+	if level == "FULL" {
+		_, err = tx.Exec("UPDATE part SET why = why") // Without a write nothing would be synced.
 	}
 	return err
 }
@@ -347,13 +429,18 @@ func (f *Follower) Keep(ctx context.Context, text string) error {
 	if err != nil {
 		return err
 	}
-	f.flush("FULL")
-	if err := f.Failure(); err != nil {
+	if err := f.flush("FULL"); err != nil {
 		return err
 	}
 	last, err := f.check(ctx, f.checked, head.N, func(entry) {})
 	if err == nil && (last.n != head.N || last.ch != head.Chain) {
-		err = fmt.Errorf("somebody has written it: entry %d is not the one that was added", head.N)
+		err = fmt.Errorf("somebody has written it: entry %d is not the one that was added: %w", head.N, errMoveAway)
+	}
+	if errors.Is(err, errMoveAway) {
+		f.mutex.Lock()
+		defer f.mutex.Unlock()
+		f.fail(err)
+		return f.err
 	}
 	if err != nil {
 		return fmt.Errorf("record %s: %w", f.dir, err)
@@ -399,9 +486,9 @@ func (f *Follower) Close() error {
 	if f.db == nil {
 		return nil
 	}
-	f.flush("NORMAL")
+	failure := f.flush("NORMAL")
 	f.logHead()
-	failure, closing := f.Failure(), f.close()
+	closing := f.close()
 	if failure != nil {
 		return failure
 	}

@@ -367,6 +367,82 @@ func TestFollowFails(t *testing.T) {
 	m.Room() // It doesn't wait for ever.
 }
 
+// What can't be written for a while is written later, in its order: the record has no hole, and a start after a crash goes on.
+func TestFollowFullDisk(t *testing.T) {
+	for _, name := range []string{"there is room again", "the node is killed meanwhile"} {
+		t.Run(name, func(t *testing.T) {
+			m := newMachine(t, "")
+			m.resume("", false)
+			m.begin()
+			m.do(addAnn, addRole)
+			path, head := m.snapshot(7)
+			m.setRoom("(SELECT page_count FROM pragma_page_count)")
+			long := `{"fn":"addUser","user":"` + strings.Repeat("u", 20_000) + `"}`
+			m.do(long)
+			if err := m.Keep(context.Background(), m.Added()); err == nil || m.Why() == "" {
+				t.Errorf("a full disk: %v", err)
+			}
+			m.do(assign)
+			if name == "there is room again" {
+				m.setRoom("1000000")
+			}
+			m.do(login)
+			_ = m.flush("NORMAL")
+			if err := m.Failure(); err != nil {
+				t.Error(err)
+			}
+			if name == "there is room again" && (m.Why() != "" || strings.Count(m.entries(), "\n") != 6) {
+				t.Errorf("%s, it has\n%s", m.Why(), m.entries())
+			}
+			m.start(path)
+			m.resume(head, false)
+			m.do(long, assign, login)
+			if has := m.entries(); strings.Count(has, "\n") != 6 || m.Failure() != nil {
+				t.Errorf("%v, after a start it has\n%s", m.Failure(), has)
+			}
+		})
+	}
+}
+
+// setRoom sets how many pages the record may have, as the disk of a machine does.
+func (m *machine) setRoom(pages string) {
+	m.Helper()
+	var most int64
+	err := m.db.QueryRow("SELECT " + pages).Scan(&most)
+	if err == nil {
+		_, err = m.db.Exec(fmt.Sprint("PRAGMA max_page_count = ", most))
+	}
+	if err != nil {
+		m.Fatal(err)
+	}
+}
+
+// If too much waits for a disk that is full, the node ends: it reads the rest from the log when it is started again.
+func TestFollowFullForLong(t *testing.T) {
+	m := newMachine(t, "")
+	m.resume("", false)
+	m.begin()
+	m.do(addAnn)
+	path, head := m.snapshot(7)
+	m.setRoom("(SELECT page_count FROM pragma_page_count)")
+	call, err := api.NewCall("addUser", "user", strings.Repeat("u", 60_000))
+	if err != nil {
+		t.Fatal(err)
+	}
+	for i := 0; i <= mostQueuedBytes/60_000; i++ {
+		m.Add("a", "t", "", call, []byte(`{"ok":true}`))
+	}
+	if m.flush("NORMAL") == nil {
+		t.Error("it has room")
+	}
+	m.Room()
+	if m.Failure() == nil || m.Close() == nil {
+		t.Error("it goes on")
+	}
+	m.start(path)
+	m.resume(head, false)
+}
+
 // The order of entries is that in which they were added, and none is lost, however they are written.
 func TestFollowMany(t *testing.T) {
 	m := newMachine(t, "")

@@ -118,7 +118,7 @@ func (r *Record) addMetrics() {
 		number, _ := strconv.ParseUint(chain[:12], 16, 64)
 		return float64(number)
 	})
-	r.Metrics.Gauge("rbac_node_record_failing", "1 if the record can't be written, so that commands are refused.", func() float64 {
+	r.Metrics.Gauge("rbac_node_record_failing", "1 if the record can't be written: one machine refuses commands then.", func() float64 {
 		if r.Why() != "" {
 			return 1
 		}
