@@ -269,21 +269,8 @@ func (v *verifier) part(ctx context.Context, opened *view, p part, end int64, is
 	if err := v.join(p); err != nil {
 		return err
 	}
-	var text []byte
-	if err := opened.tx.QueryRowContext(ctx, "SELECT office FROM part WHERE first = ?", p.first).Scan(&text); err != nil {
+	if err := v.layOut(ctx, opened, p); err != nil {
 		return err
-	}
-	file := filepath.Join(v.scratch, rerunFile)
-	for _, left := range []string{file, file + walSuffix} {
-		if err := os.RemoveAll(left); err != nil {
-			return err
-		}
-	}
-	if err := os.WriteFile(file, text, 0o600); err != nil {
-		return err
-	}
-	if rows, err := rowsOf(ctx, file); err != nil || rows != p.rows {
-		return fmt.Errorf("the copy of the office at entry %d is not what the entry says", p.first)
 	}
 	again, err := startRerun(v.Program, v.scratch, v.HangTimeout)
 	if err != nil {
@@ -317,6 +304,27 @@ func (v *verifier) part(ctx context.Context, opened *view, p part, end int64, is
 		fmt.Fprintln(v.Out, "a front has the office: its rows are not compared")
 	}
 	return err
+}
+
+// layOut writes the copy of the office with which a part begins to where a rerun needs it.
+func (v *verifier) layOut(ctx context.Context, opened *view, p part) error {
+	var text []byte
+	if err := opened.tx.QueryRowContext(ctx, "SELECT office FROM part WHERE first = ?", p.first).Scan(&text); err != nil {
+		return err
+	}
+	file := filepath.Join(v.scratch, rerunFile)
+	for _, left := range []string{file, file + walSuffix} {
+		if err := os.RemoveAll(left); err != nil {
+			return err
+		}
+	}
+	if err := os.WriteFile(file, text, 0o600); err != nil {
+		return err
+	}
+	if rows, err := rowsOf(ctx, file); err != nil || rows != p.rows {
+		return fmt.Errorf("the copy of the office at entry %d is not what the entry says", p.first)
+	}
+	return nil
 }
 
 // missing says that entries before a part aren't here.
