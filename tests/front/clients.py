@@ -203,15 +203,25 @@ def check_many_connections(bench):
     return {"idle connections": len(clients)}
 
 
+def fill(front):
+    """Begins as many requests as a caller may have at hand, and returns them if one more gets 429; none if they ended before that."""
+    open_requests = []
+    for _ in range(64):
+        client = socket.create_connection((HOST, front.port), 20)
+        client.sendall(GOOD.replace(b"addUser", b"assignedRoles") + b"Authorization: Bearer secret\r\nContent-Length: 14\r\n\r\n")
+        open_requests.append(client)
+    if any(front.ask("ssdRoleSets", **bearer("secret"))[0] == 429 for _ in range(20)):
+        return open_requests
+    for client in open_requests:
+        client.close()
+    return []
+
+
 def check_at_once(bench):
     """A caller with 64 requests at hand gets 429 for another one, and other callers don't notice."""
     with secured(bench) as front:
         open_requests = []
-        for _ in range(64):
-            client = socket.create_connection((HOST, front.port), 20)
-            client.sendall(GOOD.replace(b"addUser", b"assignedRoles") + b"Authorization: Bearer secret\r\nContent-Length: 14\r\n\r\n")
-            open_requests.append(client)
-        until(lambda: front.ask("ssdRoleSets", **bearer("secret"))[0] == 429, "the caller has too many requests")
+        until(lambda: open_requests or open_requests.extend(fill(front)) or open_requests, "the caller has too many requests")
         bench.same("another caller", front.ask("addUser", {"user": "bob"}, **bearer("another"))[0], 200)
         for client in open_requests:
             client.sendall(b'{"user":"ann"}')
