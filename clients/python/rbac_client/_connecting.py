@@ -54,7 +54,7 @@ def _connected(address: Address, limit: float) -> socket.socket:
 
 
 def _places(address: Address, limit: float) -> List[_Place]:
-    """Where the host is. The system may look for it longer than there is time: nobody waits for it then."""
+    """The addresses of the host. If the system looks them up for longer than the time limit, nobody waits for it."""
     with contextlib.suppress(ValueError):
         ipaddress.ip_address(address.host)
         return socket.getaddrinfo(address.host, address.port, type=socket.SOCK_STREAM)

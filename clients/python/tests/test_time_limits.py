@@ -26,7 +26,7 @@ class Clock:
 
 
 class SilentSocket:
-    """A connection to an address that doesn't answer: it takes as long as it may."""
+    """A connection to an address that doesn't answer takes all of its time limit."""
 
     tried = []
     clock = None

@@ -19,7 +19,7 @@ type Guard struct {
 	most   int
 }
 
-// NewGuard returns a guard with a set that is in force at once. A caller may have so many requests in flight.
+// NewGuard returns a guard with a set that is in force at once. A caller may have at most this many requests in flight.
 func NewGuard(set *Set, most int) *Guard {
 	return &Guard{set: set, atOnce: map[string]int{}, most: most}
 }

@@ -9,7 +9,7 @@ import (
 	"rbac-node/api"
 )
 
-// A caller and all callers together have so many large answers at once and no more. Others have their own.
+// The large answers of a caller, and of all callers together, are limited. Those of other callers are not affected.
 func TestSlots(t *testing.T) {
 	s := newSlots()
 	var leave []func()
