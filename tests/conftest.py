@@ -9,7 +9,6 @@ line says how many comparisons there were.
     pytest tests/front --seed 17          random ones with this seed
 """
 
-import ctypes
 import fcntl
 import inspect
 import os
@@ -28,6 +27,7 @@ TESTS = Path(__file__).resolve().parent
 sys.path.insert(0, str(TESTS))
 
 from counted import Counted  # noqa: E402
+from namespaces import CLONE_NEWNET, CLONE_NEWNS, make_private, make_root_a_mount, setns, unshare  # noqa: E402
 from needs import NEEDS, avoidable, lacking, reason_of  # noqa: E402
 from program.bench import PROGRAM, Bench, folder_of  # noqa: E402
 
@@ -53,6 +53,7 @@ def pytest_configure(config):
     if not os.access(PROGRAM, os.X_OK):
         raise pytest.UsageError(f"there is no program {PROGRAM}")
     if not hasattr(config, "workerinput"):
+        make_root_a_mount()
         config.pluginmanager.register(Counted(config), "counted")
 
 
@@ -174,16 +175,10 @@ def built(tmp_path_factory):
     return build
 
 
-CLONE_NEWNS, CLONE_NEWNET = 0x20000, 0x40000000
-LIBC = ctypes.CDLL(None, use_errno=True)
-
-
 @pytest.fixture(scope="session")
 def own_mounts():
     """Whether this process, of root, has mounts of its own from now on."""
-    if lacking(["mounts", "root"]) or LIBC.unshare(CLONE_NEWNS):
-        return False
-    return subprocess.run(["mount", "--make-rprivate", "/"], check=False).returncode == 0
+    return not lacking(["mounts", "root"]) and unshare(CLONE_NEWNS) and make_private("/")
 
 
 @pytest.fixture(scope="session")
@@ -193,12 +188,12 @@ def loopback():
         yield None
         return
     with open("/proc/thread-self/ns/net", "rb") as before:
-        if LIBC.unshare(CLONE_NEWNET):
+        if not unshare(CLONE_NEWNET):
             yield None
             return
         subprocess.run(["ip", "link", "set", "lo", "up"], check=True)
         with open("/proc/thread-self/ns/net", "rb") as network:
-            LIBC.setns(before.fileno(), CLONE_NEWNET)
+            setns(before, CLONE_NEWNET)
             yield network
 
 
@@ -209,9 +204,9 @@ def own_network(loopback):
         yield
         return
     with open("/proc/thread-self/ns/net", "rb") as before:
-        LIBC.setns(loopback.fileno(), CLONE_NEWNET)
+        setns(loopback, CLONE_NEWNET)
         yield
-        LIBC.setns(before.fileno(), CLONE_NEWNET)
+        setns(before, CLONE_NEWNET)
 
 
 # ---- Running ----------------------------------------------------------------------------------------------------------------
