@@ -17,11 +17,14 @@ class Counted:
     def __init__(self, config):
         self.config = config
         self.comparisons, self.processor = 0, 0.0
-        self.counts, self.partly, self.incomplete, self.faults = defaultdict(Counter), {}, set(), []
+        self.counts, self.partly, self.faults = defaultdict(Counter), {}, []
+        self.failed, self.incomplete = set(), set()
 
     def pytest_runtest_logreport(self, report):
         folder = folder_of(report.nodeid)
-        if not report.passed:
+        if report.failed:
+            self.failed.add(folder)
+        if report.skipped:
             self.incomplete.add(folder)
         if report.when != "call":
             return
@@ -33,7 +36,7 @@ class Counted:
             self.partly[report.nodeid] = sorted(set(given["partly"]))
 
     def is_whole(self, folder):
-        """Whether each check of a folder ran and passed, so that its counts can be judged."""
+        """Whether each check of a folder ran, so that its counts can be judged."""
         option = self.config.option
         chosen = option.keyword or option.markexpr or folder in self.incomplete
         paths = [Path(self.config.invocation_params.dir, one).resolve() for one in self.config.args]
@@ -44,7 +47,8 @@ class Counted:
         for folder, counts in self.counts.items():
             if counts and (TESTS / folder / "judging.py").exists() and self.is_whole(folder):
                 judge = getattr(importlib.import_module(f"{folder}.judging"), "judge_counts", None)
-                self.faults += [f"{folder}: {fault}" for fault in (judge(counts) if judge else [])]
+                more = " (some of its checks failed, and may have counted nothing)" if folder in self.failed else ""
+                self.faults += [f"{folder}: {fault}{more}" for fault in (judge(counts) if judge else [])]
         if self.config.getoption("--installed"):
             reasons = [(name, one) for name, said in self.partly.items() for one in said]
             self.faults += [f"{name}: {one}: {fault}" for name, one in reasons if (fault := avoidable(one))]

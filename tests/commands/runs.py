@@ -12,7 +12,7 @@ from needs import NEEDS
 from program.bench import PROGRAM, TESTS
 
 # What a run of checks needs of this folder.
-COPIED = ("conftest.py", "counted.py", "needs.py", "program/bench.py")
+COPIED = ("conftest.py", "counted.py", "namespaces.py", "needs.py", "program/bench.py")
 
 PLANTED = '''
 import subprocess
@@ -170,7 +170,7 @@ def check_end_of_process(bench, planted):
 
 
 def check_counts(bench, planted):
-    """What all checks of a folder have counted is judged if all of them ran and passed."""
+    """What all checks of a folder have counted is judged if all of them ran, whether they passed or not."""
     checks = planted / "tests/planted/checks.py"
     good = PLANTED[: PLANTED.index("def check_comparison(")]
     checks.write_text(good, encoding="utf-8")
@@ -179,6 +179,10 @@ def check_counts(bench, planted):
     bench.same("a check that was chosen", run(planted, "-k", "good")[0], 0)
     checks.write_text(good.replace('"good": 1', '"good": 2'), encoding="utf-8")
     bench.same("a count that is right", run(planted)[0], 0)
+    checks.write_text(good + "def check_failing(bench):\n    bench.same('one', 1, 2)\n", encoding="utf-8")
+    bench.same("a count that is too small beside a failure", "FAILED: planted: 1 good ones (some of its checks failed" in run(planted)[3], True)
+    checks.write_text(good + "def check_skipped(bench):\n    skip('history')\n", encoding="utf-8")
+    bench.same("a count that is too small beside a skip", run(planted)[0], 0)
 
 
 def check_seeds(bench, planted):
