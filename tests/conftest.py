@@ -46,6 +46,8 @@ def pytest_addoption(parser):
     group.addoption("--gate", action="store_true", help="also the checks that .ci/run makes and bin/test doesn't")
     group.addoption("--long", action="store_true", help="also the checks of --gate, and as many cases as take hours")
     group.addoption("--installed", action="store_true", help="a check that is skipped for want of a Debian package has failed")
+    group.addoption("--needing", help="only the checks that need one of these, such as root,mounts")
+    group.addoption("--not-needing", help="only the checks that need none of these")
     group.addoption("--seed", type=int, help="what checks with a random seed take in its place")
 
 
@@ -85,16 +87,28 @@ def pytest_collection_modifyitems(config, items):
     """Leaves out what is for another run, skips what lacks something, and puts first what takes long."""
     is_long = config.getoption("--long")
     without = [] if is_long else ["long"] if config.getoption("--gate") else ["gate", "long"]
-    later = [item for item in items if any(map(item.get_closest_marker, without))]
+    later = {item for item in items if any(map(item.get_closest_marker, without)) or is_elsewhere(config, item)}
     if later:
         config.hook.pytest_deselected(items=later)
-        items[:] = [item for item in items if item not in set(later)]
+        items[:] = [item for item in items if item not in later]
     for item in items:
-        if gone := lacking(name for mark in item.iter_markers("needs") for name in mark.args):
+        if gone := lacking(needed_by(item)):
             item.add_marker(pytest.mark.skip(reason=reason_of(gone)))
         if is_long and not item.get_closest_marker("timeout"):
             item.add_marker(pytest.mark.timeout(0))
     items.sort(key=lambda item: item.get_closest_marker("slow") is None)
+
+
+def needed_by(item):
+    """The names of what a check needs."""
+    return [name for mark in item.iter_markers("needs") for name in mark.args]
+
+
+def is_elsewhere(config, item):
+    """Whether a check is for another run, by what it needs."""
+    needs = set(needed_by(item))
+    wanted, others = config.getoption("--needing"), config.getoption("--not-needing")
+    return bool(wanted and needs.isdisjoint(wanted.split(",")) or others and not needs.isdisjoint(others.split(",")))
 
 
 @pytest.hookimpl(optionalhook=True)

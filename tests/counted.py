@@ -38,7 +38,7 @@ class Counted:
     def is_whole(self, folder):
         """Whether each check of a folder ran, so that its counts can be judged."""
         option = self.config.option
-        chosen = option.keyword or option.markexpr or folder in self.incomplete
+        chosen = option.keyword or option.markexpr or option.needing or folder in self.incomplete
         paths = [Path(self.config.invocation_params.dir, one).resolve() for one in self.config.args]
         return not chosen and any((TESTS / folder).is_relative_to(path) for path in paths)
 

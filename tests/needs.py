@@ -1,7 +1,8 @@
 """What tests use besides Python: whether it is there, and the Debian packages that bring it, all of which tests/packages lists.
 
 A check says what it needs by a mark, `@pytest.mark.needs("go", "root")`, or amid its work by `skip`. A program that is missing
-when a check runs it is such a need too. A right has no package: nothing installs it.
+when a check runs it is such a need too. A right has no package: nothing installs it. As a command it prints the rights that this
+user lacks.
 """
 
 import os
@@ -105,6 +106,9 @@ NEEDS = {name: Need(program(name), package) for package, names in PROGRAMS.items
     "library for arm64": Need(lambda: os.path.isfile(os.environ.get("RBAC_ARCHIVE_ARM64", ""))),
 }  # fmt: skip
 
+# Those that root has and another user lacks.
+RIGHTS = ("root", "mounts", "layers", "boots", "users of images")
+
 # What begins the reason of a skip that names a need.
 REASON = "needs "
 
@@ -153,3 +157,7 @@ def skip_without(*names: str) -> None:
     """Skips the check that runs unless all of these are there."""
     for name in lacking(names):
         skip(name)
+
+
+if __name__ == "__main__":
+    print(",".join(lacking(RIGHTS)))

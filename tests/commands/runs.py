@@ -200,6 +200,14 @@ def check_marks(bench, planted, words, wanted):
     bench.same("what has run", set(run(planted, *words, "-k", "of_gate or check_long")[1]), wanted)
 
 
+@pytest.mark.parametrize("option, wanted", [("--needing", {"package"}), ("--not-needing", {"good"})])
+def check_needing(bench, planted, option, wanted):
+    """The checks that need something are run apart from the others."""
+    text = PLANTED.replace('"absent"] = Need(program("absent")', '"absent"] = Need(program("sh")')
+    (planted / "tests/planted/checks.py").write_text(text, encoding="utf-8")
+    bench.same("what has run", set(run(planted, option, "absent,other", "-k", "package or good")[1]), wanted)
+
+
 def check_packages(bench):
     """Each package that a need names is one of those that bin/setup installs."""
     listed = set(re.sub(r"#.*", "", (TESTS / "packages").read_text(encoding="utf-8")).split())

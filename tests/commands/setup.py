@@ -93,3 +93,28 @@ def check_without_pytest(bench, without_packages, program, wanted):
     bench.same("the status", done.returncode, wanted)
     bench.same("the rows", (passed + failed, failed > 0), (len(rows), wanted == 1))
     bench.same("the checks that were skipped", skipped, checks)
+
+
+# Python, which prints what it is asked for, and ends with these statuses for the checks of this user and for those of root.
+PYTHON = """#!/bin/sh
+case "$*" in
+*needs.py*) echo root,mounts ;;
+*-m\\ pytest*) echo "${ROOT:-user}: $*"; case "$*" in *--not-needing*) exit $OWN ;; *) exit $OTHERS ;; esac ;;
+esac
+"""
+
+
+@pytest.mark.parametrize(
+    "own, others, wanted", [(0, 0, 0), (1, 0, 1), (0, 1, 1), (5, 0, 0), (0, 5, 0), (5, 5, 5), (2, None, 2)]
+)
+def check_with_sudo(bench, without_packages, own, others, wanted):
+    """Root runs the checks that need its rights, and the user all others; both must pass, and one of them may have none."""
+    for name, text in (("sudo", '#!/bin/sh\nshift; ROOT=root exec "$@"\n'), ("python3", PYTHON), ("apt-get", "#!/bin/sh\n")):
+        (bench.folder / f"commands/{name}").write_text(text, encoding="ascii")
+        (bench.folder / f"commands/{name}").chmod(0o755)
+    settings = {**without_packages, "PYTHON": str(bench.folder / "commands/python3"), "OWN": str(own), "OTHERS": str(others)}
+    done = subprocess.run([TOP / "bin/test", "-k", "word"], env=settings, capture_output=True, text=True, check=False)
+    runs = [(line.split(":")[0], re.findall(r"--(?:not-)?needing root,mounts -k word$", line)) for line in done.stdout.splitlines() if "-m pytest" in line]
+    both = [("user", ["--not-needing root,mounts -k word"]), ("root", ["--needing root,mounts -k word"])]
+    bench.same("the runs", runs, both if others is not None else both[:1])
+    bench.same("the status", done.returncode, wanted)

@@ -8,7 +8,6 @@ import subprocess
 import time
 from collections import Counter
 
-from needs import skip
 import pytest
 from program.bench import TESTS
 
@@ -39,7 +38,8 @@ class Mounted:
         self.holder = subprocess.Popen(
             ["unshare", "--mount", "sh", "-c", mount, folder], stdout=subprocess.PIPE, stderr=subprocess.DEVNULL, text=True
         )
-        self.is_mounted = self.holder.stdout.readline() == "mounted\n"
+        if self.holder.stdout.readline() != "mounted\n":
+            raise OSError(f"nothing can be mounted at {folder}")
 
     def words(self):
         """What comes before the words of a command that is to see the file system."""
@@ -62,12 +62,11 @@ def is_failing(front):
     return "rbac_node_record_failing 1" in front.exchange("GET", "/metrics")[1].splitlines()
 
 
+@pytest.mark.needs("mounts")
 def check_full_disk(bench):
     """Without room for the record commands get 503, and questions are answered. When there is room again, commands are done."""
     front = Front(bench)
     with Mounted(f"{front.office}.record", "600k") as disk:
-        if not disk.is_mounted:
-            skip("mounts", "a full disk")
         front.prefix = disk.words()
         with front:
             connection, done = front.connection(), 0
@@ -95,13 +94,12 @@ def check_full_disk(bench):
 
 
 # Of these disks the last one, at least, has room for all answers and not for the next command.
+@pytest.mark.needs("mounts")
 @pytest.mark.parametrize("size", ["1m", "5m", "8m"])
 def check_alarm(bench, size):
     """A disk that has no room for a command: the alarm stays until a command was recorded, also if nothing is asked meanwhile."""
     front = Front(bench)
     with Mounted(f"{front.office}.record", size) as disk:
-        if not disk.is_mounted:
-            skip("mounts", "a full disk")
         front.prefix = disk.words()
         with front:
 

@@ -185,6 +185,7 @@ def replay_until_stopped(bench, path, story, names):
     return Done(first + out, err, process.returncode), left
 
 
+@pytest.mark.needs("root")
 @pytest.mark.parametrize("names, done_by_then", [(["office"], True), (["office-wal"], False), (["office", "office-wal"], False)])
 def check_lose_open_files(bench, names, done_by_then):
     """Files that nobody can write any more while a replay has them open: it stops, or what is written is enough."""
