@@ -6,6 +6,7 @@ import os
 import signal
 
 from front.identities import RIGHTS, bearer, rules, tokens
+from front.listed import metrics_of, metrics_on
 
 from .machines import Cluster
 from .running import build
@@ -46,7 +47,10 @@ def check_callers(bench):
                 bench.same(f"{what} at node {machine}", given[0], status)
             bench.same(f"health of node {machine}", cluster.get(machine, "/healthz")[0], 200)
             bench.same(f"metrics at the port of clients of node {machine}", cluster.get(machine, "/metrics")[0], 401)
-            bench.same(f"metrics of node {machine}", b"rbac_node_open 0" in cluster.get(machine, "/metrics", 8081)[1], True)
+            metrics = cluster.get(machine, "/metrics", 8081)[1].decode()
+            bench.same(f"metrics of node {machine}", "rbac_node_open 0" in metrics, True)
+            bench.same("metrics that no page lists", metrics_of(metrics) - metrics_on("FRONT.md", "CLUSTER.md"), set())
+            bench.same("metrics of the page that are none", metrics_on("CLUSTER.md") - metrics_of(metrics), set())
         changed = {**RIGHTS, "token:desk": [("assignUser", "role boss")]}
         bench.write("callers.jsonl", rules(changed).encode())
         for node in cluster.nodes:

@@ -19,42 +19,10 @@ def check_functions(bench):
         bench.same(kind, sorted(given), sorted(wanted))
 
 
-def check_texts(bench):
-    """The page is short, and it and the systemd unit name options of rbac-node; the page lists all of them."""
+def check_length(bench):
+    """The page is short."""
     page = (TESTS.parent / "docs/CLUSTER.md").read_text(encoding="utf-8")
     bench.same("a page of under 400 lines", page.count("\n") < 400, True)
-    own, both = ((SOURCES / name).read_text(encoding="utf-8") for name in ("flags_etcd.go", "settings.go"))
-    # docs/FRONT.md lists those that one machine has too.
-    of_cluster = set(re.findall(r'&s\.\w+, "([a-z-]+)"', own)) | {f"{side}-{word}" for side in ("peer", "etcd") for word in FILES}
-    known = of_cluster | set(re.findall(r'&s\.[\w.]+, "([a-z-]+)"', both))
-    unit = (TESTS.parent / "deploy/rbac-node.service").read_text(encoding="utf-8")
-    for name, text in (("docs/CLUSTER.md", page), ("the unit", unit)):
-        used = set(re.findall(r"(?<![\w-])--([a-z][a-z-]+)", text.replace("--build", "")))
-        bench.same(f"options in {name} that are none of rbac-node", sorted(used - known - OTHERS), [])
-    listed = set(re.findall(r"^\| `--([a-z-]+)", page, re.M)) | {
-        f"{side}-{word}" for side in re.findall(r"`--(\w+)-cert`", page) for word in FILES
-    }
-    bench.same("options of rbac-node that the page does not list", sorted(of_cluster - listed), [])
-
-
-# The files of one side of connections.
-FILES = ("cert", "key", "ca")
-
-# Options of other programs on the page: of etcd, etcdctl, curl, useradd, systemctl and the tests.
-OTHERS = {
-    "data-dir", "initial-cluster", "initial-cluster-state", "initial-advertise-peer-urls", "listen-peer-urls",
-    "listen-client-urls", "advertise-client-urls", "initial-cluster-token", "endpoints", "prefix", "print-value-only",
-    "system", "home-dir", "shell", "now", "peer-urls", "long", "quota-backend-bytes", "gate",
-}  # fmt: skip
-
-
-def check_metrics(bench):
-    """The page lists each metric of the node, and no other one."""
-    page = (TESTS.parent / "docs/CLUSTER.md").read_text(encoding="utf-8")
-    gauges = re.findall(r'gauge\("(\w+)"', (SOURCES / "node/health.go").read_text(encoding="utf-8"))
-    counters = re.findall(r'registry\.\w+\("(rbac_\w+)"', (SOURCES / "api/api.go").read_text(encoding="utf-8"))
-    known = {f"rbac_node_{name}" for name in gauges} | set(counters)
-    bench.same("metrics of the page", sorted(set(re.findall(r"rbac_node_\w+", page))), sorted(known))
 
 
 def check_limits(bench):

@@ -4,6 +4,8 @@ import os
 
 import pytest
 
+from needs import lacking
+
 from .running import LONG, PROGRAM, build
 
 NEEDED = ("go", "sqlite-go", "crypto-go", "gcc")
@@ -21,4 +23,5 @@ def pytest_collection_modifyitems(items):
 def front(built, request):
     """The program, at which the variable RBAC_FRONT points."""
     os.environ[LONG] = "yes" if request.config.getoption("--long") else ""
-    os.environ[PROGRAM] = str(built("front", build) / "rbac-node")
+    if not lacking(NEEDED):
+        os.environ[PROGRAM] = str(built("front", build) / "rbac-node")

@@ -29,28 +29,6 @@ def check_functions(bench):
     bench.same("how many functions", len(keys_of_functions()), 51)
 
 
-def check_options(bench):
-    """The page lists each option that both kinds of offices have, with its default, and no other one."""
-    known = re.findall(r'&s\.[\w.]+, "([a-z-]+)"', text_of("settings.go"))
-    section = markdown.section(PAGE, "## 7. Options")
-    listed = [name for row in markdown.tables(section)[0] for name in re.findall(r"`--([a-z-]+)`", row[0])]
-    bench.same("the options of the page", sorted(listed), sorted(known))
-    of_cluster = re.findall(r'&s\.[\w.]+, "([a-z-]+)"', text_of("flags_etcd.go"))
-    used = set(re.findall(r"(?<![\w-])--([a-z][a-z-]+)", PAGE))
-    bench.same("options that are none", sorted(used - set(known) - set(of_cluster) - OTHERS), [])
-
-
-# Options of other programs on the page.
-OTHERS = {"build", "features", "part", "unix-socket", "cacert", "system", "home-dir", "shell", "now"}
-
-
-def check_metrics(bench):
-    """The page lists each metric of the front, and no other one."""
-    sources = text_of("api/api.go", "front/front.go", "one.go", "settings.go", "record/head.go", "metrics/process.go")
-    known = set(re.findall(r'(?:Counter|Gauge|Histogram|Tally)\(\s*"(rbac_\w+)"', sources))
-    bench.same("metrics of the page", sorted(set(re.findall(r"rbac_node_\w+", PAGE))), sorted(known))
-
-
 def check_refusals(bench):
     """The refusals of the front are those of the page."""
     found = re.findall(r'Refusal\{Status: http\.Status(\w+), Code: (\d+), Name: "(\w+)"\}', text_of("api/api.go"))
@@ -84,10 +62,7 @@ def check_limits(bench):
         ("MostReads = 900_000_000", "1,000,000,000 reads"),
         ("mostBytes = 8 << 20", "have 8 MiB each at most"),
         ("mostLines = 200", "200 lines are written for one second"),
-        ('"timeout", 10*time.Second', "(default: 10s)"),
-        ('"hang-timeout", time.Minute', "(default: 1m)"),
         ("longestReason = 256", "up to 256 bytes of UTF-8"),
-        ('"record-base", 10_000', "does the later commands again (default: 10,000)"),
         ("nobody = 65534", "65534, which is nobody"),
         ("silenceTimeout = 5 * time.Second", "the replay has answered none for 5 seconds"),
     ]:
