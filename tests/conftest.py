@@ -27,7 +27,7 @@ TESTS = Path(__file__).resolve().parent
 sys.path.insert(0, str(TESTS))
 
 from counted import Counted  # noqa: E402
-from namespaces import CLONE_NEWNET, CLONE_NEWNS, make_private, make_root_a_mount, setns, unshare  # noqa: E402
+from namespaces import CLONE_NEWNET, CLONE_NEWNS, leave_chroot, make_private, setns, unshare  # noqa: E402
 from needs import NEEDS, avoidable, lacking, reason_of  # noqa: E402
 from program.bench import PROGRAM, Bench, folder_of  # noqa: E402
 
@@ -55,7 +55,7 @@ def pytest_configure(config):
     if not os.access(PROGRAM, os.X_OK):
         raise pytest.UsageError(f"there is no program {PROGRAM}")
     if not hasattr(config, "workerinput"):
-        make_root_a_mount()
+        leave_chroot()
         config.pluginmanager.register(Counted(config), "counted")
 
 
@@ -192,7 +192,10 @@ def built(tmp_path_factory):
 @pytest.fixture(scope="session")
 def own_mounts():
     """Whether this process, of root, has mounts of its own from now on."""
-    return not lacking(["mounts", "root"]) and unshare(CLONE_NEWNS) and make_private("/")
+    if lacking(["mounts", "root"]) or not unshare(CLONE_NEWNS):
+        return False
+    make_private()
+    return True
 
 
 @pytest.fixture(scope="session")

@@ -5,6 +5,7 @@ import re
 import shutil
 import subprocess
 import sys
+from pathlib import Path
 
 import pytest
 
@@ -206,6 +207,43 @@ def check_needing(bench, planted, option, wanted):
     text = PLANTED.replace('"absent"] = Need(program("absent")', '"absent"] = Need(program("sh")')
     (planted / "tests/planted/checks.py").write_text(text, encoding="utf-8")
     bench.same("what has run", set(run(planted, option, "absent,other", "-k", "package or good")[1]), wanted)
+
+
+# Makes a root whose folder is no mount, with all folders of this machine, and runs a command there.
+CHROOT = """
+for one in /*; do
+    if [ -L "$one" ]; then cp -P "$one" "$0"; elif [ -d "$one" ]; then mkdir "$0$one" && mount --rbind "$one" "$0$one"; fi
+done
+exec chroot "$0" "$@"
+"""
+
+# Shows which namespaces a process can have, before and after it left the chroot, and where it is then.
+LEAVING = """
+import os, subprocess, sys
+import namespaces
+
+def show():
+    print([subprocess.run(["unshare", kind, "true"], stderr=subprocess.DEVNULL).returncode for kind in ("--mount", "--user")])
+
+os.chdir(sys.argv[1])
+show()
+namespaces.leave_chroot()
+show()
+print(os.getcwd(), os.path.samefile("/", sys.argv[2]), any(os.scandir("/sys/fs/cgroup")))
+"""
+
+
+@pytest.mark.needs("root", "mounts")
+def check_chroot(bench):
+    """A process of root can have mounts of its own in a chroot too, and sees the same files."""
+    root = bench.folder / "root"
+    root.mkdir()
+    words = ["unshare", "--mount", "sh", "-eu", "-c", CHROOT, root, sys.executable, "-c", LEAVING, bench.folder, root]
+    done = subprocess.run(words, env={**os.environ, "PYTHONPATH": str(TESTS)}, capture_output=True, text=True, check=False)
+    usual = [subprocess.run(["unshare", kind, "true"], capture_output=True, check=False).returncode for kind in ("--mount", "--user")]
+    bench.same("what it can have, and where it is", done.stdout.splitlines(), ["[1, 1]", str(usual), f"{bench.folder} True True"])
+    bench.same("errors", done.stderr, "")
+    bench.same("what others see", [line for line in Path("/proc/self/mountinfo").read_text().splitlines() if str(root) in line], [])
 
 
 def check_packages(bench):
