@@ -235,6 +235,14 @@ def processor_seconds():
     return sum(one.ru_utime + one.ru_stime for one in used)
 
 
+@pytest.hookimpl(hookwrapper=True)
+def pytest_runtest_setup(item):
+    """Counts what it takes to build what a check shares with others, at the check that is the first to need it."""
+    start = processor_seconds()
+    yield
+    item.user_properties.append(("built", round(processor_seconds() - start, 2)))
+
+
 @pytest.hookimpl(tryfirst=True)
 def pytest_pyfunc_call(pyfuncitem):
     """Runs a check, and judges it by what its bench has counted."""

@@ -30,7 +30,7 @@ class Counted:
             return
         given = dict(report.user_properties)
         self.comparisons += given.get("comparisons", 0)
-        self.processor += given.get("processor", 0)
+        self.processor += given.get("processor", 0) + given.get("built", 0)
         self.counts[folder].update(given.get("counts", {}))
         if given.get("partly"):
             self.partly[report.nodeid] = sorted(set(given["partly"]))
