@@ -367,6 +367,8 @@ type Member struct {
 	// Run names the run of the node that reports this, and Settings what has to be the same on all nodes. Older nodes report neither.
 	Run      string    `json:"run,omitempty"`
 	Settings *Settings `json:"settings,omitempty"`
+	// Outvoted says why most nodes have outvoted this one, which refuses as long as it has its folder. It is empty if they haven't.
+	Outvoted string `json:"outvoted,omitempty"`
 }
 
 // Settings say at which places of the log nodes take snapshots.

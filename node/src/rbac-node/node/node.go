@@ -6,6 +6,7 @@
 package node
 
 import (
+	"bytes"
 	"context"
 	"fmt"
 	"net/http"
@@ -140,6 +141,10 @@ type Node struct {
 	// isNamed says that this node is registered, and isTaken that another one is under the same name. Both belong to the goroutine that
 	// finishes snapshots.
 	isNamed, isTaken bool
+	// isRegistered says that etcd has what this node has to report. outvoted says why most nodes have outvoted this one, and
+	// isOutvotedKept that its folder says so. They belong to that goroutine too.
+	isRegistered, isOutvotedKept bool
+	outvoted                     string
 	// isFailing says that the last snapshot that was begun has failed.
 	isFailing atomic.Bool
 	// differs is the text that describes where this node differs from most others, or empty.
@@ -180,7 +185,7 @@ func New(options Options, shared Log, log *logs.Logger, registry *metrics.Regist
 	n.differs.Store("")
 	n.stage.Store("etcd is asked")
 	n.addMetrics(registry)
-	return n, nil
+	return n, n.readOutvoted()
 }
 
 // Snapshots serves the newest snapshot.
@@ -269,6 +274,9 @@ func (n *Node) feed(ctx context.Context) error {
 
 // send passes a line to the replay.
 func (n *Node) send(line []byte, answered func(answer []byte)) {
+	if faults.Has(faults.LeavesOut) && n.options.Name == "n2" && bytes.Contains(line, []byte(`"user":"lost`)) {
+		line = []byte(probe)
+	}
 	n.reads += office.ReadsOf(line)
 	n.progress.send()
 	n.replay.Send(line, func(text []byte) {
