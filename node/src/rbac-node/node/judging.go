@@ -52,15 +52,15 @@ func (n *Node) keepOutvoted() error {
 	return nil
 }
 
-// judgeSnapshots makes this node refuse to serve while most nodes do not have its snapshots. Once a majority of all has others, it
-// refuses for good, and no other node is judged by it.
-func (n *Node) judgeSnapshots(members []ledger.Member) error {
+// judgeNodes makes this node refuse to serve while most nodes do not have its snapshots or its settings. Once a majority of all has other
+// snapshots, it refuses for good, and no other node is judged by it.
+func (n *Node) judgeNodes(state ledger.State) error {
 	own, err := n.store.List()
 	if err != nil {
 		return err
 	}
 	all := []ledger.Member{{Name: n.options.Name, Snapshots: own, Outvoted: n.outvoted}}
-	for _, member := range members {
+	for _, member := range state.Members {
 		if member.Name != n.options.Name {
 			all = append(all, member)
 		}
@@ -71,10 +71,10 @@ func (n *Node) judgeSnapshots(members []ledger.Member) error {
 	}
 	why := n.outvoted
 	if why == "" {
-		why = difference(n.options.Name, own, except(members, out))
+		why = difference(n.options.Name, own, except(state.Members, out))
 	}
 	if why == "" {
-		why = otherSettings(n.options.Name, n.settings(), members)
+		why = otherSettings(n.life, state.Lives)
 	}
 	if n.differs.Swap(why) != why && why != "" {
 		n.log.Error("refusing to serve", "why", why)
@@ -168,24 +168,24 @@ func difference(name string, own []office.Snapshot, members []ledger.Member) str
 	return ""
 }
 
-// otherSettings reports that most nodes take snapshots at other places than a node, if they do: with no place in common wrong rows would
-// be found nowhere. Of two nodes the one with the later name has to change.
-func otherSettings(name string, own ledger.Settings, members []ledger.Member) string {
-	agree, differ := 1, []ledger.Member{}
-	for _, member := range members {
+// otherSettings reports that most nodes that run take snapshots at other places than one of them, if they do: with no place in common
+// wrong rows would be found nowhere. Of two nodes the one with the later name has to change.
+func otherSettings(own ledger.Life, lives []ledger.Life) string {
+	agree, differ := 1, []ledger.Life{}
+	for _, life := range lives {
 		switch {
-		case member.Name == name || member.Settings == nil:
-		case *member.Settings == own:
+		case life.Name == own.Name:
+		case life.Settings == own.Settings:
 			agree++
 		default:
-			differ = append(differ, member)
+			differ = append(differ, life)
 		}
 	}
-	if len(differ) < agree || len(differ) == agree && name < differ[0].Name {
+	if len(differ) < agree || len(differ) == agree && own.Name < differ[0].Name {
 		return ""
 	}
-	return fmt.Sprintf("%s differs: it has %s, and %s has %s; start all nodes with the same, and delete the keys of those that are gone",
-		name, own, differ[0].Name, differ[0].Settings)
+	return fmt.Sprintf("%s differs: it has %s, and %s has %s; start all nodes with the same",
+		own.Name, own.Settings, differ[0].Name, differ[0].Settings)
 }
 
 // snapshotAt returns the snapshot of a node at a revision.

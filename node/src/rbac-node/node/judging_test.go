@@ -45,28 +45,26 @@ func TestDifference(t *testing.T) {
 	}
 }
 
-// A node has to take snapshots where most nodes do.
+// A node has to take snapshots where most nodes do that run.
 func TestOtherSettings(t *testing.T) {
-	own := ledger.Settings{Every: 10, EveryBytes: 99}
-	with := func(name string, s *ledger.Settings) ledger.Member { return ledger.Member{Name: name, Settings: s} }
-	same, fewer, bytes := &ledger.Settings{Every: 10, EveryBytes: 99}, &ledger.Settings{Every: 3, EveryBytes: 99},
-		&ledger.Settings{Every: 10, EveryBytes: 98}
+	same, fewer, bytes := ledger.Settings{Every: 10, EveryBytes: 99}, ledger.Settings{Every: 3, EveryBytes: 99},
+		ledger.Settings{Every: 10, EveryBytes: 98}
+	with := func(name string, s ledger.Settings) ledger.Life { return ledger.Life{Name: name, Settings: s} }
 	for _, one := range []struct {
 		name    string
-		others  []ledger.Member
+		lives   []ledger.Life
 		refuses bool
 	}{
-		{"nobody else", members(), false},
-		{"all agree", members(with("b", same), with("c", same)), false},
-		{"nodes that don't say", members(with("b", nil), with("c", nil)), false},
-		{"most agree", members(with("b", same), with("c", fewer)), false},
-		{"most differ", members(with("b", fewer), with("c", bytes)), true},
-		{"one of two, the later one", members(with("a", bytes)), true},
-		{"one of two, the earlier one", members(with("x", bytes)), false},
-		{"what it registered before", members(with("n", fewer)), false},
+		{"nobody else", nil, false},
+		{"all agree", []ledger.Life{with("b", same), with("c", same)}, false},
+		{"most agree", []ledger.Life{with("b", same), with("c", fewer)}, false},
+		{"most differ", []ledger.Life{with("b", fewer), with("c", bytes)}, true},
+		{"one of two, the later one", []ledger.Life{with("a", bytes)}, true},
+		{"one of two, the earlier one", []ledger.Life{with("x", bytes)}, false},
+		{"what it said before", []ledger.Life{with("n", fewer)}, false},
 	} {
 		t.Run(one.name, func(t *testing.T) {
-			if why := otherSettings("n", own, one.others); (why != "") != one.refuses {
+			if why := otherSettings(with("n", same), one.lives); (why != "") != one.refuses {
 				t.Errorf("%q", why)
 			}
 		})
@@ -76,8 +74,8 @@ func TestOtherSettings(t *testing.T) {
 // A node refuses to serve while its settings differ, and says what to do.
 func TestRefusesWithOtherSettings(t *testing.T) {
 	n, log, _ := newNode(t)
-	other := &ledger.Settings{Every: 7, EveryBytes: 1 << 20}
-	log.state.Members = members(ledger.Member{Name: "b", Settings: other}, ledger.Member{Name: "c", Settings: other})
+	other := ledger.Settings{Every: 7, EveryBytes: 1 << 20}
+	log.state.Lives = []ledger.Life{{Name: "b", Settings: other}, {Name: "c", Settings: other}}
 	if err := n.trimLog(context.Background()); err != nil {
 		t.Fatal(err)
 	}
@@ -85,26 +83,6 @@ func TestRefusesWithOtherSettings(t *testing.T) {
 		t.Errorf("%q", why)
 	}
 	if _, err := n.Do(context.Background(), of(api.Command, "c")); !errors.Is(err, api.Diverged) {
-		t.Errorf("%v", err)
-	}
-}
-
-// Of two nodes with one name the one that was there before ends. A node that starts anew takes over from its last run.
-func TestNameTaken(t *testing.T) {
-	n, log, _ := newNode(t)
-	log.state.Members = members(ledger.Member{Name: "a", Run: "an earlier run"})
-	if err := n.trimLog(context.Background()); err != nil || n.isTaken {
-		t.Fatalf("before it is registered: %v", err)
-	}
-	if err := n.announce(context.Background()); err != nil {
-		t.Fatal(err)
-	}
-	log.state.Members = log.registered
-	if err := n.trimLog(context.Background()); err != nil || n.isTaken {
-		t.Fatalf("as it has registered: %v", err)
-	}
-	log.state.Members = members(ledger.Member{Name: "a", Run: "another node"})
-	if err := n.maintain(context.Background()); !errors.Is(err, errNameTaken) {
 		t.Errorf("%v", err)
 	}
 }

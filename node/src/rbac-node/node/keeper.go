@@ -2,9 +2,7 @@ package node
 
 import (
 	"context"
-	"errors"
 	"os"
-	"strconv"
 	"time"
 
 	"rbac-node/ledger"
@@ -68,9 +66,6 @@ func (n *Node) maintain(ctx context.Context) error {
 			n.isRegistered = n.attempt(ctx, "the snapshots are not registered", n.announce)
 		}
 		n.attempt(ctx, "the log is not trimmed", n.trimLog)
-		if n.isTaken {
-			return errNameTaken
-		}
 		select {
 		case one := <-n.copies:
 			err := n.finish(ctx, one)
@@ -125,24 +120,8 @@ func (n *Node) announce(ctx context.Context) error {
 	if len(found) > 0 {
 		n.snapshot.Store(found[0].Revision)
 	}
-	settings := n.settings()
-	err = n.shared.Register(ctx, ledger.Member{
-		Name: n.options.Name, Peer: n.options.Peer, Snapshots: found, Run: n.run(), Settings: &settings, Outvoted: n.outvoted,
-	})
-	n.isNamed = n.isNamed || err == nil
-	return err
+	return n.shared.Register(ctx, ledger.Member{Name: n.options.Name, Peer: n.options.Peer, Snapshots: found, Outvoted: n.outvoted})
 }
-
-// run names this run of the node.
-func (n *Node) run() string { return strconv.FormatInt(n.start.UnixNano(), 36) }
-
-// settings are what has to be the same on all nodes.
-func (n *Node) settings() ledger.Settings {
-	return ledger.Settings{Every: n.options.SnapshotCommands, EveryBytes: n.options.SnapshotBytes}
-}
-
-// errNameTaken reports that two nodes have one name.
-var errNameTaken = errors.New("another node has registered under the name of this one since: give each node another --name")
 
 // trimLog judges the snapshots of all nodes, and trims the log.
 func (n *Node) trimLog(ctx context.Context) error {
@@ -154,10 +133,9 @@ func (n *Node) trimLog(ctx context.Context) error {
 	for i, member := range state.Members { // They are in the order of their names.
 		if member.Name == n.options.Name {
 			n.rank.Store(int64(i))
-			n.isTaken = n.isNamed && member.Run != "" && member.Run != n.run()
 		}
 	}
-	if err := n.judgeSnapshots(state.Members); err != nil {
+	if err := n.judgeNodes(state); err != nil {
 		return err
 	}
 	raised, err := n.shared.Raise(ctx, state)

@@ -52,7 +52,7 @@ func (n *Node) recoverOffice(ctx context.Context) error {
 	if err != nil {
 		return err
 	}
-	return n.judgeSnapshots(state.Members)
+	return n.judgeNodes(state)
 }
 
 // makeOffice makes the office in use from a snapshot, or an empty one.
