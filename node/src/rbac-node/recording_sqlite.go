@@ -95,8 +95,11 @@ func (withRecord) run(words []string) error {
 func (c *recordCommand) define(flags *flag.FlagSet, name string) {
 	flags.StringVar(&c.Office, "office", "", "file of the office")
 	switch name {
-	case "verify", "show", "head":
+	case "verify", "show", "head", "cut", "backup":
 		flags.StringVar(&c.Data, "data", "", "folder of a node of several machines, in place of --office")
+	}
+	switch name {
+	case "verify", "show", "head":
 		flags.StringVar(&c.Part, "part", "", "file of an earlier part alone, in place of --office")
 	}
 	if name != "show" && name != "head" {
