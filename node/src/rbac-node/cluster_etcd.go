@@ -110,6 +110,12 @@ func (s *clusterSettings) adoptInto(ctx context.Context, shared *ledger.Ledger, 
 	if err != nil {
 		return err
 	}
+	head := ""
+	if about, err := os.Stat(from); err == nil && about.IsDir() {
+		if from, head, err = records.carry(ctx, s.common, from, s.Data); err != nil {
+			return err
+		}
+	}
 	file, err := store.Begin(from)
 	if err != nil {
 		return err
@@ -123,7 +129,7 @@ func (s *clusterSettings) adoptInto(ctx context.Context, shared *ledger.Ledger, 
 	if err != nil {
 		return err
 	}
-	snapshot, err := store.Finish(ctx, file, office.Snapshot{Revision: revision})
+	snapshot, err := store.Finish(ctx, file, office.Snapshot{Revision: revision, Record: head})
 	if err != nil {
 		return err
 	}

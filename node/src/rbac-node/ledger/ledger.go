@@ -341,14 +341,16 @@ func (l *Ledger) First(ctx context.Context) (int64, error) {
 }
 
 // Adopt makes an empty log begin after a snapshot that holds an earlier state of an office. It returns the revision of
-// that snapshot. Nodes without it have to fetch it.
+// that snapshot. Nodes without it have to fetch it. Each entry of the log says who asks, since the record may go on with it.
 func (l *Ledger) Adopt(ctx context.Context) (int64, error) {
 	s, err := l.State(ctx)
 	if err != nil {
 		return 0, err
 	}
 	reply, err := l.commit(ctx, "adoption", func(t clientv3.Txn) clientv3.Txn {
-		return t.If(isAt("head", 0), isAt("floor", 0)).Then(clientv3.OpPut("floor", strconv.FormatInt(s.Revision, 10)))
+		return t.If(isAt("head", 0), isAt("floor", 0)).Then(
+			clientv3.OpPut("floor", strconv.FormatInt(s.Revision, 10)), clientv3.OpPut(formKey, strconv.Itoa(Form)),
+		)
 	})
 	if err != nil {
 		return 0, err

@@ -322,6 +322,57 @@ func TestCutNode(t *testing.T) {
 	}
 }
 
+// A backup of a node is the folder of one. The record of another node goes on with it, and says where it begins anew over the office,
+// which may lack the last commands.
+func TestCarry(t *testing.T) {
+	m := newMachine(t, "")
+	m.resume("", false)
+	m.begin()
+	m.do(addAnn, addRole)
+	m.snapshot(7)
+	m.do(assign, login)
+	m.flush("NORMAL")
+	folder, out := t.TempDir(), &bytes.Buffer{}
+	tool := &Tool{Data: m.data, Program: m.Program, HangTimeout: time.Minute, Out: out}
+	if err := tool.Backup(context.Background(), folder); err != nil {
+		t.Fatal(err)
+	}
+	backup := strings.TrimSpace(out.String())
+	if said, err := (&machine{T: t, Follower: m.Follower, data: backup}).verify(nil); err != nil || !strings.Contains(said, "entry 3\n") {
+		t.Errorf("%s%v", said, err)
+	}
+	data := t.TempDir()
+	options := Options{Program: m.Program, Dir: DirIn(data), HangTimeout: time.Minute, Log: logs.New(io.Discard)}
+	snapshot, head, err := Carry(context.Background(), options, backup)
+	if err != nil || head.N != 6 || filepath.Dir(filepath.Dir(snapshot)) != backup {
+		t.Fatalf("%s, %v, %v", snapshot, head, err)
+	}
+	if _, _, err := Carry(context.Background(), options, backup); !errors.Is(err, errHasRecord) {
+		t.Errorf("again: %v", err)
+	}
+	first := &machine{T: t, data: data}
+	first.start(snapshot)
+	first.resume(head.String(), false)
+	second := newMachine(t, snapshot)
+	second.resume(head.String(), true)
+	for _, one := range []*machine{first, second} {
+		one.do(`{"fn":"addUser","user":"bob"}`)
+		if err := one.Failure(); err != nil {
+			t.Error(err)
+		}
+	}
+	if one, other := first.Added(), second.Added(); one != other || !strings.HasPrefix(one, "7:") {
+		t.Errorf("%s and %s", one, other)
+	}
+	first.flush("NORMAL")
+	first.snapshot(9)
+	said, err := first.verify(&head)
+	if err != nil || !strings.Contains(said, "entry 6 begins anew over the office of a backup") ||
+		!strings.Contains(said, "the newest snapshot has the rows that the record gives at entry 7") {
+		t.Errorf("%s%v", said, err)
+	}
+}
+
 // rechain computes the links of a record anew, as somebody may do who can write it.
 const rechain = `
 import hashlib, sqlite3, sys
