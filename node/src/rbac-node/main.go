@@ -6,7 +6,8 @@
 //	rbac-node callers FILE
 //	rbac-node callers --check OPTION..
 //	rbac-node record verify|show|head|cut|adopt --office FILE
-//	rbac-node backup --office FILE FOLDER
+//	rbac-node record verify|show|head|cut --data FOLDER
+//	rbac-node backup --office FILE|--data FOLDER FOLDER
 //	rbac-node health SOCKET
 //	rbac-node --version
 //	rbac-node --help
