@@ -74,13 +74,16 @@ class Disks(Cluster):
         return self.folder / f"disk-{kind}{i}"
 
     def data(self, name):
-        kind = name.rstrip("0123456789")
-        return str(self.disk(kind, int(name[len(kind) :])) / "data") if kind in ROOM and kind != name else super().data(name)
+        folder, _, rest = name.partition("/")
+        kind = folder.rstrip("0123456789")
+        if kind not in ROOM or kind == folder:
+            return super().data(name)
+        return str(self.disk(kind, int(folder[len(kind) :])) / "data" / rest)
 
     def __exit__(self, *words):
         super().__exit__(*words)
         for disk in self.mounted:
-            quietly("umount", disk)
+            quietly("umount", "-l", disk)
 
 
 class AllFaults(Faults):
