@@ -110,12 +110,13 @@ func (s *clusterSettings) adoptInto(ctx context.Context, shared *ledger.Ledger, 
 	if err != nil {
 		return err
 	}
-	head := ""
+	head, undo := "", func() {}
 	if about, err := os.Stat(from); err == nil && about.IsDir() {
-		if from, head, err = records.carry(ctx, s.common, from, s.Data); err != nil {
+		if from, head, undo, err = records.carry(ctx, s.common, from, s.Data); err != nil {
 			return err
 		}
 	}
+	defer func() { undo() }()
 	file, err := store.Begin(from)
 	if err != nil {
 		return err
@@ -129,6 +130,7 @@ func (s *clusterSettings) adoptInto(ctx context.Context, shared *ledger.Ledger, 
 	if err != nil {
 		return err
 	}
+	undo = func() {} // From now on nodes need it.
 	snapshot, err := store.Finish(ctx, file, office.Snapshot{Revision: revision, Record: head})
 	if err != nil {
 		return err

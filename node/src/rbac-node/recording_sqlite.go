@@ -43,10 +43,10 @@ func (withRecord) follow(s *settings, data, office string, log *logs.Logger, reg
 	})
 }
 
-func (withRecord) carry(ctx context.Context, s *settings, backup, data string) (office, head string, err error) {
-	office, last, err := record.Carry(ctx, record.Options{Program: s.program, Dir: record.DirIn(data), HangTimeout: s.hangTimeout,
-		Log: logs.New(os.Stderr)}, backup)
-	return office, last.String(), err
+func (withRecord) carry(ctx context.Context, s *settings, backup, data string) (office, head string, undo func(), err error) {
+	dir := record.DirIn(data)
+	office, last, err := record.Carry(ctx, record.Options{Program: s.program, Dir: dir, HangTimeout: s.hangTimeout, Log: logs.New(os.Stderr)}, backup)
+	return office, last.String(), func() { _ = os.RemoveAll(dir) }, err
 }
 
 // missingStatus is the status of verify if all that is here is good, but entries are missing.

@@ -34,10 +34,13 @@ var ErrFull, ErrDenied = rpctypes.ErrNoSpace, rpctypes.ErrPermissionDenied
 var ErrNameTaken = errors.New("another node runs under the name of this one: give each node another --name")
 
 // Live says that a node runs, and has to be called again and again, by one goroutine at a time. It fails with ErrNameTaken if a node with
-// another folder runs under the name, or ran a moment ago.
+// another folder runs under the name, or ran a moment ago, or if a later run has a copy of the folder.
 func (l *Ledger) Live(ctx context.Context, life Life) error {
 	if l.lease != clientv3.NoLease {
 		_, err := l.client.KeepAliveOnce(ctx, l.lease)
+		if err == nil {
+			return l.keep(ctx, life)
+		}
 		if !errors.Is(err, rpctypes.ErrLeaseNotFound) {
 			return err
 		}
@@ -52,6 +55,23 @@ func (l *Ledger) Live(ctx context.Context, life Life) error {
 		l.Leave(ctx)
 	}
 	return err
+}
+
+// keep reports whether a life is still that of its name: a copy of the folder may run, too.
+func (l *Ledger) keep(ctx context.Context, life Life) error {
+	reply, err := l.transact(ctx, "read of the name", clientv3.OpGet(livesPrefix+life.Name))
+	if err != nil {
+		return err
+	}
+	found := read(reply, 0)
+	if len(found) == 0 {
+		return l.claim(ctx, life)
+	}
+	var other Life
+	if err := json.Unmarshal(found[0].Value, &other); err != nil || other.Run != life.Run {
+		return ErrNameTaken
+	}
+	return nil
 }
 
 // claim writes a life, unless another node has its name.

@@ -37,6 +37,9 @@ func TestLive(t *testing.T) {
 	third := New(first.client, "test", logs.New(io.Discard))
 	life.Run = "4"
 	must(third, life, nil) // The first one was killed, and is started again.
+	earlier := life
+	earlier.Run = "1"
+	must(first, earlier, ErrNameTaken) // Or it was not, and its folder was copied.
 	second = New(first.client, "test", logs.New(io.Discard))
 	must(second, other, ErrNameTaken)
 	third.Leave(ctx)
