@@ -7,6 +7,7 @@ import socket
 import threading
 import time
 from dataclasses import dataclass
+from email.utils import parsedate_to_datetime
 
 from .networks import MACHINES
 
@@ -35,6 +36,8 @@ class Asked:
     revision: int = 0
     place: int = 0
     age: float = 0.0
+    # When the node has written the answer, by its head, which says the whole second: all have the clock of this machine.
+    written: float = 0.0
     caller: str = ""
     reason: str = ""
 
@@ -86,7 +89,8 @@ class Client(threading.Thread):
             asked.revision = int(reply.headers.get("Office-Revision", 0))
             asked.place = int(reply.headers.get("Office-Place", 0))
             asked.age = float(reply.headers.get("Office-Age", 0))
-        except (OSError, http.client.HTTPException, ValueError):
+            asked.written = parsedate_to_datetime(reply.headers["Date"]).timestamp() - time.time() + time.monotonic()
+        except (OSError, http.client.HTTPException, ValueError, TypeError):
             asked.status = 0
             self.connections.pop(node).close()
         asked.end = time.monotonic()

@@ -16,9 +16,6 @@ from .histories import COMMAND, LINEARIZABLE, LOCAL
 # The clock of an age is that of the node.
 SLACK = 0.05
 
-# How long an answer may need to reach a client, with all clients in one process of a busy machine.
-LATE = 1.0
-
 
 class Recorder(threading.Thread):
     """Reads the log from etcd while it grows, before it is trimmed."""
@@ -149,11 +146,10 @@ class Judge:
 
 
 def fresh_at(asked):
-    """An answer has what was answered before this time. A local one is as old as it says, however long it has waited."""
+    """An answer has what was answered before this time. It is as old as it says when the node writes it, however long it has waited."""
     if asked.kind == COMMAND:
         return asked.start
-    came = asked.end - asked.age - LATE
-    return max(came, asked.start - (asked.age + SLACK if asked.kind == LOCAL else 0))
+    return max(asked.written - asked.age - SLACK, asked.start - (asked.age + SLACK if asked.kind == LOCAL else 0))
 
 
 def text_of(line):

@@ -80,16 +80,38 @@ class Namespaces:
         """Returns the words to put before a command that is to run on a machine."""
         return ["ip", "netns", "exec", f"{self.name}m{machine}"]
 
+    def others(self, machine):
+        return [other for other in range(MACHINES) if other != machine]
+
+    def block(self, here, there, do):
+        """Lets nothing through from a machine to another one, or lets it through again."""
+        quietly("ip", "-n", f"{self.name}m{here}", "route", do, "blackhole", f"{self.host(there)}/32")
+
     def cut(self, machine, do="add"):
         """Cuts a machine off from the others, in both directions. The clients still reach all."""
-        for other in range(MACHINES):
-            if other != machine:
-                for here, there in ((machine, other), (other, machine)):
-                    quietly("ip", "-n", f"{self.name}m{here}", "route", do, "blackhole", f"{self.host(there)}/32")
+        for other in self.others(machine):
+            self.block(machine, other, do)
+            self.block(other, machine, do)
 
     def join(self, machine):
         """Lets a machine reach the others again."""
         self.cut(machine, "del")
+
+    def mute(self, machine, do="add"):
+        """Lets nothing through from a machine to the others. What they send arrives."""
+        for other in self.others(machine):
+            self.block(machine, other, do)
+
+    def slow(self, machine, do="add"):
+        """Lets little through from a machine, also to clients, and that late."""
+        rate = ["tbf", "rate", "800kbit", "burst", "8kb", "latency", "400ms"] if do == "add" else []
+        return quietly("tc", "-n", f"{self.name}m{machine}", "qdisc", do, "dev", "eth0", "root", *rate)
+
+    def lose(self, machine, do="-A"):
+        """Loses a fifth of what a machine sends to the others."""
+        words = ["ip", "netns", "exec", f"{self.name}m{machine}", "iptables", do, "OUTPUT"]
+        at_random = ["-m", "statistic", "--mode", "random", "--probability", "0.2", "-j", "DROP"]
+        return all([quietly(*words, "-d", self.host(other), *at_random) for other in self.others(machine)])
 
     def close(self):
         """Leaves the system as it was."""

@@ -1,15 +1,21 @@
-"""A node with other rows than the two others, while clients ask and machines fail: it is outvoted, and nobody takes its snapshot."""
+"""A node with other rows than the two others, while clients ask and machines fail: it is outvoted for good, the others don't refuse
+because of it, and nobody takes its snapshot."""
 
 import json
 import shutil
+import signal
 import time
+
+import pytest
 
 from .answers import exchange, post
 from .faults import OFTEN
-from .keeping import log_of, make_wrong
-from .machines import PREFIX
+from .keeping import EVERY, add_users, log_of, make_wrong, registered
+from .machines import Cluster, Process
 from .networks import MACHINES
 from .rights import token
+from .rows import snapshots_of
+from .running import build
 
 DIVERGED = (503, b'{"code":61,"error":"Diverged"}')
 
@@ -45,15 +51,54 @@ def outvote(bench, cluster, faults):
 
 
 def judge_lost(bench, cluster, wrong, right, lost):
-    """A node without its folder gets ready by the right node's snapshot: at once, or when the wrong node is gone."""
+    """A node without its folder gets ready by the right node's snapshot, also while the wrong node runs. That one gets another folder."""
     begin = len(log_of(cluster, lost))
-    said = lambda: log_of(cluster, lost)[begin:]  # noqa: E731
     cluster.lose_node(lost)
-    cluster.until(lambda: "fetched a snapshot" in said() or f'"from":"n{wrong}"' in said(), "it has asked for a snapshot")
-    time.sleep(2)
+    cluster.until(lambda: all(cluster.status(i).get("ready") for i in (right, lost)), "the node is ready")
+    said = log_of(cluster, lost)[begin:].splitlines()
+    fetched = [json.loads(line)["from"] for line in said if '"fetched a snapshot"' in line]
+    bench.same("from whom it has fetched", set(fetched), {f"n{right}"})
     cluster.nodes[wrong].stop()
     shutil.rmtree(cluster.data(f"node{wrong}"))
-    cluster.until(lambda: cluster.does("del", f"{PREFIX}/nodes/n{wrong}"), "the wrong node is removed")
-    cluster.until(lambda: all(cluster.status(i).get("ready") for i in (right, lost)), "the node is ready")
-    fetched = [json.loads(line)["from"] for line in said().splitlines() if '"fetched a snapshot"' in line]
-    bench.same("from whom it has fetched", set(fetched), {f"n{right}"})
+
+
+def snapshot_of_all(cluster, machines):
+    """Adds commands until these nodes have registered a snapshot of one place."""
+    wanted = set().union(*(registered(cluster).get(i, set()) for i in machines))
+    add_users(cluster, f"u{time.monotonic_ns()}-", EVERY)
+    same = lambda: set.intersection(*(registered(cluster).get(i, set()) for i in machines)) - wanted  # noqa: E731
+    cluster.until(same, f"a snapshot of {machines}")
+
+
+@pytest.mark.gate
+def check_outvoted(bench, faulty):
+    """A node that leaves out commands is outvoted, and stays so when it has the rows of the others again, and with another program. The
+    right nodes answer, also while one of them is slow, so that the other one has only the wrong node to compare with."""
+    with Cluster(bench.folder, faulty("LeavesOut"), every=EVERY, more=["--no-record"]) as cluster:
+        snapshot_of_all(cluster, range(MACHINES))
+        bench.same("a user", exchange(cluster, post("addUser", b'{"user":"lost1"}'))[0], 200)
+        snapshot_of_all(cluster, range(MACHINES))
+        cluster.until(lambda: "empty folder" in cluster.status(2).get("why", ""), "the wrong node is outvoted")
+        cluster.until(lambda: all(cluster.status(i).get("ready") for i in range(2)), "the others are ready")
+        cluster.nodes[1].send(signal.SIGSTOP)
+        snapshot_of_all(cluster, (0, 2))
+        time.sleep(3)  # As long as it takes to look at what others report.
+        bench.same("the right node answers", exchange(cluster, post("addUser", b'{"user":"while one is slow"}'))[0], 200)
+        bench.same("it is ready", cluster.status(0).get("ready"), True)
+        cluster.nodes[1].send(signal.SIGCONT)
+        bench.same("the user is removed", exchange(cluster, post("deleteUser", b'{"user":"lost1"}'))[0], 200)
+        for _ in range(3):
+            snapshot_of_all(cluster, range(MACHINES))
+        snapshots = [{(s["revision"], s["digest"]) for s, _ in snapshots_of(cluster, i).values()} for i in (0, 2)]
+        bench.same("the wrong node has the rows of the others", snapshots[1], snapshots[0])
+        question = post("assignedRoles", b'{"user":"a"}')
+        bench.same("it refuses", exchange(cluster, question, 2), DIVERGED)
+        cluster.nodes[2].stop(signal.SIGTERM)
+        cluster.nodes[2] = Process([build(bench.shared) if word == cluster.node else word for word in cluster.nodes[2].words], cluster.nodes[2].log)
+        cluster.nodes[2].start()
+        cluster.until(lambda: "empty folder" in cluster.status(2).get("why", ""), "the right program refuses too")
+        cluster.nodes[2].stop(signal.SIGTERM)
+        shutil.move(cluster.data("node2"), cluster.data("evidence"))
+        cluster.nodes[2].start()
+        cluster.until(cluster.ready, "with an empty folder it is ready")
+        add_users(cluster, "after", 3)

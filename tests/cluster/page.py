@@ -97,7 +97,7 @@ def check_commands(bench):
         start(node)
         for block in markdown.blocks(PAGE, "console"):
             for name, command, shown in runs(block):
-                if "adopt" in command:
+                if "rbac-node adopt" in command:
                     # The page says that b does the same, and that the members are started again.
                     machines["b"].type("kill $MEMBER; wait; mkdir away; mv node etcd away")
                     start(member)
@@ -107,9 +107,9 @@ def check_commands(bench):
                     for other in "bc":
                         bench.same(f"what {command} prints", machines[other].type(command), "")
                 bench.same(f"what {command} prints", machines[name].type(command), machines[name].here(shown))
-                if "node/snapshots" in command:
+                if command == "mv backup node":
                     start(member)
-                if "adopt" in command or "del rbac/first" in command:
+                if "rbac-node adopt" in command or "del rbac/first" in command:
                     start(node)
     finally:
         for machine in machines.values():

@@ -201,6 +201,7 @@ def check_records(bench, seed, node=None):
         cluster.until(lambda: same_head(cluster), "all have the same head")
         judge_same(bench, cluster, asker)
         judge_shown(bench, cluster)
+        judge_cut(bench, cluster, asker)
         judge_joined(bench, cluster, asker)
         judge_written(bench, cluster, asker)
         judge_secret(bench, cluster)
@@ -236,6 +237,21 @@ def judge_shown(bench, cluster):
     bench.same("the head is logged", f'"entry":{entries[-1].n},"chain":"{entries[-1].chain}"' in log_of(cluster, 0), True)
     cluster.nodes[0].start()
     cluster.until(cluster.ready, "the node is ready")
+
+
+def judge_cut(bench, cluster, asker):
+    """The record of a node is divided while the others go on. All have the same entries."""
+    data = cluster.data("node1")
+    bench.same("while it runs", tool(cluster.node, "cut", "--data", data)[::2], (1, "rbac-node: a node has the folder: stop it first\n"))
+    cluster.nodes[1].stop(signal.SIGTERM)
+    status, out, said = tool(cluster.node, "cut", "--data", data, "--program", PROGRAM)
+    bench.judge("cut", [] if (status, said) == (0, "") and Path(out.strip()).exists() else [f"{status} {out}{said}"])
+    asker.ask(5)
+    cluster.nodes[1].start()
+    cluster.until(lambda: same_head(cluster), "all have the same head")
+    bench.same("the files", len(files_of(data)), 2)
+    bench.same("the entries", entries_of(data), entries_of(cluster.data("node0")))
+    bench.same("verify", tool(cluster.node, "verify", "--data", data)[::2], (0, ""))
 
 
 def judge_joined(bench, cluster, asker):

@@ -110,6 +110,13 @@ func (s *clusterSettings) adoptInto(ctx context.Context, shared *ledger.Ledger, 
 	if err != nil {
 		return err
 	}
+	head, undo := "", func() {}
+	if about, err := os.Stat(from); err == nil && about.IsDir() {
+		if from, head, undo, err = records.carry(ctx, s.common, from, s.Data); err != nil {
+			return err
+		}
+	}
+	defer func() { undo() }()
 	file, err := store.Begin(from)
 	if err != nil {
 		return err
@@ -123,7 +130,8 @@ func (s *clusterSettings) adoptInto(ctx context.Context, shared *ledger.Ledger, 
 	if err != nil {
 		return err
 	}
-	snapshot, err := store.Finish(ctx, file, office.Snapshot{Revision: revision})
+	undo = func() {} // From now on nodes need it.
+	snapshot, err := store.Finish(ctx, file, office.Snapshot{Revision: revision, Record: head})
 	if err != nil {
 		return err
 	}

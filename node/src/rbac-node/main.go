@@ -6,7 +6,8 @@
 //	rbac-node callers FILE
 //	rbac-node callers --check OPTION..
 //	rbac-node record verify|show|head|cut|adopt --office FILE
-//	rbac-node backup --office FILE FOLDER
+//	rbac-node record verify|show|head|cut --data FOLDER
+//	rbac-node backup --office FILE|--data FOLDER FOLDER
 //	rbac-node health SOCKET
 //	rbac-node --version
 //	rbac-node --help
@@ -90,7 +91,10 @@ func run(words []string) error {
 		syscall.Umask(0o077)
 		return records.run(words)
 	}
-	s, flags := &settings{}, flag.NewFlagSet("rbac-node "+words[0], flag.ContinueOnError)
+	s, flags := &settings{hangups: make(chan os.Signal, 1)}, flag.NewFlagSet("rbac-node "+words[0], flag.ContinueOnError)
+	if words[0] == "serve" {
+		signal.Notify(s.hangups, syscall.SIGHUP)
+	}
 	s.define(flags)
 	cluster.define(flags)
 	if err := flags.Parse(words[1:]); err != nil {

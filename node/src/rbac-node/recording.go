@@ -1,6 +1,7 @@
 package main
 
 import (
+	"context"
 	"errors"
 	"fmt"
 	"os"
@@ -24,6 +25,9 @@ type recordMode interface {
 	add(s *settings, office *single.Options, registry *metrics.Registry) error
 	// follow returns the record of a node, with its folder and the office in use, or nil if this program can't keep one.
 	follow(s *settings, data, office string, log *logs.Logger, registry *metrics.Registry) recorded.Follower
+	// carry begins the record of a node with that of a backup of a node, and returns the path of the backup's office and the head. What
+	// it returns last takes that back.
+	carry(ctx context.Context, s *settings, backup, data string) (office, head string, undo func(), err error)
 	// run does `record WORD ..` and `backup ..`.
 	run(words []string) error
 }
@@ -44,6 +48,10 @@ func (withoutRecord) add(*settings, *single.Options, *metrics.Registry) error {
 func (withoutRecord) follow(_ *settings, _, _ string, log *logs.Logger, _ *metrics.Registry) recorded.Follower {
 	log.Warn("no record is kept: this program was built without SQLite")
 	return nil
+}
+
+func (withoutRecord) carry(context.Context, *settings, string, string) (office, head string, undo func(), err error) {
+	return "", "", nil, errWithoutRecord
 }
 
 func (withoutRecord) run([]string) error { return errWithoutRecord }

@@ -43,6 +43,12 @@ func (withRecord) follow(s *settings, data, office string, log *logs.Logger, reg
 	})
 }
 
+func (withRecord) carry(ctx context.Context, s *settings, backup, data string) (office, head string, undo func(), err error) {
+	dir := record.DirIn(data)
+	office, last, err := record.Carry(ctx, record.Options{Program: s.program, Dir: dir, HangTimeout: s.hangTimeout, Log: logs.New(os.Stderr)}, backup)
+	return office, last.String(), func() { _ = os.RemoveAll(dir) }, err
+}
+
 // missingStatus is the status of verify if all that is here is good, but entries are missing.
 const missingStatus = 2
 
@@ -57,7 +63,8 @@ type recordCommand struct {
 }
 
 var errRecordUsage = errors.New("usage: rbac-node record verify|show|head|cut|adopt --office FILE [options], " +
-	"rbac-node record verify|show|head --data FOLDER|--part FILE [options], or rbac-node backup --office FILE FOLDER")
+	"rbac-node record verify|show|head --part FILE [options], " +
+	"rbac-node record verify|show|head|cut --data FOLDER [options], or rbac-node backup --office FILE|--data FOLDER FOLDER")
 
 func (withRecord) run(words []string) error {
 	c := &recordCommand{Tool: record.Tool{HangTimeout: toolHangTimeout, Out: os.Stdout, Err: os.Stderr, Log: logs.New(os.Stderr)}}
@@ -95,8 +102,11 @@ func (withRecord) run(words []string) error {
 func (c *recordCommand) define(flags *flag.FlagSet, name string) {
 	flags.StringVar(&c.Office, "office", "", "file of the office")
 	switch name {
-	case "verify", "show", "head":
+	case "verify", "show", "head", "cut", "backup":
 		flags.StringVar(&c.Data, "data", "", "folder of a node of several machines, in place of --office")
+	}
+	switch name {
+	case "verify", "show", "head":
 		flags.StringVar(&c.Part, "part", "", "file of an earlier part alone, in place of --office")
 	}
 	if name != "show" && name != "head" {

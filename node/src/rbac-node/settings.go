@@ -37,6 +37,8 @@ type settings struct {
 	callers                                   callers.Files
 	isCheck                                   bool
 	record                                    recordSettings
+	// hangups gets SIGHUP.
+	hangups chan os.Signal
 }
 
 // clusterMode is what a program for several machines does.
@@ -144,7 +146,7 @@ func (s *settings) frontOptions(addresses []front.Address, log *logs.Logger, reg
 	options := front.Options{
 		Addresses: addresses, TLS: s.tls, Connections: s.connections, CallerRequests: s.callerRequests, AnswerTimeout: s.answerTimeout, Refused: s.refused,
 		PublicURL: strings.TrimSuffix(s.publicURL, "/"),
-		Log:       log, Metrics: registry,
+		Log:       log, Metrics: registry, Hangups: s.hangups,
 		Callers: callers.Options{
 			Files: s.callers, Program: s.program, AnswerTimeout: s.answerTimeout, HangTimeout: s.hangTimeout, Reads: single.MostReads,
 			Log: log, Starts: registry.Counter("rbac_node_replay_starts_total", "Starts of a replay.", "replay"),

@@ -13,6 +13,7 @@ import (
 	"strings"
 	"time"
 
+	"rbac-node/boottime"
 	"rbac-node/metrics"
 )
 
@@ -41,7 +42,7 @@ type Point struct {
 	Revision int64
 	Place    int
 	// Newest is a moment at which the state that answered a question was the newest one.
-	Newest time.Time
+	Newest boottime.Moment
 	// Policy is the revision of the policy after a command, or that of the state that answered a question, or 0 if it isn't known.
 	Policy int64
 }
@@ -58,8 +59,8 @@ func (p Point) SetHead(head http.Header) {
 		head.Set("Office-Revision", strconv.FormatInt(p.Revision, 10))
 	}
 	switch {
-	case !p.Newest.IsZero():
-		head.Set("Office-Age", strconv.FormatFloat(time.Since(p.Newest).Seconds(), 'f', 3, 64))
+	case p.Newest > 0:
+		head.Set("Office-Age", strconv.FormatFloat(boottime.Since(p.Newest).Seconds(), 'f', 3, 64))
 	case p.Revision > 0:
 		head.Set("Office-Place", strconv.Itoa(p.Place))
 	}

@@ -11,6 +11,7 @@ import (
 	"testing"
 	"time"
 
+	"rbac-node/boottime"
 	"rbac-node/metrics"
 	"rbac-node/office"
 )
@@ -18,7 +19,7 @@ import (
 // A fakeOffice accepts everything, and remembers it.
 type fakeOffice struct {
 	lines  []string
-	newest time.Time
+	newest boottime.Moment
 }
 
 func (f *fakeOffice) Do(_ context.Context, b Batch) (Answers, error) {
@@ -64,9 +65,9 @@ func TestSmuggledRequest(t *testing.T) {
 
 // Office-Age is what has passed since the state was the newest one.
 func TestAge(t *testing.T) {
-	office := &fakeOffice{newest: time.Now().Add(-time.Hour)}
+	office := &fakeOffice{newest: boottime.Now() - boottime.Moment(3*time.Second)}
 	given := said(t, office, "POST /v1/ssdRoleSets HTTP/1.1\r\nHost: a\r\nConsistency: local\r\nConnection: close\r\nContent-Length: 0\r\n\r\n")
-	if !strings.Contains(given, "Office-Age: 3600.") || len(office.lines) != 1 || office.lines[0] != `local {"fn":"ssdRoleSets"}` {
+	if !strings.Contains(given, "Office-Age: 3.") || len(office.lines) != 1 || office.lines[0] != `local {"fn":"ssdRoleSets"}` {
 		t.Errorf("%v, %s", office.lines, given)
 	}
 }

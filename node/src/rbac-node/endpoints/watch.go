@@ -2,6 +2,7 @@ package endpoints
 
 import (
 	"bufio"
+	"context"
 	"net"
 	"net/http"
 	"strconv"
@@ -19,6 +20,9 @@ const (
 	mostWatches, mostAtOnce = 256, 500
 	// watchInterval is how often the newest number is written, and the right to watch judged again.
 	watchInterval = time.Second
+	// reachTimeout is how long a watch waits for a number that this node doesn't have yet, and reachInterval how often it looks. A node
+	// that is behind for longer is not ready.
+	reachTimeout, reachInterval = 10 * time.Second, 20 * time.Millisecond
 )
 
 // watchHead is the head of the answer. Its end is that of the connection.
@@ -92,8 +96,8 @@ func (e *Endpoints) watch(r *request) (int, error) {
 	if err != nil {
 		return 0, err
 	}
-	if _, known := s.After(after, 0); !known {
-		return 0, outdated
+	if err := reach(r, s, after); err != nil {
+		return 0, err
 	}
 	r.done()
 	if watching.Add(1) > mostWatches {
@@ -114,6 +118,28 @@ func (e *Endpoints) watch(r *request) (int, error) {
 	w.gone = make(chan struct{})
 	w.run(buffered.Reader)
 	return http.StatusOK, nil
+}
+
+// reach waits until the state has a number, which a client may have got from a node that is ahead of this one. It refuses a number after
+// which not all commands are known, and one that nothing has given.
+func reach(r *request, s *state.State, number int64) error {
+	within, cancel := context.WithTimeout(r.ctx, reachTimeout)
+	defer cancel()
+	ticker := time.NewTicker(reachInterval)
+	defer ticker.Stop()
+	for {
+		found, known := s.After(number, 0)
+		switch {
+		case known:
+			return nil
+		case number <= found.Newest || r.kind != api.Local || within.Err() != nil:
+			return outdated
+		}
+		select {
+		case <-ticker.C: // A refused command has a number too, and wakes nobody.
+		case <-within.Done():
+		}
+	}
 }
 
 // readAfter reads the number that a client has got last: Last-Event-ID, which a browser sends, or after.

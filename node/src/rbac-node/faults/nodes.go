@@ -18,4 +18,6 @@ const (
 	ForgetsCaller = "leaves a caller out of its record"
 	// NumbersByItself makes the number of the first command by itself.
 	NumbersByItself = "makes the number of the first command by itself"
+	// LeavesOut leaves out the commands about some users at one node.
+	LeavesOut = "leaves out the commands about some users"
 )

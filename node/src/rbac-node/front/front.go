@@ -10,10 +10,8 @@ import (
 	"net"
 	"net/http"
 	"os"
-	"os/signal"
 	"strings"
 	"sync/atomic"
-	"syscall"
 	"time"
 
 	"rbac-node/api"
@@ -45,6 +43,8 @@ type Options struct {
 	AnswerTimeout time.Duration
 	Log           *logs.Logger
 	Metrics       *metrics.Registry
+	// Hangups gets SIGHUP from the beginning of the program, so that a signal that comes early doesn't end it.
+	Hangups <-chan os.Signal
 }
 
 // IsOpen reports whether everybody who can connect may do everything.
@@ -71,14 +71,11 @@ type Front struct {
 	// stage says what a start does, and isServing that it has come to its end.
 	stage     atomic.Value
 	isServing atomic.Bool
-	// hangups gets SIGHUP, from the beginning: a signal that comes early doesn't end the front.
-	hangups chan os.Signal
 }
 
 // New returns a front that doesn't listen yet. An error leaves no process behind.
 func New(ctx context.Context, options Options) (*Front, error) {
-	f := &Front{Options: options, origins: map[string]bool{}, isLocal: true, hangups: make(chan os.Signal, 1)}
-	signal.Notify(f.hangups, syscall.SIGHUP)
+	f := &Front{Options: options, origins: map[string]bool{}, isLocal: true}
 	for _, origin := range options.Origins {
 		f.origins[origin] = true
 	}
@@ -197,7 +194,6 @@ func (f *Front) Shutdown(ctx context.Context) { web.Shutdown(ctx, f.servers...) 
 
 // Close ends what New and Listen have started.
 func (f *Front) Close() {
-	signal.Stop(f.hangups)
 	for _, listener := range f.listeners {
 		_ = listener.Close() // A server may have closed it.
 	}

@@ -16,7 +16,7 @@ const settling = 2 * time.Minute
 func (f *Front) ReloadOnSignal(ctx context.Context) {
 	for {
 		select {
-		case <-f.hangups:
+		case <-f.Hangups:
 		case <-ctx.Done():
 			return
 		}

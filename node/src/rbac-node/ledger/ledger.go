@@ -43,6 +43,8 @@ const (
 	maxPageEntries, pageBytes = 64, 512 << 10
 	// maxPageKeys is how many keys are read at once.
 	maxPageKeys = 64
+	// maxWatched is how many revisions a watch may begin behind the newest one. etcd reads all of them for it at once.
+	maxWatched = 4096
 	// stallInterval is how long the log may be known to have more before it is followed anew.
 	stallInterval = time.Second
 	// firstKey has the number after which the commands are numbered.
@@ -74,6 +76,8 @@ type Ledger struct {
 	// generation is the newest one that is known, head the newest revision of an entry, and form that from which entries have form 2,
 	// or 0.
 	generation, head, form atomic.Int64
+	// lease is that of the life of a node, which belongs to the goroutine that renews it.
+	lease clientv3.LeaseID
 }
 
 // New returns the ledger below a prefix of etcd's keys.
@@ -88,7 +92,7 @@ func New(client *clientv3.Client, prefix string, log *logs.Logger) *Ledger {
 // finalErrors are those of etcd that no attempt changes: nothing was done.
 var finalErrors = []error{
 	rpctypes.ErrNoSpace, rpctypes.ErrRequestTooLarge, rpctypes.ErrTooManyOps, rpctypes.ErrPermissionDenied,
-	rpctypes.ErrUserEmpty,
+	rpctypes.ErrUserEmpty, rpctypes.ErrLeaseNotFound,
 }
 
 // isFinal reports whether another attempt would fail in the same way.
@@ -337,14 +341,16 @@ func (l *Ledger) First(ctx context.Context) (int64, error) {
 }
 
 // Adopt makes an empty log begin after a snapshot that holds an earlier state of an office. It returns the revision of
-// that snapshot. Nodes without it have to fetch it.
+// that snapshot. Nodes without it have to fetch it. Each entry of the log says who asks, since the record may go on with it.
 func (l *Ledger) Adopt(ctx context.Context) (int64, error) {
 	s, err := l.State(ctx)
 	if err != nil {
 		return 0, err
 	}
 	reply, err := l.commit(ctx, "adoption", func(t clientv3.Txn) clientv3.Txn {
-		return t.If(isAt("head", 0), isAt("floor", 0)).Then(clientv3.OpPut("floor", strconv.FormatInt(s.Revision, 10)))
+		return t.If(isAt("head", 0), isAt("floor", 0)).Then(
+			clientv3.OpPut("floor", strconv.FormatInt(s.Revision, 10)), clientv3.OpPut(formKey, strconv.Itoa(Form)),
+		)
 	})
 	if err != nil {
 		return 0, err
@@ -364,9 +370,8 @@ type Member struct {
 	Snapshots []office.Snapshot `json:"snapshots"`
 	// Form is the newest form of entries that it reads, or 0 if that is form 1.
 	Form int `json:"form,omitempty"`
-	// Run names the run of the node that reports this, and Settings what has to be the same on all nodes. Older nodes report neither.
-	Run      string    `json:"run,omitempty"`
-	Settings *Settings `json:"settings,omitempty"`
+	// Outvoted says why most nodes have outvoted this one, which refuses as long as it has its folder. It is empty if they haven't.
+	Outvoted string `json:"outvoted,omitempty"`
 }
 
 // Settings say at which places of the log nodes take snapshots.
@@ -391,15 +396,17 @@ func (l *Ledger) Register(ctx context.Context, member Member) error {
 }
 
 // A State is what etcd has besides the entries: the revision up to which they may be gone, the newest generation, the
-// revision from which entries have form 2, or 0, the nodes that are registered, and the revision at which it was read.
+// revision from which entries have form 2, or 0, the nodes that are registered, those that run, and the revision at which it was read.
 type State struct {
 	Floor, generation, form, Revision int64
 	Members                           []Member
+	Lives                             []Life
 }
 
 // State reads the state.
 func (l *Ledger) State(ctx context.Context) (s State, err error) {
-	reply, err := l.transact(ctx, "read of the nodes", clientv3.OpGet("floor"), clientv3.OpGet(nodesPrefix, clientv3.WithPrefix()))
+	reply, err := l.transact(ctx, "read of the nodes", clientv3.OpGet("floor"), clientv3.OpGet(nodesPrefix, clientv3.WithPrefix()),
+		clientv3.OpGet(livesPrefix, clientv3.WithPrefix()))
 	if err != nil {
 		return s, err
 	}
@@ -420,6 +427,13 @@ func (l *Ledger) State(ctx context.Context) (s State, err error) {
 		s.Members = append(s.Members, member)
 	}
 	l.form.Store(s.form)
+	for _, kv := range read(reply, 2) {
+		var life Life
+		if err := json.Unmarshal(kv.Value, &life); err != nil {
+			return s, fmt.Errorf("%s: %w", kv.Key, err)
+		}
+		s.Lives = append(s.Lives, life)
+	}
 	return s, nil
 }
 
@@ -427,13 +441,18 @@ func (l *Ledger) State(ctx context.Context) (s State, err error) {
 // was trimmed past what is needed.
 func (l *Ledger) Follow(ctx context.Context, after int64, deliver func(Entry) error) error {
 	f := &follower{l, after, deliver}
-	for {
-		// What etcd's history may lack after a compaction is read from the keys, and the rest is watched.
-		revision, err := f.catchUp(ctx)
+	for lacks := false; ; {
+		// What is far behind, and what etcd's history lacks after a compaction, is read from the keys. The rest is watched.
+		revision, err := f.begin(ctx)
+		if err == nil && (lacks || revision-f.after > maxWatched) {
+			revision, err = f.catchUp(ctx)
+		} else {
+			revision = f.after
+		}
 		if err != nil {
 			return err
 		}
-		if err := f.watch(ctx, revision+1); err != nil {
+		if lacks, err = f.watch(ctx, revision+1); err != nil {
 			return err
 		}
 		l.log.Info("following the log anew", "revision", f.after)
@@ -448,6 +467,15 @@ type follower struct {
 	*Ledger
 	after   int64
 	deliver func(Entry) error
+}
+
+// begin returns the revision of etcd, unless entries were trimmed that are needed.
+func (f *follower) begin(ctx context.Context) (int64, error) {
+	reply, err := f.transact(ctx, "read of the log", clientv3.OpGet("floor"))
+	if err != nil {
+		return 0, err
+	}
+	return reply.Header.Revision, checkFloor(reply, f.after)
 }
 
 // catchUp delivers the entries that the log has, and returns the revision up to which it has read. Pages of entries are
@@ -551,29 +579,29 @@ func (f *follower) deliverEntry(kv *mvccpb.KeyValue) error {
 }
 
 // watch delivers what etcd's watch reports until it ends, or until entries that the log is known to have don't come: a
-// member of etcd that hangs reports nothing.
-func (f *follower) watch(ctx context.Context, from int64) error {
+// member of etcd that hangs reports nothing. It reports whether the watch lacks such entries.
+func (f *follower) watch(ctx context.Context, from int64) (lacks bool, err error) {
 	ctx, cancel := context.WithCancel(clientv3.WithRequireLeader(ctx))
 	defer cancel()
 	// The client itself, since that of a namespace hands each event on to another goroutine.
 	watch := f.client.Watch(ctx, f.prefix+"log/", clientv3.WithPrefix(), clientv3.WithRev(from), clientv3.WithFilterDelete())
 	ticker := time.NewTicker(stallInterval)
 	defer ticker.Stop()
-	for wanted := int64(0); ; {
+	for wanted, last := int64(0), f.after; ; {
 		select {
 		case <-ticker.C:
-			if f.after < wanted {
-				return nil
+			if f.after < wanted && f.after == last {
+				return true, nil
 			}
-			wanted = f.head.Load()
+			wanted, last = f.head.Load(), f.after
 		case reply := <-watch:
 			if reply.Err() != nil || len(reply.Events) == 0 {
-				return ctx.Err()
+				return reply.CompactRevision > 0, ctx.Err()
 			}
 			for _, event := range reply.Events {
 				event.Kv.Key = event.Kv.Key[len(f.prefix):]
 				if err := f.deliverEntry(event.Kv); err != nil {
-					return err
+					return false, err
 				}
 			}
 		}

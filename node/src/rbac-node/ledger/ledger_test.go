@@ -8,6 +8,7 @@ import (
 	"net"
 	"os/exec"
 	"path"
+	"sync/atomic"
 	"testing"
 	"time"
 
@@ -195,6 +196,48 @@ func TestFollowAfterCompaction(t *testing.T) {
 	}
 	if rest, err := all(t, l, before[2*part].Revision); err != nil || len(rest) != part-1 {
 		t.Errorf("%d entries are left, %v", len(rest), err)
+	}
+}
+
+// A countingKV counts the transactions that begin.
+type countingKV struct {
+	clientv3.KV
+	count atomic.Int64
+}
+
+func (k *countingKV) Txn(ctx context.Context) clientv3.Txn {
+	k.count.Add(1)
+	return k.KV.Txn(ctx)
+}
+
+// Who follows from a place near the end reads no keys of what is before, unless etcd's history lacks what comes after.
+func TestFollowFromPlace(t *testing.T) {
+	l, ctx := newLedger(t), context.Background()
+	for i := 0; i < 4*maxPageKeys; i++ {
+		mustAppend(t, l, fmt.Sprintf("e%d", i))
+	}
+	before, err := all(t, l, 0)
+	if err != nil {
+		t.Fatal(err)
+	}
+	counted := &countingKV{KV: l.kv}
+	l.kv = counted
+	from := len(before) - 10
+	for _, one := range []struct {
+		name  string
+		least int64
+	}{{"from the history", 2}, {"from the keys", 6}} {
+		counted.count.Store(0)
+		rest, err := all(t, l, before[from].Revision)
+		if err != nil || len(rest) != 9 || rest[8].ID != before[from+9].ID {
+			t.Fatalf("%s: %d entries, %v", one.name, len(rest), err)
+		}
+		if count := counted.count.Load(); count < one.least || one.least == 2 && count > 2 { // One is that of the head.
+			t.Errorf("%s: %d transactions", one.name, count)
+		}
+		if _, err := l.client.Compact(ctx, before[from+5].Revision); err != nil && one.least == 2 {
+			t.Fatal(err)
+		}
 	}
 }
 

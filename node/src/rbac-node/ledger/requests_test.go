@@ -192,6 +192,7 @@ func TestPages(t *testing.T) {
 			firstLarge = added.Revision
 		}
 	}
+	forget(t, l)
 	for _, one := range []struct {
 		name     string
 		after    int64
@@ -224,6 +225,17 @@ func TestPages(t *testing.T) {
 				}
 			}
 		})
+	}
+}
+
+// forget makes etcd forget its history, so that the log is read from its keys.
+func forget(t *testing.T, l *Ledger) {
+	ctx := context.Background()
+	if err := l.Register(ctx, Member{Name: "a"}); err != nil {
+		t.Fatal(err)
+	}
+	if _, err := l.client.Compact(ctx, mustState(t, l).Revision); err != nil {
+		t.Fatal(err)
 	}
 }
 
@@ -260,6 +272,7 @@ func TestKeysFromPlace(t *testing.T) {
 	mustAppend(t, l, "new1")
 	place := head(t, l)
 	mustAppend(t, l, "new2")
+	forget(t, l)
 	for _, one := range []struct {
 		name           string
 		after          int64

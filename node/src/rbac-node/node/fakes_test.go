@@ -11,6 +11,7 @@ import (
 	"time"
 
 	"rbac-node/api"
+	"rbac-node/boottime"
 	"rbac-node/ledger"
 	"rbac-node/logs"
 	"rbac-node/metrics"
@@ -29,7 +30,10 @@ type fakeLog struct {
 	done       ledger.Place
 	lost       error
 	registered []ledger.Member
-	entries    chan ledger.Entry
+	// lives are the runs that nodes have said, and unnamed why a name is refused.
+	lives   []ledger.Life
+	unnamed error
+	entries chan ledger.Entry
 }
 
 func newFakeLog() *fakeLog { return &fakeLog{entries: make(chan ledger.Entry, 100)} }
@@ -93,6 +97,16 @@ func (l *fakeLog) Register(_ context.Context, member ledger.Member) error {
 
 func (l *fakeLog) UseLeader(context.Context) {}
 
+// Live fails as the log says.
+func (l *fakeLog) Live(_ context.Context, life ledger.Life) error {
+	l.mutex.Lock()
+	defer l.mutex.Unlock()
+	l.lives = append(l.lives, life)
+	return l.unnamed
+}
+
+func (l *fakeLog) Leave(context.Context) {}
+
 // setFull makes a log refuse what it is asked to keep, or not.
 func (l *fakeLog) setFull(isFull bool) {
 	l.mutex.Lock()
@@ -112,7 +126,7 @@ type fakeReplay struct {
 	most, reads int64
 	mutex       sync.Mutex
 	lines       []string
-	times       []time.Time
+	times       []boottime.Moment
 	waiting     []func([]byte)
 	isPaused    bool
 	ended       chan struct{}
@@ -124,7 +138,7 @@ func newFakeReplay() *fakeReplay { return &fakeReplay{ended: make(chan struct{})
 func (r *fakeReplay) Send(line []byte, answered func([]byte)) {
 	r.mutex.Lock()
 	defer r.mutex.Unlock()
-	r.lines, r.times = append(r.lines, string(line)), append(r.times, time.Now())
+	r.lines, r.times = append(r.lines, string(line)), append(r.times, boottime.Now())
 	r.waiting = append(r.waiting, answered)
 	if r.reads += office.ReadsOf(line); r.most > 0 && r.reads > r.most {
 		r.once.Do(func() { close(r.ended) })
@@ -160,7 +174,7 @@ func (r *fakeReplay) sent() []string {
 }
 
 // sentAt returns when a line was sent.
-func (r *fakeReplay) sentAt(line string) (at time.Time) {
+func (r *fakeReplay) sentAt(line string) (at boottime.Moment) {
 	r.mutex.Lock()
 	defer r.mutex.Unlock()
 	for i, text := range r.lines {

@@ -7,6 +7,7 @@ import (
 	"net/http"
 	"time"
 
+	"rbac-node/boottime"
 	"rbac-node/metrics"
 )
 
@@ -28,7 +29,7 @@ type status struct {
 }
 
 func (n *Node) status() status {
-	age, at := time.Since(n.newest()), n.applied.Load()
+	age, at := boottime.Since(n.newest()), n.applied.Load()
 	s := status{
 		Open: n.options.IsOpen, Revision: at.revision, Count: at.count, Snapshot: n.snapshot.Load(), Age: age.Seconds(),
 		Newest: n.seen.Load(),

@@ -2,10 +2,7 @@ package node
 
 import (
 	"context"
-	"errors"
-	"fmt"
 	"os"
-	"strconv"
 	"time"
 
 	"rbac-node/ledger"
@@ -64,14 +61,11 @@ func (n *Node) noteSnapshot(revision int64, err error) {
 func (n *Node) maintain(ctx context.Context) error {
 	ticker := time.NewTicker(lookInterval)
 	defer ticker.Stop()
-	for isRegistered := false; ; {
-		if !isRegistered {
-			isRegistered = n.attempt(ctx, "the snapshots are not registered", n.announce)
+	for {
+		if !n.isRegistered {
+			n.isRegistered = n.attempt(ctx, "the snapshots are not registered", n.announce)
 		}
 		n.attempt(ctx, "the log is not trimmed", n.trimLog)
-		if n.isTaken {
-			return errNameTaken
-		}
 		select {
 		case one := <-n.copies:
 			err := n.finish(ctx, one)
@@ -79,7 +73,7 @@ func (n *Node) maintain(ctx context.Context) error {
 				return nil
 			}
 			n.noteSnapshot(one.snapshot.Revision, err)
-			isRegistered = isRegistered && err != nil
+			n.isRegistered = n.isRegistered && err != nil
 		case <-ticker.C:
 		case <-ctx.Done():
 			return nil
@@ -126,24 +120,8 @@ func (n *Node) announce(ctx context.Context) error {
 	if len(found) > 0 {
 		n.snapshot.Store(found[0].Revision)
 	}
-	settings := n.settings()
-	err = n.shared.Register(ctx, ledger.Member{
-		Name: n.options.Name, Peer: n.options.Peer, Snapshots: found, Run: n.run(), Settings: &settings,
-	})
-	n.isNamed = n.isNamed || err == nil
-	return err
+	return n.shared.Register(ctx, ledger.Member{Name: n.options.Name, Peer: n.options.Peer, Snapshots: found, Outvoted: n.outvoted})
 }
-
-// run names this run of the node.
-func (n *Node) run() string { return strconv.FormatInt(n.start.UnixNano(), 36) }
-
-// settings are what has to be the same on all nodes.
-func (n *Node) settings() ledger.Settings {
-	return ledger.Settings{Every: n.options.SnapshotCommands, EveryBytes: n.options.SnapshotBytes}
-}
-
-// errNameTaken reports that two nodes have one name.
-var errNameTaken = errors.New("another node has registered under the name of this one since: give each node another --name")
 
 // trimLog judges the snapshots of all nodes, and trims the log.
 func (n *Node) trimLog(ctx context.Context) error {
@@ -155,10 +133,9 @@ func (n *Node) trimLog(ctx context.Context) error {
 	for i, member := range state.Members { // They are in the order of their names.
 		if member.Name == n.options.Name {
 			n.rank.Store(int64(i))
-			n.isTaken = n.isNamed && member.Run != "" && member.Run != n.run()
 		}
 	}
-	if err := n.judgeSnapshots(state.Members); err != nil {
+	if err := n.judgeNodes(state); err != nil {
 		return err
 	}
 	raised, err := n.shared.Raise(ctx, state)
@@ -168,85 +145,11 @@ func (n *Node) trimLog(ctx context.Context) error {
 	if raised {
 		n.log.Info("all nodes read the newest form of entries, so it is written from now on", "form", ledger.Form)
 	}
-	floor, err := n.shared.Trim(ctx, state, needless(state.Members))
+	floor, err := n.shared.Trim(ctx, state, needless(except(state.Members, outvoted(state.Members))))
 	if floor > 0 {
 		n.log.Info("trimmed the log", "floor", floor)
 	}
 	return err
-}
-
-// judgeSnapshots makes this node refuse to serve while most nodes do not have its snapshots.
-func (n *Node) judgeSnapshots(members []ledger.Member) error {
-	own, err := n.store.List()
-	if err != nil {
-		return err
-	}
-	why := difference(n.options.Name, own, members)
-	if why == "" {
-		why = otherSettings(n.options.Name, n.settings(), members)
-	}
-	if n.differs.Swap(why) != why && why != "" {
-		n.log.Error("refusing to serve", "why", why)
-	}
-	return nil
-}
-
-// difference reports at which revision a snapshot of a node differs from another node's, if it does and is not that of
-// a majority. A snapshot that was fetched is no second witness, so it does not count.
-func difference(name string, own []office.Snapshot, members []ledger.Member) string {
-	for _, s := range own {
-		agree, differ, other := 0, 0, ""
-		if !s.Copied {
-			agree = 1
-		}
-		for _, member := range members {
-			witness, isThere := snapshotAt(member, s.Revision)
-			switch {
-			case member.Name == name || !isThere:
-			case !witness.IsSame(s):
-				other = member.Name
-				if !witness.Copied {
-					differ++
-				}
-			case !witness.Copied:
-				agree++
-			}
-		}
-		if other != "" && agree <= differ {
-			return fmt.Sprintf("at revision %d the snapshot of %s differs from that of %s", s.Revision, name, other)
-		}
-	}
-	return ""
-}
-
-// otherSettings reports that most nodes take snapshots at other places than a node, if they do: with no place in common wrong rows would
-// be found nowhere. Of two nodes the one with the later name has to change.
-func otherSettings(name string, own ledger.Settings, members []ledger.Member) string {
-	agree, differ := 1, []ledger.Member{}
-	for _, member := range members {
-		switch {
-		case member.Name == name || member.Settings == nil:
-		case *member.Settings == own:
-			agree++
-		default:
-			differ = append(differ, member)
-		}
-	}
-	if len(differ) < agree || len(differ) == agree && name < differ[0].Name {
-		return ""
-	}
-	return fmt.Sprintf("%s differs: it has %s, and %s has %s; start all nodes with the same, and delete the keys of those that are gone",
-		name, own, differ[0].Name, differ[0].Settings)
-}
-
-// snapshotAt returns the snapshot of a node at a revision.
-func snapshotAt(member ledger.Member, revision int64) (office.Snapshot, bool) {
-	for _, s := range member.Snapshots {
-		if s.Revision == revision {
-			return s, true
-		}
-	}
-	return office.Snapshot{}, false
 }
 
 // needless returns the revision up to which nobody needs the log, or 0 if somebody needs all of it: each node has kept

@@ -8,7 +8,6 @@ import (
 	"strings"
 	"testing"
 
-	"rbac-node/api"
 	"rbac-node/ledger"
 	"rbac-node/office"
 )
@@ -31,100 +30,6 @@ func TestNeedless(t *testing.T) {
 				t.Errorf("%d and not %d", revision, one.revision)
 			}
 		})
-	}
-}
-
-// A node serves if most nodes have its digests, and refuses otherwise.
-func TestDifference(t *testing.T) {
-	for _, one := range []struct {
-		name    string
-		own     []office.Snapshot
-		others  []ledger.Member
-		refuses bool
-	}{
-		{"nobody else", []office.Snapshot{at(9)}, members(), false},
-		{"all agree", []office.Snapshot{at(9)}, members(member("b", at(9)), member("c", at(9))), false},
-		{"others have other places", []office.Snapshot{at(9)}, members(member("b", other(at(7)))), false},
-		{"one against one", []office.Snapshot{at(9)}, members(member("b", other(at(9)))), true},
-		{"two against one", []office.Snapshot{at(9)}, members(member("b", at(9)), member("c", other(at(9)))), false},
-		{"one against two", []office.Snapshot{at(9)}, members(member("b", other(at(9))), member("c", other(at(9)))), true},
-		{"outvoted at an older place", []office.Snapshot{at(9), at(5)},
-			members(member("b", at(9), other(at(5))), member("c", at(9), other(at(5)))), true},
-		{"a copy is no witness for it", []office.Snapshot{at(9)}, members(member("b", fetched(at(9))), member("c", other(at(9)))), true},
-		{"a copy is no witness against it", []office.Snapshot{at(9)},
-			members(member("b", other(at(9))), member("c", fetched(other(at(9)))), member("d", at(9))), false},
-		{"its own copy is no witness", []office.Snapshot{fetched(at(9))}, members(member("b", at(9)), member("c", other(at(9)))), true},
-		{"what it registered itself", []office.Snapshot{at(9)}, members(member("a", other(at(9)))), false},
-	} {
-		t.Run(one.name, func(t *testing.T) {
-			if why := difference("a", one.own, one.others); (why != "") != one.refuses {
-				t.Errorf("%q", why)
-			}
-		})
-	}
-}
-
-// A node has to take snapshots where most nodes do.
-func TestOtherSettings(t *testing.T) {
-	own := ledger.Settings{Every: 10, EveryBytes: 99}
-	with := func(name string, s *ledger.Settings) ledger.Member { return ledger.Member{Name: name, Settings: s} }
-	same, fewer, bytes := &ledger.Settings{Every: 10, EveryBytes: 99}, &ledger.Settings{Every: 3, EveryBytes: 99},
-		&ledger.Settings{Every: 10, EveryBytes: 98}
-	for _, one := range []struct {
-		name    string
-		others  []ledger.Member
-		refuses bool
-	}{
-		{"nobody else", members(), false},
-		{"all agree", members(with("b", same), with("c", same)), false},
-		{"nodes that don't say", members(with("b", nil), with("c", nil)), false},
-		{"most agree", members(with("b", same), with("c", fewer)), false},
-		{"most differ", members(with("b", fewer), with("c", bytes)), true},
-		{"one of two, the later one", members(with("a", bytes)), true},
-		{"one of two, the earlier one", members(with("x", bytes)), false},
-		{"what it registered before", members(with("n", fewer)), false},
-	} {
-		t.Run(one.name, func(t *testing.T) {
-			if why := otherSettings("n", own, one.others); (why != "") != one.refuses {
-				t.Errorf("%q", why)
-			}
-		})
-	}
-}
-
-// A node refuses to serve while its settings differ, and says what to do.
-func TestRefusesWithOtherSettings(t *testing.T) {
-	n, log, _ := newNode(t)
-	other := &ledger.Settings{Every: 7, EveryBytes: 1 << 20}
-	log.state.Members = members(ledger.Member{Name: "b", Settings: other}, ledger.Member{Name: "c", Settings: other})
-	if err := n.trimLog(context.Background()); err != nil {
-		t.Fatal(err)
-	}
-	if why := n.status().Why; !strings.Contains(why, "--every 7") || !strings.Contains(why, "the same") {
-		t.Errorf("%q", why)
-	}
-	if _, err := n.Do(context.Background(), of(api.Command, "c")); !errors.Is(err, api.Diverged) {
-		t.Errorf("%v", err)
-	}
-}
-
-// Of two nodes with one name the one that was there before ends. A node that starts anew takes over from its last run.
-func TestNameTaken(t *testing.T) {
-	n, log, _ := newNode(t)
-	log.state.Members = members(ledger.Member{Name: "a", Run: "an earlier run"})
-	if err := n.trimLog(context.Background()); err != nil || n.isTaken {
-		t.Fatalf("before it is registered: %v", err)
-	}
-	if err := n.announce(context.Background()); err != nil {
-		t.Fatal(err)
-	}
-	log.state.Members = log.registered
-	if err := n.trimLog(context.Background()); err != nil || n.isTaken {
-		t.Fatalf("as it has registered: %v", err)
-	}
-	log.state.Members = members(ledger.Member{Name: "a", Run: "another node"})
-	if err := n.maintain(context.Background()); !errors.Is(err, errNameTaken) {
-		t.Errorf("%v", err)
 	}
 }
 

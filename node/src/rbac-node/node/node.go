@@ -6,6 +6,7 @@
 package node
 
 import (
+	"bytes"
 	"context"
 	"fmt"
 	"net/http"
@@ -17,6 +18,7 @@ import (
 	"golang.org/x/sync/errgroup"
 
 	"rbac-node/api"
+	"rbac-node/boottime"
 	"rbac-node/faults"
 	"rbac-node/ledger"
 	"rbac-node/logs"
@@ -47,6 +49,8 @@ type Log interface {
 	HasRules() bool
 	First(ctx context.Context) (int64, error)
 	Register(ctx context.Context, member ledger.Member) error
+	Live(ctx context.Context, life ledger.Life) error
+	Leave(ctx context.Context)
 	UseLeader(ctx context.Context)
 }
 
@@ -130,16 +134,19 @@ type Node struct {
 	applied atomic.Pointer[place]
 	// done is the place of the last entry that was fed, or of the snapshot of the start.
 	done atomic.Pointer[ledger.Place]
-	// heard is when the newest read of the log began whose entries all have their answers, in nanoseconds since the
-	// start, or -1.
+	// heard is the moment when the newest read of the log began whose entries all have their answers. Before the first one it is that of
+	// the start, below zero.
 	heard atomic.Int64
 	// snapshot is the revision of the newest snapshot, seen that of the newest entry that is known, and rank how many nodes come before
 	// this one in the order of their names. stage says what a start does.
 	snapshot, seen, rank atomic.Int64
 	stage                atomic.Value
-	// isNamed says that this node is registered, and isTaken that another one is under the same name. Both belong to the goroutine that
-	// finishes snapshots.
-	isNamed, isTaken bool
+	// life is what etcd has while this run goes on.
+	life ledger.Life
+	// isRegistered says that etcd has what this node has to report. outvoted says why most nodes have outvoted this one, and
+	// isOutvotedKept that its folder says so. They belong to the goroutine that finishes snapshots.
+	isRegistered, isOutvotedKept bool
+	outvoted                     string
 	// isFailing says that the last snapshot that was begun has failed.
 	isFailing atomic.Bool
 	// differs is the text that describes where this node differs from most others, or empty.
@@ -174,13 +181,16 @@ func New(options Options, shared Log, log *logs.Logger, registry *metrics.Regist
 	if state.IsAvailable {
 		n.state = state.New(state.Numbers{})
 	}
-	n.heard.Store(-1)
+	n.heard.Store(-int64(boottime.Now()))
 	n.applied.Store(&place{})
 	n.done.Store(&ledger.Place{})
 	n.differs.Store("")
 	n.stage.Store("etcd is asked")
 	n.addMetrics(registry)
-	return n, nil
+	if err := n.beginLife(); err != nil {
+		return nil, err
+	}
+	return n, n.readOutvoted()
 }
 
 // Snapshots serves the newest snapshot.
@@ -189,6 +199,18 @@ func (n *Node) Snapshots() http.Handler { return n.store }
 // Run keeps the copy until the context ends or something fails. After a failure the node has to be started anew: it
 // recovers from its newest snapshot then.
 func (n *Node) Run(life context.Context) error {
+	defer n.leave()
+	if err := n.enter(life); err != nil {
+		return err
+	}
+	group, ctx := errgroup.WithContext(life)
+	group.Go(func() error { return n.live(ctx) })
+	group.Go(func() error { return n.work(ctx) })
+	return group.Wait()
+}
+
+// work recovers the office, and keeps it until the context ends or something fails.
+func (n *Node) work(life context.Context) error {
 	if err := n.recoverOffice(life); err != nil {
 		return fmt.Errorf("recovery: %w", err)
 	}
@@ -269,6 +291,9 @@ func (n *Node) feed(ctx context.Context) error {
 
 // send passes a line to the replay.
 func (n *Node) send(line []byte, answered func(answer []byte)) {
+	if faults.Has(faults.LeavesOut) && n.options.Name == "n2" && bytes.Contains(line, []byte(`"user":"lost`)) {
+		line = []byte(probe)
+	}
 	n.reads += office.ReadsOf(line)
 	n.progress.send()
 	n.replay.Send(line, func(text []byte) {
@@ -315,14 +340,14 @@ func (n *Node) sendQuestions(questions ...*request) {
 			continue
 		}
 		q, texts := q, make([][]byte, len(q.batch.Calls))
-		newest, posed := n.newest(), time.Now()
+		newest, posed := n.newest(), boottime.Now()
 		for i, call := range q.batch.Calls {
 			i := i
 			n.ask(call, func(text []byte) {
 				if texts[i] = text; i == len(texts)-1 {
 					at := api.Point{Revision: revision, Newest: n.newest(), Policy: n.order.numbers.Policy}
 					if faults.Has(faults.TakesAnswersForNew) {
-						at.Newest = newest.Add(time.Since(posed))
+						at.Newest = newest + boottime.Now() - posed
 					}
 					q.reply <- reply{answers: api.Answers{Texts: texts, Point: at}}
 				}
@@ -332,7 +357,13 @@ func (n *Node) sendQuestions(questions ...*request) {
 }
 
 // newest returns the last moment at which the state after the last answer is known to have been the newest one.
-func (n *Node) newest() time.Time { return n.start.Add(time.Duration(n.heard.Load())) }
+func (n *Node) newest() boottime.Moment {
+	heard := n.heard.Load()
+	if heard < 0 {
+		heard = -heard
+	}
+	return boottime.Moment(heard)
+}
 
 // file is the office in use.
 func (n *Node) file() string { return n.options.File() }

@@ -52,7 +52,7 @@ func (n *Node) recoverOffice(ctx context.Context) error {
 	if err != nil {
 		return err
 	}
-	return n.judgeSnapshots(state.Members)
+	return n.judgeNodes(state)
 }
 
 // makeOffice makes the office in use from a snapshot, or an empty one.
@@ -133,8 +133,8 @@ func (n *Node) fetch(ctx context.Context) (office.Snapshot, error) {
 
 // accept refuses a snapshot that another node offers unless the node has registered it, the log continues after it, and
 // no node has registered another digest at its revision: one of two nodes that differ is wrong, and nobody knows here
-// which. The other nodes may not have come to that revision yet, so it also refuses all snapshots of a node that most
-// others contest.
+// which. A node that is outvoted is known to be wrong. The other nodes may not have come to that revision yet, so it also refuses
+// all snapshots of a node that most others contest.
 func (n *Node) accept(ctx context.Context, name string, offered office.Snapshot) error {
 	state, err := n.shared.State(ctx)
 	if err != nil {
@@ -146,8 +146,12 @@ func (n *Node) accept(ctx context.Context, name string, offered office.Snapshot)
 	if offered.Revision < state.Floor {
 		return fmt.Errorf("the snapshot is at revision %d, and the log begins after %d", offered.Revision, state.Floor)
 	}
-	isRegistered := false
-	for _, member := range state.Members {
+	out := outvoted(state.Members)
+	if why := out[name]; why != "" {
+		return errors.New(why)
+	}
+	isRegistered, right := false, except(state.Members, out)
+	for _, member := range right {
 		s, isThere := snapshotAt(member, offered.Revision)
 		if !isThere {
 			continue
@@ -158,7 +162,7 @@ func (n *Node) accept(ctx context.Context, name string, offered office.Snapshot)
 		if member.Name != name {
 			continue
 		}
-		if why := difference(name, member.Snapshots, state.Members); why != "" {
+		if why := difference(name, member.Snapshots, right); why != "" {
 			return errors.New(why)
 		}
 		isRegistered = s.Count == offered.Count

@@ -8,6 +8,7 @@ import (
 	"time"
 
 	"rbac-node/api"
+	"rbac-node/boottime"
 	"rbac-node/faults"
 	"rbac-node/ledger"
 	"rbac-node/recorded"
@@ -256,7 +257,7 @@ func (n *Node) confirm(ctx context.Context) error {
 		waiting, end := context.WithTimeout(ctx, readInterval)
 		questions := gather(waiting, n.asked[api.Question], 1, nil)
 		end()
-		read := time.Since(n.start)
+		read := boottime.Now()
 		within, cancel := context.WithTimeout(ctx, n.options.AnswerTimeout)
 		head, err := n.shared.Head(within, *n.done.Load())
 		if err == nil { // Otherwise the askers have waited long enough.
@@ -274,8 +275,8 @@ func (n *Node) confirm(ctx context.Context) error {
 	return nil
 }
 
-// hear notes that the state was the newest one at a time since the start.
-func (n *Node) hear(read time.Duration) {
+// hear notes that the state was the newest one at a moment.
+func (n *Node) hear(read boottime.Moment) {
 	if int64(read) > n.heard.Load() {
 		n.heard.Store(int64(read)) // Nobody else does, as answers come one after another.
 	}

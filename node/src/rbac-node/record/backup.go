@@ -26,9 +26,9 @@ const (
 	pausing = 10 * time.Second
 )
 
-// Backup copies an office and its record as a pair into a new folder in a folder, whose path it prints. A front may have them.
+// Backup copies an office and its record as a pair into a new folder in a folder, whose path it prints. A front or a node may have them.
 func (t *Tool) Backup(ctx context.Context, folder string) error {
-	files, err := filesOf(DirOf(t.Office))
+	files, err := t.files()
 	if err != nil {
 		return err
 	}
@@ -41,7 +41,12 @@ func (t *Tool) Backup(ctx context.Context, folder string) error {
 	}
 	defer os.RemoveAll(making) // It has another name if all went well.
 	made := filepath.Join(folder, time.Now().UTC().Format("20060102-150405.000000"))
-	if err := t.copyPair(ctx, files, filepath.Join(making, "office")); err != nil {
+	if t.Data != "" {
+		err = t.copyNode(ctx, files, making)
+	} else {
+		err = t.copyPair(ctx, files, filepath.Join(making, "office"))
+	}
+	if err != nil {
 		return fmt.Errorf("backup: %w", err)
 	}
 	if err := os.Rename(making, made); err != nil {
@@ -86,7 +91,12 @@ func (t *Tool) copyPair(ctx context.Context, files []string, to string) error {
 			return err
 		}
 	}
-	return filepath.Walk(filepath.Dir(to), func(path string, _ os.FileInfo, err error) error {
+	return syncAll(filepath.Dir(to))
+}
+
+// syncAll makes a folder durable with all that is in it.
+func syncAll(folder string) error {
+	return filepath.Walk(folder, func(path string, _ os.FileInfo, err error) error {
 		if err != nil {
 			return err
 		}

@@ -37,9 +37,11 @@ type Follower struct {
 	*Record
 	// prepared is the part that begins with the office as it was at Resume.
 	prepared part
-	// writing is held by whoever writes entries. checked is the last entry up to which the file was read again.
-	writing sync.Mutex
-	checked entry
+	// writing is held by whoever writes entries. checked is the last entry up to which the file was read again, and checking counts
+	// those who read what is before it.
+	writing  sync.Mutex
+	checked  entry
+	checking sync.WaitGroup
 
 	mutex sync.Mutex // for what follows
 	// room says that entries were written, or that writing has failed.
@@ -109,31 +111,6 @@ func (f *Follower) resume(ctx context.Context, text string, isFetched bool) erro
 		}
 	}
 	return f.openAt(ctx, head)
-}
-
-// openAt opens the file, which has to have a head, and expects that the entries after it come again.
-func (f *Follower) openAt(ctx context.Context, head Head) error {
-	if err := f.load(); err != nil {
-		return err
-	}
-	isThere := false
-	last, err := f.check(ctx, entry{}, 1<<62, func(e entry) {
-		if e.n > head.N {
-			f.known = append(f.known, e.ch)
-		}
-		isThere = isThere || e.n == head.N && e.ch == head.Chain
-	})
-	switch {
-	case err != nil:
-		return err
-	case last.n < head.N:
-		return fmt.Errorf("it ends at entry %d, and the snapshot has entry %d: %w", last.n, head.N, errMoveAway)
-	case !isThere:
-		return fmt.Errorf("entry %d is not the one that the snapshot has: %w", head.N, errMoveAway)
-	}
-	f.added = entry{n: head.N, ch: head.Chain}
-	f.begun, f.checked = head.N > 0, f.added
-	return nil
 }
 
 var errMoveAway = errors.New("restore the record of this node, or move it away")
@@ -432,7 +409,10 @@ func (f *Follower) Keep(ctx context.Context, text string) error {
 	if err := f.flush("FULL"); err != nil {
 		return err
 	}
-	last, err := f.check(ctx, f.checked, head.N, func(entry) {})
+	if head.N < f.checked.n {
+		return nil // It comes again, and was read at the start.
+	}
+	last, err := f.check(ctx, f.path(), f.checked, head.N, func(entry) {})
 	if err == nil && (last.n != head.N || last.ch != head.Chain) {
 		err = fmt.Errorf("somebody has written it: entry %d is not the one that was added: %w", head.N, errMoveAway)
 	}
@@ -449,40 +429,11 @@ func (f *Follower) Keep(ctx context.Context, text string) error {
 	return nil
 }
 
-// check reads the entries of the file after one, or all if that is zero, up to a number, and reports whether the chain holds. It
-// returns the last one.
-func (f *Follower) check(ctx context.Context, last entry, to int64, each func(entry)) (entry, error) {
-	v, err := openView(ctx, filepath.Join(f.dir, fileName))
-	if err != nil {
-		return last, err
-	}
-	defer v.Close()
-	if last.ch == "" {
-		parts, err := partsOf(ctx, v)
-		if err != nil {
-			return last, err
-		}
-		last = entry{n: parts[0].first - 1, ch: parts[0].before}
-		each(last)
-	}
-	next := entriesAfter(ctx, v.tx, last.n, to)
-	for {
-		e, err := next()
-		if err != nil || e == nil {
-			return last, err
-		}
-		if e.n != last.n+1 || chained(last.ch, e) != e.ch {
-			return last, fmt.Errorf("the chain breaks at entry %d: %w", last.n+1, errMoveAway)
-		}
-		last = *e
-		each(last)
-	}
-}
-
 // Close ends the record once nothing more is added. It writes what waits, and returns why the record couldn't go on.
 func (f *Follower) Close() error {
 	f.stop()
 	<-f.ended
+	f.checking.Wait()
 	if f.db == nil {
 		return nil
 	}

@@ -263,6 +263,116 @@ func TestJoin(t *testing.T) {
 	}
 }
 
+// The record of a node can be divided while the others go on. The entries stay the same, and verify reads all parts.
+func TestCutNode(t *testing.T) {
+	first, second := newMachine(t, ""), newMachine(t, "")
+	var older, newer struct{ path, head string }
+	before, after := []string{addAnn, addRole}, []string{assign, login}
+	for _, m := range []*machine{second, first} {
+		m.resume("", false)
+		m.begin()
+		m.do(before...)
+		older.path, older.head = m.snapshot(7)
+		m.do(`{"fn":"addUser","user":"bob"}`)
+		newer.path, newer.head = m.snapshot(9)
+		m.do(after...)
+		m.flush("NORMAL")
+	}
+	cut := func() (string, error) {
+		out := &bytes.Buffer{}
+		err := (&Tool{Data: first.data, Program: first.Program, HangTimeout: time.Minute, Out: out}).Cut(context.Background())
+		return out.String(), err
+	}
+	_ = first.Close()
+	said, err := cut()
+	if err != nil || said != partPath(first.dir, 1, 4)+"\n" {
+		t.Fatalf("%q, %v", said, err)
+	}
+	if _, err := cut(); err == nil || !strings.Contains(err.Error(), "nothing to cut") {
+		t.Errorf("again: %v", err)
+	}
+	// It goes on with the newest snapshot, and with an older one of the part that was closed.
+	for _, from := range []struct{ path, head string }{newer, older} {
+		first.start(from.path)
+		first.resume(from.head, false)
+		if from == older {
+			first.do(`{"fn":"addUser","user":"bob"}`)
+			if err := first.Keep(context.Background(), first.Added()); err != nil {
+				t.Error(err)
+			}
+		}
+		first.do(after...)
+		if err := first.Failure(); err != nil {
+			t.Error(err)
+		}
+		if one, other := first.entries(), second.entries(); one != other || strings.Count(one, "\n") != 6 {
+			t.Errorf("one has\n%s\nand the other\n%s", one, other)
+		}
+	}
+	first.snapshot(12)
+	said, err = first.verify(nil)
+	if err != nil || !strings.Contains(said, "entries 1 to 4: the chain holds") || !strings.Contains(said, "entries 5 to 6: the chain holds") {
+		t.Errorf("%s%v", said, err)
+	}
+	if err := os.Remove(partPath(first.dir, 1, 4)); err != nil {
+		t.Fatal(err)
+	}
+	if said, err = first.verify(nil); !errors.Is(err, ErrMissing) {
+		t.Errorf("without a part: %s%v", said, err)
+	}
+}
+
+// A backup of a node is the folder of one. The record of another node goes on with it, and says where it begins anew over the office,
+// which may lack the last commands.
+func TestCarry(t *testing.T) {
+	m := newMachine(t, "")
+	m.resume("", false)
+	m.begin()
+	m.do(addAnn, addRole)
+	m.snapshot(7)
+	m.do(assign, login)
+	m.flush("NORMAL")
+	folder, out := t.TempDir(), &bytes.Buffer{}
+	tool := &Tool{Data: m.data, Program: m.Program, HangTimeout: time.Minute, Out: out}
+	if err := tool.Backup(context.Background(), folder); err != nil {
+		t.Fatal(err)
+	}
+	backup := strings.TrimSpace(out.String())
+	if said, err := (&machine{T: t, Follower: m.Follower, data: backup}).verify(nil); err != nil || !strings.Contains(said, "entry 3\n") {
+		t.Errorf("%s%v", said, err)
+	}
+	data := t.TempDir()
+	options := Options{Program: m.Program, Dir: DirIn(data), HangTimeout: time.Minute, Log: logs.New(io.Discard)}
+	snapshot, head, err := Carry(context.Background(), options, backup)
+	if err != nil || head.N != 6 || filepath.Dir(filepath.Dir(snapshot)) != backup {
+		t.Fatalf("%s, %v, %v", snapshot, head, err)
+	}
+	if _, _, err := Carry(context.Background(), options, backup); !errors.Is(err, errHasRecord) {
+		t.Errorf("again: %v", err)
+	}
+	first := &machine{T: t, data: data}
+	first.start(snapshot)
+	first.resume(head.String(), false)
+	second := newMachine(t, snapshot)
+	second.resume(head.String(), true)
+	for _, one := range []*machine{first, second} {
+		one.do(`{"fn":"addUser","user":"bob"}`)
+		if err := one.Failure(); err != nil {
+			t.Error(err)
+		}
+	}
+	if one, other := first.Added(), second.Added(); one != other || !strings.HasPrefix(one, "7:") {
+		t.Errorf("%s and %s", one, other)
+	}
+	first.flush("NORMAL")
+	first.snapshot(9)
+	said, err := first.verify(&head)
+	if err != nil || !strings.Contains(said, "entry 6 begins anew over the office of a backup") ||
+		!strings.Contains(said, "the newest snapshot has the rows that the record gives at entry 7") {
+		t.Errorf("%s%v", said, err)
+	}
+}
+
 // rechain computes the links of a record anew, as somebody may do who can write it.
 const rechain = `
 import hashlib, sqlite3, sys
@@ -282,9 +392,9 @@ func TestWrittenRecord(t *testing.T) {
 		starts     bool
 		says       string
 	}{
-		{"an edit before the snapshot", "UPDATE entry SET reason = 'x' WHERE n = 2", false, false, "the chain breaks at entry 2"},
+		{"an edit before the snapshot", "UPDATE entry SET reason = 'x' WHERE n = 2", false, true, "the chain breaks at entry 2"},
 		{"the chain anew before the snapshot", "UPDATE entry SET reason = 'x' WHERE n = 2", true, false, "not the one that the snapshot has"},
-		{"an entry is left out", "DELETE FROM entry WHERE n = 2", false, false, "the chain breaks at entry 2"},
+		{"an entry is left out", "DELETE FROM entry WHERE n = 2", false, true, "the chain breaks at entry 2"},
 		{"the end is cut off", "DELETE FROM entry WHERE n > 2", false, false, "it ends at entry 2"},
 		{"an edit after the snapshot", "UPDATE entry SET caller = 'x' WHERE n = 5", false, false, "the chain breaks at entry 5"},
 		{"the chain anew after the snapshot", "UPDATE entry SET caller = 'x' WHERE n = 5", true, true, "entry 5 is not what the log gives"},
@@ -309,7 +419,7 @@ func TestWrittenRecord(t *testing.T) {
 				}
 			}
 			// While it runs, the next snapshot finds what was written since the last one.
-			if one.starts || strings.Contains(one.name, "after") {
+			if strings.Contains(one.name, "after") {
 				change()
 				if err := m.Keep(context.Background(), m.Added()); err == nil {
 					t.Error("a snapshot was made")
@@ -319,7 +429,10 @@ func TestWrittenRecord(t *testing.T) {
 			}
 			m.start(path)
 			err := m.Resume(context.Background(), head, false)
-			if one.starts && err == nil {
+			if (err == nil) != one.starts {
+				t.Errorf("the start: %v", err)
+			}
+			if err == nil {
 				m.do(assign, login)
 				<-m.Failed()
 				err = m.Failure()

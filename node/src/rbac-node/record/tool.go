@@ -55,9 +55,13 @@ const glance = 50 * time.Millisecond
 func (t *Tool) lockIfFree(ctx context.Context) (*os.File, error) {
 	within, cancel := context.WithTimeout(ctx, glance)
 	defer cancel()
-	lock, err := single.Lock(within, t.Office+".lock")
+	path := t.Office + ".lock"
+	if t.Data != "" {
+		path = filepath.Join(t.Data, "lock")
+	}
+	lock, err := single.Lock(within, path)
 	if errors.Is(err, os.ErrPermission) || errors.Is(err, syscall.EROFS) {
-		return lockReadOnly(t.Office + ".lock")
+		return lockReadOnly(path)
 	}
 	if err != nil && within.Err() != nil && ctx.Err() == nil {
 		return nil, nil
@@ -306,6 +310,9 @@ func (r *Record) withCopy(ctx context.Context, work func(copied, rows string) er
 
 // Cut closes the part at hand: its file gets another name, and may be moved away. The record goes on in another file.
 func (t *Tool) Cut(ctx context.Context) error {
+	if t.Data != "" {
+		return t.cutNode(ctx)
+	}
 	r, lock, err := t.openLocked(ctx)
 	if err != nil {
 		return err

@@ -358,7 +358,11 @@ func (v *verifier) join(p part) error {
 		return fmt.Errorf("the part that begins with entry %d has other rows than entry %d leaves", p.first, v.last.n)
 	}
 	if p.why == adopted {
-		fmt.Fprintf(v.Out, "entry %d begins anew over an office that somebody has written behind the record\n", p.first)
+		over := "an office that somebody has written behind the record"
+		if v.Data != "" {
+			over = "the office of a backup"
+		}
+		fmt.Fprintf(v.Out, "entry %d begins anew over %s\n", p.first, over)
 	}
 	return nil
 }
