@@ -75,7 +75,8 @@ def check_entries(bench):
         head = f"{found[-1].n}:{found[-1].chain}"
         bench.same("head", tool("record", "head", "--office", front.office), (0, f"{head}\n", ""))
         metrics = front.exchange("GET", "/metrics")[1]
-        bench.same("the metrics", "rbac_node_record_entry 1\n" in metrics and "rbac_node_record_failing 0" in metrics, True)
+        logged = f'rbac_node_record_head{{chain="{found[0].chain}"}} 1\n'
+        bench.same("the metrics", logged in metrics and "rbac_node_record_failing 0" in metrics, True)
         modes = {
             name: oct(os.stat(path_of(front.office, name)).st_mode & 0o777) for name in os.listdir(f"{front.office}.record")
         }

@@ -67,14 +67,22 @@ func (e *entry) isReview() bool { return strings.HasPrefix(e.request, recorded.R
 // accepted is the answer of an entry that is no command.
 const accepted = `{"ok":true}`
 
-// chained returns the link of an entry: a digest of the link before it and of each of its fields.
-func chained(before string, e *entry) string {
+// fields returns the texts whose digest, after the link before them, is the link of the entry.
+func (e *entry) fields() []string {
 	found := "0"
 	if e.found {
 		found = "1"
 	}
+	return []string{strconv.FormatInt(e.n, 10), e.at, e.caller, e.reason, e.request, e.answer, found}
+}
+
+// chained returns the link of an entry: a digest of the link before it and of each of its fields.
+func chained(before string, e *entry) string { return linked(before, e.fields()) }
+
+// linked returns the link that follows another one.
+func linked(before string, fields []string) string {
 	h := sha256.New()
-	for _, field := range []string{before, strconv.FormatInt(e.n, 10), e.at, e.caller, e.reason, e.request, e.answer, found} {
+	for _, field := range append([]string{before}, fields...) {
 		_, _ = io.WriteString(h, field)
 		_, _ = h.Write([]byte{'\n'}) // No field has one.
 	}
