@@ -61,6 +61,9 @@ func (e *entry) size() int { return len(e.request) + len(e.answer) + len(e.reaso
 // isCommand reports whether the replay gets the entry.
 func (e *entry) isCommand() bool { return strings.HasPrefix(e.request, `{"fn":`) }
 
+// isDone reports whether the office got the command, and its answer is known.
+func (e *entry) isDone() bool { return e.isCommand() && e.answer != unknown && e.answer != lost }
+
 // isReview reports whether the entry says that somebody has ended a review of who has what. The replay doesn't get it.
 func (e *entry) isReview() bool { return strings.HasPrefix(e.request, recorded.ReviewPrefix) }
 
