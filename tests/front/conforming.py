@@ -63,6 +63,7 @@ REQUESTS = [
     ("get", "/lists/{list}", "/lists/permissions?role=x", None, {}, 409), ("get", "/snapshot", "/snapshot", None, {}, 200),
     ("get", "/watch", "/watch?after=0", None, {}, 410), ("get", "/watch", "/watch", None, {}, 400),
     ("get", "/record", "/record?limit=2", None, {}, 200), ("get", "/record", "/record?limit=0", None, {}, 400),
+    ("get", "/record/links", "/record/links?after=1", None, {}, 200), ("get", "/record/links", "/record/links", None, {}, 400),
     ("get", "/room", "/room", None, {}, 200), ("get", "/picture", "/picture", None, {}, 200 if which("dot") else 404),
     ("get", "/picture", "/picture?role=x", None, {}, 409 if which("dot") else 404),
     ("post", "/what-if", "/what-if", '{"fn":"deleteUser","user":"ann"}\n{"fn":"addUser","user":"ann"}', {}, 200),

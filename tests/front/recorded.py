@@ -19,6 +19,9 @@ from .running import PROGRAM
 
 Entry = namedtuple("Entry", "n at caller reason request answer found chain")
 
+# The answer to a command that the office never got.
+LOST = '{"lost":true}'
+
 # The kinds of pairs that begin with the name of a session.
 OF_SESSIONS = (7, 8)
 
@@ -96,7 +99,7 @@ class Model:
             if entry.n != self.last + 1:
                 faults.append(f"entry {entry.n} comes after {self.last}")
             self.last = entry.n
-            if '"record":' in entry.request:
+            if '"record":' in entry.request or entry.answer == LOST:
                 continue
             answer = self.replay.answer(entry.request.encode())
             answer = answer if isinstance(answer, str) else answer.decode()

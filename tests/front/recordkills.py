@@ -15,7 +15,7 @@ from collections import Counter
 
 from .kills import ROLES
 from .program import Front, until
-from .recorded import Model, digest, entries, files_with, left_in_memory, rows_of, tool, verified
+from .recorded import LOST, Model, digest, entries, files_with, left_in_memory, rows_of, tool, verified
 from .running import LONG
 
 # How many kills there are, how many clients, and how many kills there are until a part is closed and moved away.
@@ -143,7 +143,7 @@ class Rounds:
     def __init__(self, bench, base):
         self.bench, self.draws, self.counts = bench, random.Random(os.urandom(8)), Counter()
         self.front = Front(bench, "--record-base", str(base))
-        self.model, self.parts = Model(), []
+        self.model, self.seen = Model(), {}
 
     def load(self):
         """Lets clients ask for a moment, kills, and returns what was acknowledged."""
@@ -176,17 +176,25 @@ class Rounds:
             self.counts["kills during a start"] += 1
         self.front.start()
 
+    def look(self):
+        """Sees the entries that are in the record after a kill, most of which have no answer. They keep their numbers."""
+        self.seen = {entry.n: entry.reason for entry in entries(self.front.office, self.model.last)}
+
     def judge(self, number, acknowledged):
         """Judges the record and the office after a kill and a start. Nobody asks for anything meanwhile."""
         found = entries(self.front.office, self.model.last)
         self.counts["entries"] += len(found)
-        self.counts["entries whose answer was found"] += sum(entry.found for entry in found)
+        self.counts["entries whose answer was found"] += sum(entry.found and entry.answer != LOST for entry in found)
+        self.counts["entries that the office never got"] += sum(entry.answer == LOST for entry in found)
         self.bench.judge(f"round {number}: the model's answers", self.model.go_on(found)[:3])
         kept = {entry.reason: (entry.request, entry.answer) for entry in found}
         lost = [
             f"{reason} {what} and not {kept.get(reason)}" for reason, what in acknowledged.items() if kept.get(reason) != what
         ]
         self.bench.judge(f"round {number}: {len(acknowledged)} acknowledged commands are in the record", lost[:3])
+        kept = {entry.n: entry.reason for entry in found}
+        again = [f"entry {n} was that of {reason}, and is that of {kept.get(n)}" for n, reason in self.seen.items() if kept.get(n) != reason]
+        self.bench.judge(f"round {number}: no number is used twice", again[:3])
         given = rows_of(self.front.office, self.bench.path("copy"))
         self.bench.same(f"round {number}: the rows are the model's", given == self.model.rows(), True)
 
@@ -205,6 +213,7 @@ class Rounds:
         for number in range(kills):
             acknowledged = self.load()
             verified(self.bench, f"after round {number}", self.front.office, is_whole=not self.counts["parts"])
+            self.look()
             if number % UNTIL_CUT == UNTIL_CUT - 1:
                 # A start finds the last answers before the part is closed.
                 self.front.start()
@@ -212,6 +221,7 @@ class Rounds:
                 self.bench.same("the end", self.front.end(), 0)
                 self.cut()
                 acknowledged = {}
+                self.look()
             self.start()
             self.judge(number, acknowledged)
         self.bench.same("the end", self.front.end(), 0)

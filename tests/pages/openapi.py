@@ -65,6 +65,7 @@ PATHS_OF_FRONT = {
     "/snapshot": ["get"],
     "/watch": ["get"],
     "/record": ["get"],
+    "/record/links": ["get"],
     "/room": ["get"],
     "/picture": ["get"],
     "/what-if": ["post"],

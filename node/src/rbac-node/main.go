@@ -7,6 +7,7 @@
 //	rbac-node callers --check OPTION..
 //	rbac-node record verify|show|head|cut|adopt --office FILE
 //	rbac-node record verify|show|head|cut --data FOLDER
+//	rbac-node record sign --url URL --key FILE --heads FILE
 //	rbac-node backup --office FILE|--data FOLDER FOLDER
 //	rbac-node health SOCKET
 //	rbac-node --version
@@ -43,6 +44,7 @@ const help = `rbac-node answers clients from an office.
   rbac-node callers FILE                         prints who may do what
   rbac-node callers --check [options]            checks the files of the callers
   rbac-node record verify|show|head|cut|adopt    works with the record of an office
+  rbac-node record sign                          signs the head of a record of another machine
   rbac-node backup --office FILE FOLDER          copies an office and its record
   rbac-node health SOCKET                        asks whether the front at a socket is ready
   rbac-node --version                            prints the version

@@ -58,13 +58,14 @@ const toolHangTimeout = 10 * time.Minute
 // recordCommand is what a command about a record needs.
 type recordCommand struct {
 	record.Tool
-	head, heads string
-	filter      record.Filter
+	head, heads, signers string
+	filter               record.Filter
 }
 
 var errRecordUsage = errors.New("usage: rbac-node record verify|show|head|cut|adopt --office FILE [options], " +
 	"rbac-node record verify|show|head --part FILE [options], " +
-	"rbac-node record verify|show|head|cut --data FOLDER [options], or rbac-node backup --office FILE|--data FOLDER FOLDER")
+	"rbac-node record verify|show|head|cut --data FOLDER [options], rbac-node record sign [options], " +
+	"or rbac-node backup --office FILE|--data FOLDER FOLDER")
 
 func (withRecord) run(words []string) error {
 	c := &recordCommand{Tool: record.Tool{HangTimeout: toolHangTimeout, Out: os.Stdout, Err: os.Stderr, Log: logs.New(os.Stderr)}}
@@ -74,6 +75,9 @@ func (withRecord) run(words []string) error {
 			return errRecordUsage
 		}
 		name, rest = rest[0], rest[1:]
+	}
+	if name == "sign" && words[0] == "record" {
+		return sign(rest)
 	}
 	flags := flag.NewFlagSet("rbac-node "+words[0], flag.ContinueOnError)
 	c.define(flags, name)
@@ -116,6 +120,7 @@ func (c *recordCommand) define(flags *flag.FlagSet, name string) {
 	case "verify":
 		flags.StringVar(&c.head, "head", "", "a head N:HASH that is known from elsewhere")
 		flags.StringVar(&c.heads, "heads", "", "file of such heads, one in a line, or the log of a front")
+		flags.StringVar(&c.signers, "signers", "", "file of who may have signed each of these heads, as ssh-keygen(1) describes it")
 	case "show":
 		flags.StringVar(&c.filter.User, "user", "", "only commands that name this user")
 		flags.StringVar(&c.filter.Role, "role", "", "only commands that name this role")
@@ -155,16 +160,9 @@ func (c *recordCommand) do(ctx context.Context, name string) error {
 
 // verify verifies a record, with the heads that the command line may have.
 func (c *recordCommand) verify(ctx context.Context) error {
-	var heads []record.Head
-	if c.heads != "" {
-		file, err := os.Open(c.heads)
-		if err != nil {
-			return err
-		}
-		defer file.Close()
-		if heads, err = record.ReadHeads(file); err != nil {
-			return fmt.Errorf("%s: %w", c.heads, err)
-		}
+	heads, err := c.readHeads(ctx)
+	if err != nil {
+		return err
 	}
 	if c.head != "" {
 		head, err := record.ParseHead(c.head)
@@ -173,9 +171,33 @@ func (c *recordCommand) verify(ctx context.Context) error {
 		}
 		heads = append(heads, head)
 	}
-	err := c.Verify(ctx, heads)
+	err = c.Verify(ctx, heads)
 	if errors.Is(err, record.ErrMissing) {
 		err = statusError{missingStatus, err}
 	}
 	return err
+}
+
+// readHeads reads the file of heads, if the command line names one.
+func (c *recordCommand) readHeads(ctx context.Context) (heads []record.Head, err error) {
+	if c.heads == "" && c.signers != "" {
+		return nil, errors.New("--signers needs --heads")
+	}
+	if c.heads == "" {
+		return nil, nil
+	}
+	file, err := os.Open(c.heads)
+	if err != nil {
+		return nil, err
+	}
+	defer file.Close()
+	if c.signers == "" {
+		heads, err = record.ReadHeads(file)
+	} else {
+		heads, err = record.ReadSignedHeads(ctx, file, c.signers)
+	}
+	if err != nil {
+		return nil, fmt.Errorf("%s: %w", c.heads, err)
+	}
+	return heads, nil
 }

@@ -116,6 +116,7 @@ func (e *Endpoints) add() {
 		"/watch":                 {"watch", get, e.watch, nil},
 		"/caller":                {"question", get, e.caller, nil},
 		"/record":                {"list", get, e.record, nil},
+		"/record/links":          {"list", get, e.links, nil},
 		"/room":                  {"list", get, e.room, nil},
 		"/picture":               {"picture", get, e.picture, nil},
 		"/what-if":               {"trial", post, e.whatIf, nil},

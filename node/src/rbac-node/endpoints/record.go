@@ -5,6 +5,7 @@ import (
 	"encoding/json"
 	"net/url"
 	"strconv"
+	"strings"
 
 	"rbac-node/api"
 	"rbac-node/recorded"
@@ -14,6 +15,8 @@ import (
 type recording interface {
 	// Recorded returns entries of the record. It returns false if nothing is recorded.
 	Recorded(ctx context.Context, query recorded.Query) (page recorded.Page, is bool, err error)
+	// Links returns the next entries after one, as their links are computed. It returns false if nothing is recorded.
+	Links(ctx context.Context, after int64) (links recorded.Links, is bool, err error)
 }
 
 // An entry is one of the record, as it is answered.
@@ -29,12 +32,9 @@ type entry struct {
 
 // record answers the newest entries of the record that are wanted.
 func (e *Endpoints) record(r *request) (int, error) {
-	if err := r.may(api.NewOther(api.Record)); err != nil {
+	office, err := e.recording(r)
+	if err != nil {
 		return 0, err
-	}
-	office, can := e.office.(recording)
-	if !can {
-		return 0, errNoState
 	}
 	query, err := readRecordQuery(r.URL.RawQuery)
 	if err != nil {
@@ -50,6 +50,44 @@ func (e *Endpoints) record(r *request) (int, error) {
 		return 0, errNoState
 	}
 	return r.replyRecord(page)
+}
+
+// recording returns the office if it may keep a record, and the caller may read that.
+func (e *Endpoints) recording(r *request) (recording, error) {
+	if err := r.may(api.NewOther(api.Record)); err != nil {
+		return nil, err
+	}
+	office, can := e.office.(recording)
+	if !can {
+		return nil, errNoState
+	}
+	return office, nil
+}
+
+// links answers the next entries after one, as their links are computed, and the head that they lead to.
+func (e *Endpoints) links(r *request) (int, error) {
+	office, err := e.recording(r)
+	if err != nil {
+		return 0, err
+	}
+	after, err := strconv.ParseInt(strings.TrimPrefix(r.URL.RawQuery, "after="), 10, 64)
+	if err != nil || after < 0 {
+		return 0, wrongFilter("after is the number of an entry, or 0")
+	}
+	ctx, cancel := context.WithTimeout(r.ctx, readingTimeout)
+	defer cancel()
+	found, is, err := office.Links(ctx, after)
+	if err != nil {
+		return 0, err
+	}
+	if !is {
+		return 0, errNoState
+	}
+	return r.replyValue(struct {
+		Entries [][]string `json:"entries"`
+		First   int64      `json:"first"`
+		Head    string     `json:"head"`
+	}{append([][]string{}, found.Entries...), found.First, found.Head})
 }
 
 // replyRecord answers entries of the record.

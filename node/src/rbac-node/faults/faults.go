@@ -12,6 +12,6 @@ const (
 	ShortestBeginning = "takes the shortest beginning"
 	// Unlocked lets the replay inherit no lock.
 	Unlocked = "has no lock that the replay inherits"
-	// Forgets doesn't write the answers that it has found after a crash.
+	// Forgets says of all commands without an answer that the office never got them.
 	Forgets = "forgets the answers that it found"
 )

@@ -102,6 +102,17 @@ func (r *Registry) Gauge(name, help string, value func() float64) {
 	r.add(series{name, help, "gauge", func() []Sample { return []Sample{{name, "", value()}} }})
 }
 
+// LabelledGauge adds a value with a label, both of which are read when they are asked for. There is none while the label is empty.
+func (r *Registry) LabelledGauge(name, help, label string, value func() (string, float64)) {
+	r.add(series{name, help, "gauge", func() []Sample {
+		text, number := value()
+		if text == "" {
+			return nil
+		}
+		return []Sample{{name, labelsOf([]string{label}, []string{text}), number}}
+	}})
+}
+
 // A Histogram counts values by bounds and by the value of a label.
 type Histogram struct {
 	name, label string

@@ -103,4 +103,13 @@ func (n *Node) Recorded(ctx context.Context, query recorded.Query) (page recorde
 	return page, true, err
 }
 
+// Links returns the next entries after one, as their links are computed. It returns false if nothing is recorded.
+func (n *Node) Links(ctx context.Context, after int64) (links recorded.Links, is bool, err error) {
+	if n.options.Record == nil || !n.options.Record.HasBegun() {
+		return links, false, nil
+	}
+	links, err = n.options.Record.Links(ctx, after)
+	return links, true, err
+}
+
 var errNotRecorded = errors.New("it was made by a node without a record")

@@ -83,6 +83,10 @@ func (t *Tool) copyPair(ctx context.Context, files []string, to string) error {
 	if err := office.Run(ctx, t.Program, "check", to); err != nil {
 		return err
 	}
+	// The heads of the copy are known from now on.
+	if err := syncFile(files[len(files)-1]); err != nil {
+		return err
+	}
 	if err := kept.copyTo(ctx, filepath.Join(DirOf(to), fileName)); err != nil {
 		return err
 	}

@@ -61,20 +61,31 @@ func (e *entry) size() int { return len(e.request) + len(e.answer) + len(e.reaso
 // isCommand reports whether the replay gets the entry.
 func (e *entry) isCommand() bool { return strings.HasPrefix(e.request, `{"fn":`) }
 
+// isDone reports whether the office got the command, and its answer is known.
+func (e *entry) isDone() bool { return e.isCommand() && e.answer != unknown && e.answer != lost }
+
 // isReview reports whether the entry says that somebody has ended a review of who has what. The replay doesn't get it.
 func (e *entry) isReview() bool { return strings.HasPrefix(e.request, recorded.ReviewPrefix) }
 
 // accepted is the answer of an entry that is no command.
 const accepted = `{"ok":true}`
 
-// chained returns the link of an entry: a digest of the link before it and of each of its fields.
-func chained(before string, e *entry) string {
+// fields returns the texts whose digest, after the link before them, is the link of the entry.
+func (e *entry) fields() []string {
 	found := "0"
 	if e.found {
 		found = "1"
 	}
+	return []string{strconv.FormatInt(e.n, 10), e.at, e.caller, e.reason, e.request, e.answer, found}
+}
+
+// chained returns the link of an entry: a digest of the link before it and of each of its fields.
+func chained(before string, e *entry) string { return linked(before, e.fields()) }
+
+// linked returns the link that follows another one.
+func linked(before string, fields []string) string {
 	h := sha256.New()
-	for _, field := range []string{before, strconv.FormatInt(e.n, 10), e.at, e.caller, e.reason, e.request, e.answer, found} {
+	for _, field := range append([]string{before}, fields...) {
 		_, _ = io.WriteString(h, field)
 		_, _ = h.Write([]byte{'\n'}) // No field has one.
 	}

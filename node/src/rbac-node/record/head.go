@@ -8,8 +8,11 @@ import (
 	"errors"
 	"fmt"
 	"io"
+	"os"
+	"path/filepath"
 	"strconv"
 	"strings"
+	"syscall"
 	"time"
 )
 
@@ -60,7 +63,7 @@ func ReadHeads(file io.Reader) (heads []Head, err error) {
 		heads = append(heads, head)
 	}
 	if len(heads) == 0 && lines.Err() == nil {
-		return nil, errors.New("it has no head")
+		return nil, errNoHead
 	}
 	return heads, lines.Err()
 }
@@ -70,6 +73,36 @@ func (r *Record) Head() Head {
 	r.mutex.Lock()
 	defer r.mutex.Unlock()
 	return Head{r.head.n, r.head.ch}
+}
+
+// DurableHead returns the head, and makes the entries up to it durable. Otherwise the answers that a power loss takes would be found
+// again with other links, and a head that was given out would refute them.
+func (r *Record) DurableHead() (Head, error) {
+	head := r.Head()
+	r.mutex.Lock()
+	isDurable := head == r.durable
+	r.mutex.Unlock()
+	if isDurable {
+		return head, nil
+	}
+	if err := syncFile(filepath.Join(r.dir, fileName)); err != nil {
+		return Head{}, err
+	}
+	r.mutex.Lock()
+	defer r.mutex.Unlock()
+	r.durable = head
+	return head, nil
+}
+
+// syncFile makes durable what was written to the file of a record, most of which may be in its log.
+func syncFile(path string) error {
+	for _, name := range []string{path + walSuffix, path} {
+		err := syncPath(name)
+		if err != nil && !errors.Is(err, os.ErrNotExist) && !errors.Is(err, syscall.EROFS) {
+			return fmt.Errorf("record: %w", err)
+		}
+	}
+	return nil
 }
 
 // announce logs the head each minute if it has changed.
@@ -88,35 +121,30 @@ func (r *Record) announce() {
 }
 
 func (r *Record) logHead() {
+	head, err := r.DurableHead()
+	if err != nil {
+		r.Log.Error("the head of the record isn't logged, since the record can't be synced", "why", err)
+		return
+	}
 	r.mutex.Lock()
-	head, last := r.head, r.announced
+	last := r.announced
 	r.announced = head
 	r.mutex.Unlock()
 	if head != last {
-		r.Log.Info("the head of the record", "entry", head.n, "chain", head.ch)
+		r.Log.Info("the head of the record", "entry", head.N, "chain", head.Chain)
 	}
 }
 
-// addMetrics reports the head that was last logged: a number of an entry, and the first 48 bits of its link.
+// addMetrics reports the head that was last logged, and whether entries can be written.
 func (r *Record) addMetrics() {
 	if r.Metrics == nil {
 		return
 	}
-	announced := func() entry {
+	const help = "The head of the record that was last logged: the number of its entry, and the link as a label."
+	r.Metrics.LabelledGauge("rbac_node_record_head", help, "chain", func() (string, float64) {
 		r.mutex.Lock()
 		defer r.mutex.Unlock()
-		return r.announced
-	}
-	r.Metrics.Gauge("rbac_node_record_entry", "The number of the head of the record that was last logged.", func() float64 {
-		return float64(announced().n)
-	})
-	r.Metrics.Gauge("rbac_node_record_chain", "The first 12 hexadecimal digits of that head, as a number.", func() float64 {
-		chain := announced().ch
-		if len(chain) < linkBytes {
-			return 0
-		}
-		number, _ := strconv.ParseUint(chain[:12], 16, 64)
-		return float64(number)
+		return r.announced.Chain, float64(r.announced.N)
 	})
 	r.Metrics.Gauge("rbac_node_record_failing", "1 if the record can't be written: one machine refuses commands then.", func() float64 {
 		if r.Why() != "" {

@@ -111,5 +111,9 @@ func partPath(dir string, first, last int64) string {
 	return filepath.Join(dir, fmt.Sprintf("%s%d-%d.db", partPrefix, first, last))
 }
 
-// unknown is recorded in place of an answer that nobody can find any more.
-const unknown = `{"unknown":true}`
+const (
+	// unknown is recorded in place of an answer that nobody can find any more.
+	unknown = `{"unknown":true}`
+	// lost is recorded in place of an answer to a command that the office never got, since the front or its replay ended before.
+	lost = `{"lost":true}`
+)

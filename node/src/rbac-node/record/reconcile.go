@@ -93,26 +93,19 @@ func (r *Record) reporting(next func() (*entry, error), all int64) func() (*entr
 	}
 }
 
-// settle keeps the answers that were found, and deletes the entries that were never done: nobody got an answer to them.
+// settle keeps the answers that were found. The other entries were never done, and nobody got an answer to them. They stay, so that no
+// number is used twice.
 func (r *Record) settle(open []entry, done int) error {
-	if len(open) == 0 {
-		return nil
-	}
-	for i := range open[:done] {
-		open[i].found = true
-	}
-	found := open[:done]
 	if faults.Has(faults.Forgets) {
-		found = nil
+		done = 0
 	}
-	if err := r.write(found, nil); err != nil {
-		return err
+	for i := range open {
+		open[i].found = true
+		if i >= done {
+			open[i].answer = lost
+		}
 	}
-	if err := r.sync("FULL"); err != nil {
-		return err
-	}
-	_, err := r.db.Exec("DELETE FROM entry WHERE answer IS NULL")
-	return err
+	return r.write(open, nil)
 }
 
 // sumsOf describes the rows of an office by a copy of it, which nobody writes meanwhile. If they can't be read, the program says why

@@ -62,8 +62,9 @@ type Record struct {
 	open, late []entry
 
 	mutex sync.Mutex // for what follows
-	// head is the last entry with an answer, and announced the head that was last logged.
-	head, announced entry
+	// head is the last entry with an answer. durable is the head that was last synced, and announced the one that was last logged.
+	head               entry
+	durable, announced Head
 	// based is the entry of the newest base, or the one at which making one was last tried. isMaking says that one is being made.
 	based    int64
 	isMaking bool
@@ -399,7 +400,7 @@ func (r *Record) Close(isInOrder bool) error {
 	r.announces.Do(func() {
 		r.mutex.Lock()
 		defer r.mutex.Unlock()
-		r.announced = r.head
+		r.announced = Head{r.head.n, r.head.ch}
 	})
 	r.logHead()
 	if closing := r.close(); err == nil {

@@ -14,7 +14,11 @@ func (r *Record) Recorded(ctx context.Context, query recorded.Query) (page recor
 	if err != nil {
 		return page, err
 	}
-	page.Head = r.Head().String()
+	head, err := r.DurableHead()
+	if err != nil {
+		return page, err
+	}
+	page.Head = head.String()
 	if page.First, err = firstIn(ctx, files[0]); err != nil {
 		return page, err
 	}

@@ -62,7 +62,7 @@ func (r *rerun) each(ctx context.Context, next func() (*entry, error)) error {
 		if e == nil {
 			break
 		}
-		if !e.isCommand() || e.answer == unknown {
+		if !e.isDone() {
 			continue
 		}
 		r.replay.Send([]byte(e.request), func(answer []byte) {

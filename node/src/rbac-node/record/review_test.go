@@ -54,7 +54,7 @@ func TestReviewIsFoundAgain(t *testing.T) {
 	if err != nil {
 		t.Fatal(err)
 	}
-	if len(page.Entries) != 3 || page.Entries[0].Request != text || page.Entries[0].Answer != accepted || !page.Entries[0].IsFound {
+	if len(page.Entries) != 4 || page.Entries[1].Request != text || page.Entries[1].Answer != accepted || !page.Entries[1].IsFound {
 		t.Errorf("%+v", page.Entries)
 	}
 	var out bytes.Buffer

@@ -234,6 +234,9 @@ func (t *Tool) PrintHead(ctx context.Context) error {
 	}
 	defer v.Close()
 	answered, _, err := lastOf(v.tx)
+	if err == nil {
+		err = syncFile(files[len(files)-1])
+	}
 	if err != nil {
 		return err
 	}

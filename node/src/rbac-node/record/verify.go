@@ -62,11 +62,28 @@ func (t *Tool) Verify(ctx context.Context, heads []Head) error {
 	if err := v.files(ctx, files); err != nil {
 		return err
 	}
+	if err := syncFile(files[len(files)-1]); err != nil {
+		return err
+	}
+	v.sayUnknown()
 	fmt.Fprintf(t.Out, "head %s\n", Head{v.last.n, v.last.ch})
 	if v.isMissing {
 		return ErrMissing
 	}
 	return nil
+}
+
+// sayUnknown says which entries come after the newest known head.
+func (v *verifier) sayUnknown() {
+	newest := int64(0)
+	for n := range v.heads {
+		if n > newest {
+			newest = n
+		}
+	}
+	if newest > 0 && newest < v.last.n {
+		fmt.Fprintf(v.Out, "entries %d to %d come after the newest known head: it doesn't protect them\n", newest+1, v.last.n)
+	}
 }
 
 // ErrMissing is returned for a record of which all that is here is good.

@@ -68,6 +68,15 @@ type Page struct {
 	First int64
 }
 
+// Links are entries, the oldest first, as the texts whose digest, after the link before them, is the link of the entry. They show
+// that one head continues another.
+type Links struct {
+	Entries [][]string
+	// Head is durable. First is the first entry of the file that they begin in: what comes before it may have been moved away.
+	Head  string
+	First int64
+}
+
 // A Follower is the record of a node, which gets the commands of the log in their order.
 type Follower interface {
 	// Resume goes on after the head that the office in use has, which a snapshot gave. That may have been fetched from another node.
@@ -87,8 +96,9 @@ type Follower interface {
 	// Failed is closed when the record can't go on, and Failure says why.
 	Failed() <-chan struct{}
 	Failure() error
-	// Recorded returns entries.
+	// Recorded returns entries, and Links the next ones after an entry, up to the head.
 	Recorded(ctx context.Context, query Query) (Page, error)
+	Links(ctx context.Context, after int64) (Links, error)
 	// Close writes what was added. Nothing is added afterwards.
 	Close() error
 }
