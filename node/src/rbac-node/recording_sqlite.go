@@ -54,13 +54,15 @@ type recordCommand struct {
 	record.Tool
 	head, heads string
 	filter      record.Filter
+	access      record.AccessQuery
+	format      record.Format
 }
 
-var errRecordUsage = errors.New("usage: rbac-node record verify|show|head|cut|adopt --office FILE [options], " +
-	"rbac-node record verify|show|head --data FOLDER|--part FILE [options], or rbac-node backup --office FILE FOLDER")
+var errRecordUsage = errors.New("usage: rbac-node record verify|show|access|head|cut|adopt --office FILE [options], " +
+	"rbac-node record verify|show|access|head --data FOLDER|--part FILE [options], or rbac-node backup --office FILE FOLDER")
 
 func (withRecord) run(words []string) error {
-	c := &recordCommand{Tool: record.Tool{HangTimeout: toolHangTimeout, Out: os.Stdout, Err: os.Stderr, Log: logs.New(os.Stderr)}}
+	c := &recordCommand{format: record.Text, Tool: record.Tool{HangTimeout: toolHangTimeout, Out: os.Stdout, Err: os.Stderr, Log: logs.New(os.Stderr)}}
 	name, rest := words[0], words[1:]
 	if name == "record" {
 		if len(rest) == 0 {
@@ -95,21 +97,35 @@ func (withRecord) run(words []string) error {
 func (c *recordCommand) define(flags *flag.FlagSet, name string) {
 	flags.StringVar(&c.Office, "office", "", "file of the office")
 	switch name {
-	case "verify", "show", "head":
+	case "verify", "show", "access", "head":
 		flags.StringVar(&c.Data, "data", "", "folder of a node of several machines, in place of --office")
 		flags.StringVar(&c.Part, "part", "", "file of an earlier part alone, in place of --office")
 	}
 	if name != "show" && name != "head" {
 		flags.StringVar(&c.Program, "program", "rbac", "the proved program, a path or a name that is looked up in PATH")
 	}
-	switch name {
-	case "verify":
+	if name == "verify" || name == "access" {
 		flags.StringVar(&c.head, "head", "", "a head N:HASH that is known from elsewhere")
 		flags.StringVar(&c.heads, "heads", "", "file of such heads, one in a line, or the log of a front")
+	}
+	if name == "show" || name == "access" {
+		flags.Var(&c.format, "format", "text, csv or json")
+	}
+	switch name {
+	case "access":
+		flags.Func("at", "at this time, such as 2026-11-27T09:30, in UTC", timeOf(&c.access.At))
+		flags.Int64Var(&c.access.Entry, "entry", 0, "after the entry with this number, in place of --at")
+		flags.StringVar(&c.access.User, "user", "", "only this user")
+		flags.StringVar(&c.access.Operation, "operation", "", "only this operation")
+		flags.StringVar(&c.access.Object, "object", "", "only this object")
 	case "show":
 		flags.StringVar(&c.filter.User, "user", "", "only commands that name this user")
 		flags.StringVar(&c.filter.Role, "role", "", "only commands that name this role")
 		flags.StringVar(&c.filter.Object, "object", "", "only commands that name this object")
+		flags.StringVar(&c.filter.Operation, "operation", "", "only commands that name this operation")
+		flags.StringVar(&c.filter.Set, "set", "", "only commands that name this separation of duty set")
+		flags.StringVar(&c.filter.Session, "session", "", "only commands that name the session with this digest")
+		flags.StringVar(&c.filter.Reason, "reason", "", "only commands with this text in their reason")
 		flags.StringVar(&c.filter.Function, "function", "", "only commands of this function")
 		flags.StringVar(&c.filter.Caller, "caller", "", "only commands of this caller")
 		flags.Func("since", "only commands from this time on, such as 2026-11-27T09", timeOf(&c.filter.Since))
@@ -132,7 +148,9 @@ func (c *recordCommand) do(ctx context.Context, name string) error {
 	case "verify":
 		return c.verify(ctx)
 	case "show":
-		return c.Show(ctx, c.filter)
+		return c.Show(ctx, c.filter, c.format)
+	case "access":
+		return c.askAccess(ctx)
 	case "head":
 		return c.PrintHead(ctx)
 	case "cut":
@@ -143,29 +161,50 @@ func (c *recordCommand) do(ctx context.Context, name string) error {
 	return errRecordUsage
 }
 
-// verify verifies a record, with the heads that the command line may have.
-func (c *recordCommand) verify(ctx context.Context) error {
-	var heads []record.Head
+// knownHeads returns the heads that the command line may have.
+func (c *recordCommand) knownHeads() (heads []record.Head, err error) {
 	if c.heads != "" {
 		file, err := os.Open(c.heads)
 		if err != nil {
-			return err
+			return nil, err
 		}
 		defer file.Close()
 		if heads, err = record.ReadHeads(file); err != nil {
-			return fmt.Errorf("%s: %w", c.heads, err)
+			return nil, fmt.Errorf("%s: %w", c.heads, err)
 		}
 	}
 	if c.head != "" {
 		head, err := record.ParseHead(c.head)
 		if err != nil {
-			return err
+			return nil, err
 		}
 		heads = append(heads, head)
 	}
-	err := c.Verify(ctx, heads)
+	return heads, nil
+}
+
+// verify verifies a record.
+func (c *recordCommand) verify(ctx context.Context) error {
+	heads, err := c.knownHeads()
+	if err != nil {
+		return err
+	}
+	return withStatus(c.Verify(ctx, heads))
+}
+
+// askAccess prints who had access.
+func (c *recordCommand) askAccess(ctx context.Context) (err error) {
+	if c.access.Heads, err = c.knownHeads(); err != nil {
+		return err
+	}
+	c.access.Format = c.format
+	return withStatus(c.Access(ctx, c.access))
+}
+
+// withStatus gives the error of a record that is good, but from which entries are missing, a status of its own.
+func withStatus(err error) error {
 	if errors.Is(err, record.ErrMissing) {
-		err = statusError{missingStatus, err}
+		return statusError{missingStatus, err}
 	}
 	return err
 }

@@ -199,7 +199,7 @@ func TestMovedAway(t *testing.T) {
 		t.Errorf("a part alone: %v, %s", err, out)
 	}
 	out.Reset()
-	if err := alone.Show(ctx, Filter{User: "bob"}); err != nil || strings.Count(out.String(), "\n") != 1 {
+	if err := alone.Show(ctx, Filter{User: "bob"}, Text); err != nil || strings.Count(out.String(), "\n") != 1 {
 		t.Errorf("show: %v, %s", err, out)
 	}
 	if err := alone.Verify(ctx, []Head{{2, strings.Repeat("0", linkBytes)}}); err == nil || !strings.Contains(err.Error(), "computed anew") {

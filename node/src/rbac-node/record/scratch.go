@@ -22,12 +22,13 @@ const (
 	walSuffix   = "-wal"
 )
 
-// Folders for copies, by what they are for. All but those of verify belong to whoever has the lock of the office.
+// Folders for copies, by what they are for. All but those of verify and access belong to whoever has the lock of the office.
 const (
 	forStart  = "start"
 	forBase   = "base"
 	forPart   = "part"
 	forVerify = "verify"
+	forAccess = "access"
 )
 
 // scratchPaths returns where a folder for copies of an office may be: in memory, and beside the record. The names depend on the

@@ -32,7 +32,7 @@ func TestShowImports(t *testing.T) {
 		{Filter{User: "user"}, ""},
 	} {
 		out.Reset()
-		if err := tool.Show(context.Background(), test.filter); err != nil {
+		if err := tool.Show(context.Background(), test.filter, Text); err != nil {
 			t.Fatal(err)
 		}
 		var shown []string
@@ -52,7 +52,7 @@ func TestShowLetters(t *testing.T) {
 	b.answered("{\"fn\":\"addUser\",\"user\":\"ä\u009b2J\u202eb\u2028c\u200d\U000e0001\"}")
 	tool, out := b.tool()
 	const want = `{"fn":"addUser","user":"ä\u009b2J\u202eb\u2028c\u200d\udb40\udc01"}`
-	if err := tool.Show(context.Background(), Filter{Caller: "token:desk"}); err != nil || !strings.Contains(out.String(), "\t"+want+"\t") {
+	if err := tool.Show(context.Background(), Filter{Caller: "token:desk"}, Text); err != nil || !strings.Contains(out.String(), "\t"+want+"\t") {
 		t.Errorf("%v, %q", err, out)
 	}
 }
@@ -65,7 +65,7 @@ func TestFoundTwo(t *testing.T) {
 	change(t, filepath.Join(b.dir, fileName), "UPDATE entry SET found = 2 WHERE n = 2")
 	for what, do := range map[string]func() error{
 		"verify": func() error { return tool.Verify(context.Background(), nil) },
-		"show":   func() error { return tool.Show(context.Background(), Filter{}) },
+		"show":   func() error { return tool.Show(context.Background(), Filter{}, Text) },
 	} {
 		if err := do(); err == nil || !strings.Contains(err.Error(), "entry 2 has 2 at found") {
 			t.Errorf("%s: %v", what, err)
