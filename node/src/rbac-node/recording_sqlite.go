@@ -23,7 +23,12 @@ func init() { records = withRecord{} }
 type withRecord struct{}
 
 func (withRecord) add(s *settings, office *single.Options, registry *metrics.Registry) error {
-	office.CheckRecord = func() error { return record.CheckOffice(s.office) }
+	office.CheckRecord = func() error {
+		if err := record.CheckOffice(s.office); err != nil {
+			return err
+		}
+		return record.FreeReserve(s.office)
+	}
 	office.OpenRecord = func(ctx context.Context) (single.Recorder, error) {
 		r, err := record.Open(ctx, record.Options{
 			Office: s.office, Program: s.program, HangTimeout: s.hangTimeout, Every: s.record.every, Log: office.Log, Metrics: registry,

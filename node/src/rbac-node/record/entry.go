@@ -59,7 +59,9 @@ func (e *entry) values() []any {
 func (e *entry) size() int { return len(e.request) + len(e.answer) + len(e.reason) + len(e.caller) }
 
 // isCommand reports whether the replay gets the entry.
-func (e *entry) isCommand() bool { return strings.HasPrefix(e.request, `{"fn":`) }
+func (e *entry) isCommand() bool {
+	return strings.HasPrefix(e.request, `{"fn":`) && !boundedForm.MatchString(e.request)
+}
 
 // isReview reports whether the entry says that somebody has ended a review of who has what. The replay doesn't get it.
 func (e *entry) isReview() bool { return strings.HasPrefix(e.request, recorded.ReviewPrefix) }

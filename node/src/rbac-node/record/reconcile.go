@@ -19,6 +19,10 @@ import (
 func (r *Record) Before(ctx context.Context) error {
 	r.making.Wait()
 	r.open, r.late = nil, nil // The answers are found again.
+	if err := freeReserve(r.dir); err != nil {
+		return err
+	}
+	defer r.refill()
 	scratch, err := newScratch(r.Office, r.dir, forStart)
 	if err != nil {
 		return fmt.Errorf("record: %w", err)

@@ -390,7 +390,7 @@ func (v *verifier) checked(next func() (*entry, error), p part) func() (*entry, 
 			return nil, fmt.Errorf("entry %d has another link than the one that is known: the chain was computed anew", e.n)
 		case v.last.answer == unknown && e.answer != unknown && !(isFirst && p.why == adopted):
 			return nil, fmt.Errorf("nobody knows the answer to entry %d, and no part begins anew after it", v.last.n)
-		case isFirst && *e != *begins || !isFirst && !e.isCommand() && !e.isReview():
+		case isFirst && *e != *begins || !isFirst && !e.isCommand() && !e.isReview() && !e.isBounded():
 			return nil, fmt.Errorf("entry %d is not what its part says", e.n)
 		}
 		v.last = *e
