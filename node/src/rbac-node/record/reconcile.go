@@ -9,6 +9,7 @@ import (
 	"fmt"
 	"os"
 	"path/filepath"
+	"time"
 
 	"rbac-node/faults"
 	"rbac-node/office"
@@ -22,7 +23,7 @@ func (r *Record) Before(ctx context.Context) error {
 	if err := freeReserve(r.dir); err != nil {
 		return err
 	}
-	defer r.refill()
+	r.hasReserve, r.triedReserve = false, time.Time{} // The next command makes it again, once a replay has opened the office.
 	scratch, err := newScratch(r.Office, r.dir, forStart)
 	if err != nil {
 		return fmt.Errorf("record: %w", err)

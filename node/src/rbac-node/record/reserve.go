@@ -96,11 +96,3 @@ func (r *Record) keepReserve() error {
 	r.hasReserve = true
 	return nil
 }
-
-// refill makes the reserve after a start has written what it had to. Without it no command is recorded.
-func (r *Record) refill() {
-	r.hasReserve, r.triedReserve = false, time.Time{}
-	if err := r.keepReserve(); err != nil {
-		r.note(err)
-	}
-}
