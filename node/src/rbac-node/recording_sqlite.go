@@ -61,10 +61,11 @@ type recordCommand struct {
 	filter      record.Filter
 	access      record.AccessQuery
 	format      record.Format
+	export      record.Export
 }
 
-var errRecordUsage = errors.New("usage: rbac-node record verify|show|access|head|cut|adopt --office FILE [options], " +
-	"rbac-node record verify|show|access|head --data FOLDER|--part FILE [options], or rbac-node backup --office FILE FOLDER")
+var errRecordUsage = errors.New("usage: rbac-node record verify|show|access|export|head|cut|adopt --office FILE [options], " +
+	"rbac-node record verify|show|access|export|head --data FOLDER|--part FILE [options], or rbac-node backup --office FILE FOLDER")
 
 func (withRecord) run(words []string) error {
 	c := &recordCommand{format: record.Text, Tool: record.Tool{HangTimeout: toolHangTimeout, Out: os.Stdout, Err: os.Stderr, Log: logs.New(os.Stderr)}}
@@ -102,11 +103,11 @@ func (withRecord) run(words []string) error {
 func (c *recordCommand) define(flags *flag.FlagSet, name string) {
 	flags.StringVar(&c.Office, "office", "", "file of the office")
 	switch name {
-	case "verify", "show", "access", "head":
+	case "verify", "show", "access", "export", "head":
 		flags.StringVar(&c.Data, "data", "", "folder of a node of several machines, in place of --office")
 		flags.StringVar(&c.Part, "part", "", "file of an earlier part alone, in place of --office")
 	}
-	if name != "show" && name != "head" {
+	if name != "show" && name != "head" && name != "export" {
 		flags.StringVar(&c.Program, "program", "rbac", "the proved program, a path or a name that is looked up in PATH")
 	}
 	if name == "verify" || name == "access" {
@@ -117,6 +118,10 @@ func (c *recordCommand) define(flags *flag.FlagSet, name string) {
 		flags.Var(&c.format, "format", "text, csv or json")
 	}
 	switch name {
+	case "export":
+		flags.StringVar(&c.export.To, "syslog", "", "receiver: unix:PATH, udp:HOST:PORT or tcp:HOST:PORT")
+		flags.StringVar(&c.export.Place, "place", "", "file that has up to where was sent")
+		flags.BoolVar(&c.export.IsFollowing, "follow", false, "send new entries too, until SIGTERM")
 	case "access":
 		flags.Func("at", "at this time, such as 2026-11-27T09:30, in UTC", timeOf(&c.access.At))
 		flags.Int64Var(&c.access.Entry, "entry", 0, "after the entry with this number, in place of --at")
@@ -156,6 +161,8 @@ func (c *recordCommand) do(ctx context.Context, name string) error {
 		return c.Show(ctx, c.filter, c.format)
 	case "access":
 		return c.askAccess(ctx)
+	case "export":
+		return c.Export(ctx, c.export)
 	case "head":
 		return c.PrintHead(ctx)
 	case "cut":

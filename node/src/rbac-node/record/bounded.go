@@ -28,21 +28,19 @@ var boundedForm = regexp.MustCompile(`^\{"fn":"[a-zA-Z]+","bytes":[0-9]+,"sha256
 // bound leaves of a long request that was refused its function, its size, its digest, its beginning and the names in it. Such a
 // request changes nothing, so no rerun needs it. Whoever may send commands could fill the disk with them otherwise.
 func (e *entry) bound() {
-	if len(e.request) <= mostRefused || !isRefusal(e.answer) || !e.isCommand() {
-		return
+	if len(e.request) > mostRefused && isRefusal(e.answer) && e.isCommand() {
+		e.shorten()
 	}
+}
+
+// shorten leaves of a request what bound says.
+func (e *entry) shorten() {
 	var asked map[string]json.RawMessage
 	if json.Unmarshal([]byte(e.request), &asked) != nil {
 		return
 	}
-	begins := e.request[:begunBytes]
-	for !utf8.ValidString(begins) {
-		begins = begins[:len(begins)-1]
-	}
-	sum := sha256.Sum256([]byte(e.request))
 	var line strings.Builder
-	line.WriteString(`{"fn":` + string(asked["fn"]) + `,"bytes":` + strconv.Itoa(len(e.request)) +
-		`,"sha256":"` + hex.EncodeToString(sum[:]) + `","begins":` + quoted(begins))
+	line.WriteString(`{"fn":` + string(asked["fn"]) + "," + beginningOf(e.request))
 	for _, key := range boundedKeys {
 		var name string
 		if json.Unmarshal(asked[key], &name) == nil && 0 < len(name) && len(name) <= longestName {
@@ -50,6 +48,19 @@ func (e *entry) bound() {
 		}
 	}
 	e.request = line.String() + "}"
+}
+
+// beginningOf returns what is shown of a long text, as keys of JSON.
+func beginningOf(text string) string {
+	begins := text
+	if len(begins) > begunBytes {
+		begins = begins[:begunBytes]
+	}
+	for !utf8.ValidString(begins) {
+		begins = begins[:len(begins)-1]
+	}
+	sum := sha256.Sum256([]byte(text))
+	return `"bytes":` + strconv.Itoa(len(text)) + `,"sha256":"` + hex.EncodeToString(sum[:]) + `","begins":` + quoted(begins)
 }
 
 // isBounded reports whether the entry is a request that was refused, of which only the beginning is recorded. The replay doesn't get it.

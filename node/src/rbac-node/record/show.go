@@ -94,6 +94,9 @@ func (f *Filter) where() (string, []any) {
 	return strings.Join(conditions, " AND "), values
 }
 
+// entryColumns are what is shown of an entry.
+var entryColumns = []string{"number", "at", "caller", "reason", "request", "answer", "found", "chain"}
+
 // Show prints the entries that a filter chooses: number, time, caller, reason, request and answer, and for programs also whether a start
 // has found the answer, and the link. In a text an answer that was found has a star, and an entry without an answer has a question mark
 // in its place.
@@ -102,7 +105,7 @@ func (t *Tool) Show(ctx context.Context, filter Filter, format Format) error {
 	if err != nil {
 		return err
 	}
-	out, err := newPrinter(t.Out, format, "number", "at", "caller", "reason", "request", "answer", "found", "chain")
+	out, err := newPrinter(t.Out, format, entryColumns...)
 	if err != nil {
 		return err
 	}
