@@ -58,11 +58,11 @@ func (t *Tool) Access(ctx context.Context, query AccessQuery) error {
 	if err != nil {
 		return err
 	}
-	scratch, err := newScratch(t.Office+t.Data+t.Part, t.dir(), forAccess)
+	scratch, end, err := newSharedScratch(t.Office+t.Data+t.Part, t.dir(), forAccess)
 	if err != nil {
 		return err
 	}
-	defer os.RemoveAll(scratch)
+	defer end()
 	file := filepath.Join(scratch, rerunFile)
 	judged := *t
 	judged.Out = t.Err // What verify prints isn't what is asked for.

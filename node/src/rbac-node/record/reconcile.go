@@ -120,9 +120,14 @@ func (r *Record) settle(open []entry, done int) error {
 	return err
 }
 
-// sumsOf describes the rows of an office by a copy of it, which nobody writes meanwhile. If they can't be read, the program says why
-// it refuses the copy.
+// sumsOf describes the rows of an office by a copy of it, which nobody writes meanwhile, and which has the names of sessions only as
+// long as it is read. If they can't be read, the program says why it refuses the copy.
 func sumsOf(ctx context.Context, program, file, copied string) (s sums, err error) {
+	defer func() {
+		for _, left := range []string{copied, copied + walSuffix, copied + "-shm"} {
+			_ = os.Remove(left) // The folder is removed too.
+		}
+	}()
 	if err := copyOffice(file, copied); err != nil {
 		return s, err
 	}

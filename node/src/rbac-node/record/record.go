@@ -196,6 +196,9 @@ func (r *Record) load() (err error) {
 	if r.db, err = openFile(path, "_txlock=immediate&_busy_timeout="+busy); err != nil {
 		return err
 	}
+	if err := judgeVersion(r.db); err != nil {
+		return err
+	}
 	if _, err := r.db.Exec("PRAGMA journal_mode = WAL"); err != nil {
 		return err
 	}

@@ -52,11 +52,11 @@ func (t *Tool) verify(ctx context.Context, heads []Head, at *stop) error {
 	if err != nil {
 		return err
 	}
-	scratch, err := newScratch(t.Office+t.Data+t.Part, t.dir(), forVerify)
+	scratch, end, err := newSharedScratch(t.Office+t.Data+t.Part, t.dir(), forVerify)
 	if err != nil {
 		return err
 	}
-	defer os.RemoveAll(scratch)
+	defer end()
 	v := &verifier{Tool: t, scratch: scratch, heads: map[int64]string{}, stop: at}
 	for _, head := range heads {
 		if link, has := v.heads[head.N]; has && link != head.Chain {
