@@ -3,7 +3,7 @@
 
     bench/front.py [--rounds N] [--seconds S] [--folder FOLDER] [PART..]
 
-The parts are decisions, memory and slow; without any, all run. In each round each server is measured for S seconds with 1, 16 and
+The parts are decisions, commands, memory and slow; without any, all run. In each round each server is measured for S seconds with 1, 16 and
 128 clients, one server right after the other; the medians of the rounds are printed, and the ratios are medians of the ratios of
 each round. Clients keep their connections, but `rbac serve` closes each after its answer. The office is that of bench/lines.py,
 and the files are below FOLDER (default: /dev/shm, so a sync costs nothing). It needs Debian's packages nginx-light, slapd,
@@ -182,8 +182,8 @@ class Bench:
             sys.exit(f"{words}: {done.stdout}{done.stderr}")
         return [float(one) for one in found.groups()]
 
-    def load(self, port, clients, *more):
-        words = ("http", "--targets", f"127.0.0.1:{port}", "--clients", clients, "--seconds", self.seconds, "--ask", "question")
+    def load(self, port, clients, *more, ask="question"):
+        words = ("http", "--targets", f"127.0.0.1:{port}", "--clients", clients, "--seconds", self.seconds, "--ask", ask)
         return self.measured([self.load_program, *words, *more])
 
     def decisions(self):
@@ -212,6 +212,20 @@ class Bench:
                 rate, *latencies = map(statistics.median, zip(*rounds))
                 print(f"{clients:4} clients  {name:24} {rate:9,.0f} a second ({', '.join(f'{one:.2f}' for one in latencies)} ms), "
                       f"{statistics.median(ratios):.2f} times rbac serve ({min(ratios):.2f} to {max(ratios):.2f})", flush=True)  # fmt: skip
+
+    def commands(self):
+        """Commands a second with a record and without one."""
+        ports = {name: self.front(f"commands {name}", *more)[1] for name, more in (("without", ["--no-record"]), ("with", []))}
+        for port in ports.values():
+            until_ready(port)
+        for clients in CLIENTS:
+            found = {name: [] for name in ports}
+            for _ in range(self.rounds):
+                for name, port in ports.items():
+                    found[name].append(self.load(port, clients, ask="command")[0])
+            ratios = [recorded / plain for recorded, plain in zip(found["with"], found["without"])]
+            rates = ", ".join(f"{statistics.median(rates):,.0f} {name} a record" for name, rates in found.items())
+            print(f"{clients:4} clients  {rates} a second, {statistics.median(ratios):.2f} ({min(ratios):.2f} to {max(ratios):.2f})", flush=True)
 
     def memory(self):
         """The memory of fronts and of their replays: with 5,000 users, and at the limits."""
@@ -296,7 +310,7 @@ def main():
     parser.add_argument("--rounds", type=int, default=5)
     parser.add_argument("--seconds", type=float, default=1.5)
     parser.add_argument("--folder", default="/dev/shm" if os.access("/dev/shm", os.W_OK) else None)
-    parser.add_argument("parts", nargs="*", default=["decisions", "memory", "slow"])
+    parser.add_argument("parts", nargs="*", default=["decisions", "commands", "memory", "slow"])
     arguments = parser.parse_args()
     with tempfile.TemporaryDirectory(dir=arguments.folder) as folder:
         os.chmod(folder, 0o755)

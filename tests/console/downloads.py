@@ -142,7 +142,7 @@ def check_tickets(bench):
         bench.same("the name of the file", fields["Content-Disposition"].startswith('attachment; filename="permissions-2'), True)
         bench.same("its revision", f"-revision-{fields['Policy-Revision']}.csv" in fields["Content-Disposition"], True)
         unused = ticket_for(front, "room", **ADMIN)[1]["ticket"]
-    for path in (front.log, front.office + ".refused"):
+    for path in (front.log, front.office + ".refused", front.office + ".refused.unknown"):
         with open(path, "rb") as file:
             text = file.read()
         bench.same(f"a ticket in {path}", any(one.encode() in text for one in (unused, first, second)), False)

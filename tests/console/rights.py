@@ -111,7 +111,7 @@ def check_token(bench):
         page.until(lambda: page.elements("input[type=password]"), "the form to log in")
         page.run("location.hash = '#/users/frank'")
         bench.same("after it is loaded again", page.elements("input[type=password]") != [], True)
-    for path in (front.log, front.office + ".refused", *glob.glob(front.office + ".record/*")):
+    for path in (front.log, *glob.glob(front.office + ".refused*"), *glob.glob(front.office + ".record/*")):
         try:
             with open(path, "rb") as file:
                 bench.same(f"in {path}", token.encode() in file.read(), False)

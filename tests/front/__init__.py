@@ -25,10 +25,12 @@
     browsers    a page of a foreign site in Chromium
     records     what the record has, which starts it refuses, and what is found in one that was changed
     recordkills     the front and its replay are killed under load: record, office and clients agree
+    accessed    who had access at a time, beside the plain model
+    tampered    kinds of tampering: verify refuses each, or the page lists it
     recordfaults    disks under the record that fail or are full
     recordorder     the order of writes and syncs, by strace
     wrongfronts     wrong fronts are found: with --long they are built and run
-    auditing    the commands of docs/AUDITING.md about the record
+    auditing    the commands of docs/RECORD.md, and of docs/AUDITING.md about the record
     recorded    reads a record
     program     runs the front, and asks it
 """

@@ -124,10 +124,22 @@ def check_tokens(bench):
             bench.same(f"metrics with {token}", front.exchange("GET", "/metrics", **bearer(token))[0], status)
         bench.same("metrics without identity", front.exchange("GET", "/metrics")[0], 401)
         front.exchange("POST", "/v1/addUser?x=%0A%22", "{}", **bearer("x\x7f"))
-    lines = [json.loads(line) for line in open(bench.path("office.refused"), encoding="utf-8")]
+    known, unknown = refusals(front)
+    bench.same("callers in their file", ({line["caller"] for line in known}, {line["status"] for line in known}), ({"token:desk"}, {403}))
+    bench.same("others in theirs", ({line.get("caller", "") for line in unknown}, {line["status"] for line in unknown}), ({""}, {401}))
+    lines = known + unknown
     bench.same("what is noted", sorted({line["status"] for line in lines}), [401, 403])
     bench.same("callers in it", sorted({line.get("caller", "") for line in lines}), ["", "token:desk"])
     bench.same("tokens in it", "secre" in str(lines), False)
+
+
+def refusals(front):
+    """What is noted of refused requests of callers, and of others."""
+    found = []
+    for name in (".refused", ".refused.unknown"):
+        with open(front.office + name, encoding="utf-8") as file:
+            found.append([json.loads(line) for line in file])
+    return found
 
 
 def tls_words(bench):

@@ -4,6 +4,7 @@ import errno
 import json
 import os
 import shutil
+import signal
 import subprocess
 import time
 from collections import Counter
@@ -24,6 +25,9 @@ CALLS, MORE_CALLS = 14, 120
 # After how many seconds the front has tried again to write what it couldn't write.
 RETRIED = 3
 
+# How much room the front keeps on the disk of a record, in KiB.
+RESERVE = 16 * 1024
+
 # A command whose entry needs much more room than its answer.
 LONG_IMPORT = "user,role\n" + "ann,clerk\n" * 5_000
 
@@ -31,7 +35,9 @@ LONG_IMPORT = "user,role\n" + "ann,clerk\n" * 5_000
 class Mounted:
     """A file system of some size at the folder of a record, which processes see that are started by its words."""
 
-    def __init__(self, folder, size):
+    def __init__(self, folder, kib):
+        """The size is what there is besides the reserve of the front."""
+        size = f"{RESERVE + kib}k"
         os.mkdir(folder)
         self.folder = folder
         mount = f'mount -t tmpfs -o size={size},mode=700 tmpfs "$0" && echo mounted && exec sleep 100000'
@@ -48,6 +54,19 @@ class Mounted:
     def resize(self, size):
         """Gives the file system another size."""
         subprocess.run([*self.words(), "mount", "-o", f"remount,size={size}", self.folder], check=True)
+
+    def run(self, *words):
+        """Runs a command that sees the file system, and returns its status."""
+        return subprocess.run([*self.words(), *words], capture_output=True, check=False).returncode
+
+    def fill(self):
+        """Writes until there is no room left."""
+        for size in ("64k", "1k"):
+            self.run("dd", "if=/dev/zero", f"of={self.folder}/filler-{size}", f"bs={size}")
+
+    def empty(self):
+        """Deletes what `fill` has written."""
+        self.run("rm", f"{self.folder}/filler-64k", f"{self.folder}/filler-1k")
 
     def __enter__(self):
         return self
@@ -66,7 +85,7 @@ def is_failing(front):
 def check_full_disk(bench):
     """Without room for the record commands get 503, and questions are answered. When there is room again, commands are done."""
     front = Front(bench)
-    with Mounted(f"{front.office}.record", "600k") as disk:
+    with Mounted(f"{front.office}.record", 600) as disk:
         front.prefix = disk.words()
         with front:
             connection, done = front.connection(), 0
@@ -93,9 +112,58 @@ def check_full_disk(bench):
     return {"commands until the disk of the record was full": done}
 
 
+@pytest.mark.needs("mounts")
+def check_disk_of_both(bench):
+    """On a full disk that has the office too, questions are answered, also after the replay or the front was killed there."""
+    front = Front(bench)
+    front.office = bench.path("disk/office")
+    with Mounted(bench.path("disk"), 8 * 1024) as disk:
+        front.prefix = disk.words()
+        with front:
+            for function, arguments in [("addUser", {"user": "ann"}), ("addRole", {"role": "clerk"})]:
+                bench.same(function, front.ask(function, arguments), (200, OK))
+            disk.fill()
+            done = 0
+            while front.ask("addUser", {"user": f"u{done}"})[0] == 200 and done < 100_000:
+                done += 1
+            full(bench, "a full disk", front)
+            for replay in front.replays():
+                os.kill(replay, signal.SIGKILL)
+            until(lambda: asked(front) == 200, "there is another replay", lambda: front.said()[-1500:])
+            full(bench, "after the replay was killed", front)
+            for turn in (1, 2):
+                front.kill()
+                disk.fill()
+                front.start()
+                full(bench, f"after start {turn}", front)
+                bench.same(f"health after start {turn}", "full" in front.exchange("GET", "/healthz")[1], True)
+            disk.empty()
+            until(lambda: front.ask("addRole", {"role": "late"})[0] in (200, 409), "commands are done again")
+            bench.same("health", front.exchange("GET", "/healthz"), (200, '{"ready":true,"open":true}\n'))
+            bench.same("the reserve", disk.run("test", "-s", path_of(front.office, "reserve")), 0)
+            bench.same("the end", front.end(), 0)
+        root = f"/proc/{disk.holder.pid}/root{front.office}"
+        shutil.copy(root, bench.path("office"))
+        shutil.copytree(f"{root}.record", bench.path("office.record"))
+    front.office = bench.path("office")
+    judge(bench, "a full disk of both", front)
+    return {"commands until the disk of office and record was full": done}
+
+
+def asked(front):
+    """The status of the answer to a question."""
+    return front.ask("assignedRoles", {"user": "ann"})[0]
+
+
+def full(bench, what, front):
+    """Counts whether questions are answered and commands refused."""
+    bench.same(f"{what}: questions", [asked(front) for _ in range(20)], [200] * 20)
+    bench.same(f"{what}: commands", {front.ask("addRole", {"role": f"r{turn}"})[0] for turn in range(5)}, {503})
+
+
 # Of these disks the last one, at least, has room for all answers and not for the next command.
 @pytest.mark.needs("mounts")
-@pytest.mark.parametrize("size", ["1m", "5m", "8m"])
+@pytest.mark.parametrize("size", [1024, 5 * 1024, 8 * 1024])
 def check_alarm(bench, size):
     """A disk that has no room for a command: the alarm stays until a command was recorded, also if nothing is asked meanwhile."""
     front = Front(bench)

@@ -15,7 +15,7 @@ import pytest
 from program.bench import PROGRAM as RBAC
 from program.bench import TESTS
 
-from .identities import CERTIFICATES, openssl, secured
+from .identities import CERTIFICATES, openssl, refusals, secured
 from .program import Front, Unix, refused_start, until
 from .running import PROGRAM
 
@@ -103,8 +103,7 @@ def check_callers(bench):
         bench.same("one who may not", front.ask("addUser", {"user": "ann"}, Authorization="Bearer secret")[0], 403)
         bench.same("nobody", front.ask("addUser", {"user": "ann"})[0], 401)
         bench.same("the callers", [entry.caller for entry in entries(front.office)][1:], ["token:desk"])
-        with open(f"{front.office}.refused", encoding="utf-8") as file:
-            bench.same("refused", [json.loads(line)["status"] for line in file], [403, 401])
+        bench.same("refused", [[line["status"] for line in lines] for lines in refusals(front)], [[403], [401]])
     with Front(bench, name="other", listen="unix:" + bench.path("run/socket")) as front:
         connection = Unix(bench.path("run/socket"))
         front.ask("addUser", {"user": "ann"}, connection)

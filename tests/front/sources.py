@@ -40,7 +40,7 @@ def check_refusals(bench):
 
 def check_limits(bench):
     """The limits on the page are those of the sources."""
-    page, sources = markdown.in_one_line(PAGE + LISTS), "".join(
+    page, sources = markdown.in_one_line(PAGE + LISTS + markdown.page("RECORD.md")), "".join(
         path.read_text(encoding="utf-8") for path in sorted(SOURCES.rglob("*.go"))
     )
     for source, text in [
@@ -60,8 +60,12 @@ def check_limits(bench):
         ("longestJWT = 8192", "A JWT** has at most 8,192 bytes"),
         ("MaxLineBytes = 65_536", "a line of at most 65,536 bytes"),
         ("MostReads = 900_000_000", "1,000,000,000 reads"),
-        ("mostBytes = 8 << 20", "have 8 MiB each at most"),
-        ("mostLines = 200", "200 lines are written for one second"),
+        ("mostBytes = 4 << 20", "have 4 MiB each at most"),
+        ("mostLines, mostOfCaller = 200, 20", "200 lines are written for one second, of one caller 20"),
+        ("mostRefused = 1024", "of more than 1,024 bytes only this is recorded"),
+        ("begunBytes = 256", "its first 256 bytes at `begins`"),
+        ("Reserve = 16 << 20", "16 MiB of the disk"),
+        ("mostSyslog = 7500", "has at most 7,500 bytes"),
         ("longestReason = 256", "up to 256 bytes of UTF-8"),
         ("nobody = 65534", "65534, which is nobody"),
         ("silenceTimeout = 5 * time.Second", "the replay has answered none for 5 seconds"),

@@ -5,8 +5,8 @@
 //	rbac-node adopt --etcd URL,.. --data FOLDER OFFICE
 //	rbac-node callers FILE
 //	rbac-node callers --check OPTION..
-//	rbac-node record verify|show|head|cut|adopt --office FILE
-//	rbac-node record verify|show|head|cut --data FOLDER
+//	rbac-node record verify|show|access|export|head|cut|adopt --office FILE
+//	rbac-node record verify|show|access|export|head|cut --data FOLDER
 //	rbac-node record sign --url URL --key FILE --heads FILE
 //	rbac-node backup --office FILE|--data FOLDER FOLDER
 //	rbac-node health SOCKET
@@ -43,7 +43,7 @@ const help = `rbac-node answers clients from an office.
   rbac-node adopt --etcd URL,.. [options] FILE   makes an office the beginning of one of several machines
   rbac-node callers FILE                         prints who may do what
   rbac-node callers --check [options]            checks the files of the callers
-  rbac-node record verify|show|head|cut|adopt    works with the record of an office
+  rbac-node record COMMAND [options]             works with the record of an office: verify, show, access, export, head, cut, adopt
   rbac-node record sign                          signs the head of a record of another machine
   rbac-node backup --office FILE FOLDER          copies an office and its record
   rbac-node health SOCKET                        asks whether the front at a socket is ready

@@ -23,7 +23,12 @@ func init() { records = withRecord{} }
 type withRecord struct{}
 
 func (withRecord) add(s *settings, office *single.Options, registry *metrics.Registry) error {
-	office.CheckRecord = func() error { return record.CheckOffice(s.office) }
+	office.CheckRecord = func() error {
+		if err := record.CheckOffice(s.office); err != nil {
+			return err
+		}
+		return record.FreeReserve(s.office)
+	}
 	office.OpenRecord = func(ctx context.Context) (single.Recorder, error) {
 		r, err := record.Open(ctx, record.Options{
 			Office: s.office, Program: s.program, HangTimeout: s.hangTimeout, Every: s.record.every, Log: office.Log, Metrics: registry,
@@ -60,15 +65,18 @@ type recordCommand struct {
 	record.Tool
 	head, heads, signers string
 	filter               record.Filter
+	access               record.AccessQuery
+	format               record.Format
+	export               record.Export
 }
 
-var errRecordUsage = errors.New("usage: rbac-node record verify|show|head|cut|adopt --office FILE [options], " +
-	"rbac-node record verify|show|head --part FILE [options], " +
-	"rbac-node record verify|show|head|cut --data FOLDER [options], rbac-node record sign [options], " +
+var errRecordUsage = errors.New("usage: rbac-node record verify|show|access|export|head|cut|adopt --office FILE [options], " +
+	"rbac-node record verify|show|access|export|head --part FILE [options], " +
+	"rbac-node record verify|show|access|export|head|cut --data FOLDER [options], rbac-node record sign [options], " +
 	"or rbac-node backup --office FILE|--data FOLDER FOLDER")
 
 func (withRecord) run(words []string) error {
-	c := &recordCommand{Tool: record.Tool{HangTimeout: toolHangTimeout, Out: os.Stdout, Err: os.Stderr, Log: logs.New(os.Stderr)}}
+	c := &recordCommand{format: record.Text, Tool: record.Tool{HangTimeout: toolHangTimeout, Out: os.Stdout, Err: os.Stderr, Log: logs.New(os.Stderr)}}
 	name, rest := words[0], words[1:]
 	if name == "record" {
 		if len(rest) == 0 {
@@ -106,25 +114,43 @@ func (withRecord) run(words []string) error {
 func (c *recordCommand) define(flags *flag.FlagSet, name string) {
 	flags.StringVar(&c.Office, "office", "", "file of the office")
 	switch name {
-	case "verify", "show", "head", "cut", "backup":
+	case "verify", "show", "access", "export", "head", "cut", "backup":
 		flags.StringVar(&c.Data, "data", "", "folder of a node of several machines, in place of --office")
 	}
 	switch name {
-	case "verify", "show", "head":
+	case "verify", "show", "access", "export", "head":
 		flags.StringVar(&c.Part, "part", "", "file of an earlier part alone, in place of --office")
 	}
-	if name != "show" && name != "head" {
+	if name != "show" && name != "head" && name != "export" {
 		flags.StringVar(&c.Program, "program", "rbac", "the proved program, a path or a name that is looked up in PATH")
 	}
-	switch name {
-	case "verify":
+	if name == "verify" || name == "access" {
 		flags.StringVar(&c.head, "head", "", "a head N:HASH that is known from elsewhere")
 		flags.StringVar(&c.heads, "heads", "", "file of such heads, one in a line, or the log of a front")
 		flags.StringVar(&c.signers, "signers", "", "file of who may have signed each of these heads, as ssh-keygen(1) describes it")
+	}
+	if name == "show" || name == "access" {
+		flags.Var(&c.format, "format", "text, csv or json")
+	}
+	switch name {
+	case "export":
+		flags.StringVar(&c.export.To, "syslog", "", "receiver: unix:PATH, udp:HOST:PORT or tcp:HOST:PORT")
+		flags.StringVar(&c.export.Place, "place", "", "file that has up to where was sent")
+		flags.BoolVar(&c.export.IsFollowing, "follow", false, "send new entries too, until SIGTERM")
+	case "access":
+		flags.Func("at", "at this time, such as 2026-11-27T09:30, in UTC", timeOf(&c.access.At))
+		flags.Int64Var(&c.access.Entry, "entry", 0, "after the entry with this number, in place of --at")
+		flags.StringVar(&c.access.User, "user", "", "only this user")
+		flags.StringVar(&c.access.Operation, "operation", "", "only this operation")
+		flags.StringVar(&c.access.Object, "object", "", "only this object")
 	case "show":
 		flags.StringVar(&c.filter.User, "user", "", "only commands that name this user")
 		flags.StringVar(&c.filter.Role, "role", "", "only commands that name this role")
 		flags.StringVar(&c.filter.Object, "object", "", "only commands that name this object")
+		flags.StringVar(&c.filter.Operation, "operation", "", "only commands that name this operation")
+		flags.StringVar(&c.filter.Set, "set", "", "only commands that name this separation of duty set")
+		flags.StringVar(&c.filter.Session, "session", "", "only commands that name the session with this digest")
+		flags.StringVar(&c.filter.Reason, "reason", "", "only commands with this text in their reason")
 		flags.StringVar(&c.filter.Function, "function", "", "only commands of this function")
 		flags.StringVar(&c.filter.Caller, "caller", "", "only commands of this caller")
 		flags.Func("since", "only commands from this time on, such as 2026-11-27T09", timeOf(&c.filter.Since))
@@ -147,7 +173,11 @@ func (c *recordCommand) do(ctx context.Context, name string) error {
 	case "verify":
 		return c.verify(ctx)
 	case "show":
-		return c.Show(ctx, c.filter)
+		return c.Show(ctx, c.filter, c.format)
+	case "access":
+		return c.askAccess(ctx)
+	case "export":
+		return c.Export(ctx, c.export)
 	case "head":
 		return c.PrintHead(ctx)
 	case "cut":
@@ -158,22 +188,44 @@ func (c *recordCommand) do(ctx context.Context, name string) error {
 	return errRecordUsage
 }
 
-// verify verifies a record, with the heads that the command line may have.
-func (c *recordCommand) verify(ctx context.Context) error {
+// knownHeads returns the heads that the command line may have.
+func (c *recordCommand) knownHeads(ctx context.Context) ([]record.Head, error) {
 	heads, err := c.readHeads(ctx)
 	if err != nil {
-		return err
+		return nil, err
 	}
 	if c.head != "" {
 		head, err := record.ParseHead(c.head)
 		if err != nil {
-			return err
+			return nil, err
 		}
 		heads = append(heads, head)
 	}
-	err = c.Verify(ctx, heads)
+	return heads, nil
+}
+
+// verify verifies a record.
+func (c *recordCommand) verify(ctx context.Context) error {
+	heads, err := c.knownHeads(ctx)
+	if err != nil {
+		return err
+	}
+	return withStatus(c.Verify(ctx, heads))
+}
+
+// askAccess prints who had access.
+func (c *recordCommand) askAccess(ctx context.Context) (err error) {
+	if c.access.Heads, err = c.knownHeads(ctx); err != nil {
+		return err
+	}
+	c.access.Format = c.format
+	return withStatus(c.Access(ctx, c.access))
+}
+
+// withStatus gives the error of a record that is good, but from which entries are missing, a status of its own.
+func withStatus(err error) error {
 	if errors.Is(err, record.ErrMissing) {
-		err = statusError{missingStatus, err}
+		return statusError{missingStatus, err}
 	}
 	return err
 }

@@ -19,6 +19,7 @@ import (
 	"rbac-node/endpoints"
 	"rbac-node/logs"
 	"rbac-node/metrics"
+	"rbac-node/state"
 	"rbac-node/web"
 )
 
@@ -141,7 +142,7 @@ func (f *Front) loadCallers(ctx context.Context) error {
 		return err
 	}
 	if f.Refused != "" {
-		if f.journal, err = callers.OpenJournal(f.Refused); err != nil {
+		if f.journal, err = callers.OpenJournal(f.Refused, state.DigestOf); err != nil {
 			set.Close()
 			return err
 		}

@@ -209,10 +209,11 @@ func TestRequestNumber(t *testing.T) {
 	}
 }
 
-// noted reports whether the journal has a line with a status.
+// noted reports whether the journal has a line with a status, in one of its files.
 func noted(f *Front, status int) bool {
-	text, _ := os.ReadFile(f.Refused)
-	return strings.Contains(string(text), fmt.Sprintf(`"status":%d`, status))
+	callers, _ := os.ReadFile(f.Refused)
+	others, _ := os.ReadFile(f.Refused + ".unknown")
+	return strings.Contains(string(callers)+string(others), fmt.Sprintf(`"status":%d`, status))
 }
 
 func TestReload(t *testing.T) {

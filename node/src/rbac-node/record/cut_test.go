@@ -69,7 +69,7 @@ func TestKilledCut(t *testing.T) {
 				t.Errorf("verify: %v, %s", err, out)
 			}
 			out.Reset()
-			if err := tool.Show(ctx, Filter{User: "ann"}); err != nil || strings.Count(out.String(), "\n") != 1 {
+			if err := tool.Show(ctx, Filter{User: "ann"}, Text); err != nil || strings.Count(out.String(), "\n") != 1 {
 				t.Errorf("show: %v, %s", err, out)
 			}
 		})

@@ -20,9 +20,27 @@ import (
 	"rbac-node/recorded"
 )
 
+// formatVersion is the version of the tables and of the entries, which a file has at user_version. Files of before have 0.
+const formatVersion = 1
+
+// judgeVersion refuses a file that a later program has made.
+func judgeVersion(db interface {
+	QueryRow(query string, values ...any) *sql.Row
+}) error {
+	var version int
+	if err := db.QueryRow("PRAGMA user_version").Scan(&version); err != nil {
+		return err
+	}
+	if version < 0 || version > formatVersion {
+		return fmt.Errorf("it is a record of version %d, which this rbac-node doesn't know", version)
+	}
+	return nil
+}
+
 // schema makes the tables of a file. A part begins with a copy of the office, in which sessions have the digests of their names:
 // the commands of its entries are done over that copy. The view has what is asked about most.
 const schema = `
+PRAGMA user_version = 1;
 CREATE TABLE part (
     first INTEGER PRIMARY KEY, why TEXT NOT NULL, before TEXT NOT NULL, rows TEXT NOT NULL, office BLOB NOT NULL
 ) STRICT;
@@ -59,7 +77,9 @@ func (e *entry) values() []any {
 func (e *entry) size() int { return len(e.request) + len(e.answer) + len(e.reason) + len(e.caller) }
 
 // isCommand reports whether the replay gets the entry.
-func (e *entry) isCommand() bool { return strings.HasPrefix(e.request, `{"fn":`) }
+func (e *entry) isCommand() bool {
+	return strings.HasPrefix(e.request, `{"fn":`) && !boundedForm.MatchString(e.request)
+}
 
 // isDone reports whether the office got the command, and its answer is known.
 func (e *entry) isDone() bool { return e.isCommand() && e.answer != unknown && e.answer != lost }

@@ -130,7 +130,7 @@ func (m *machine) entries() string {
 	m.Helper()
 	m.flush("NORMAL")
 	out := &bytes.Buffer{}
-	if err := (&Tool{Data: m.data, Out: out, Err: out}).Show(context.Background(), Filter{}); err != nil {
+	if err := (&Tool{Data: m.data, Out: out, Err: out}).Show(context.Background(), Filter{}, Text); err != nil {
 		m.Fatal(err)
 	}
 	return out.String()

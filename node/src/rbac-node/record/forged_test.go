@@ -71,6 +71,7 @@ func TestForged(t *testing.T) {
 		{"another view", func(b *bench, _, current string) {
 			change(b.T, current, "DROP VIEW command", "CREATE VIEW command AS SELECT * FROM entry WHERE n <> 5")
 		}, "tables, indexes and views"},
+		{"a later version", func(b *bench, _, current string) { change(b.T, current, "PRAGMA user_version = 2") }, "a record of version 2"},
 		{"a table more", func(b *bench, first, _ string) { change(b.T, first, "CREATE TABLE more (n)") }, "tables, indexes and views"},
 		{"a value that the table can't have", func(b *bench, first, _ string) {
 			const edit = "UPDATE sqlite_master SET sql = replace(sql, 'reason TEXT%s', 'reason TEXT%s') WHERE name = 'entry'"
@@ -116,6 +117,34 @@ func TestForged(t *testing.T) {
 				t.Errorf("%v doesn't say %q", err, test.says)
 			}
 		})
+	}
+}
+
+// A file of before there was a version is read, and goes on. One of a later program isn't.
+func TestVersion(t *testing.T) {
+	b := open(t)
+	b.answered(addAnn)
+	tool, out := b.tool()
+	path := filepath.Join(b.dir, fileName)
+	var version int
+	db, err := openFile(path, "")
+	if err == nil {
+		err = db.QueryRow("PRAGMA user_version").Scan(&version)
+		_ = db.Close()
+	}
+	if err != nil || version != formatVersion {
+		t.Errorf("it has version %d: %v", version, err)
+	}
+	change(t, path, "PRAGMA user_version = 0")
+	if err := tool.Verify(context.Background(), nil); err != nil {
+		t.Errorf("version 0: %v, %s", err, out)
+	}
+	b.reopen(b.Office)
+	b.answered(addRole)
+	b.tool()
+	change(t, path, "PRAGMA user_version = 2")
+	if _, err := Open(context.Background(), b.Options); err == nil || !strings.Contains(err.Error(), "a record of version 2") {
+		t.Errorf("version 2: %v", err)
 	}
 }
 
@@ -199,7 +228,7 @@ func TestMovedAway(t *testing.T) {
 		t.Errorf("a part alone: %v, %s", err, out)
 	}
 	out.Reset()
-	if err := alone.Show(ctx, Filter{User: "bob"}); err != nil || strings.Count(out.String(), "\n") != 1 {
+	if err := alone.Show(ctx, Filter{User: "bob"}, Text); err != nil || strings.Count(out.String(), "\n") != 1 {
 		t.Errorf("show: %v, %s", err, out)
 	}
 	if err := alone.Verify(ctx, []Head{{2, strings.Repeat("0", linkBytes)}}); err == nil || !strings.Contains(err.Error(), "computed anew") {

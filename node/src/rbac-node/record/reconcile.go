@@ -9,6 +9,7 @@ import (
 	"fmt"
 	"os"
 	"path/filepath"
+	"time"
 
 	"rbac-node/faults"
 	"rbac-node/office"
@@ -19,6 +20,10 @@ import (
 func (r *Record) Before(ctx context.Context) error {
 	r.making.Wait()
 	r.open, r.late = nil, nil // The answers are found again.
+	if err := freeReserve(r.dir); err != nil {
+		return err
+	}
+	r.hasReserve, r.triedReserve = false, time.Time{} // The next command makes it again, once a replay has opened the office.
 	scratch, err := newScratch(r.Office, r.dir, forStart)
 	if err != nil {
 		return fmt.Errorf("record: %w", err)
@@ -108,9 +113,14 @@ func (r *Record) settle(open []entry, done int) error {
 	return r.write(open, nil)
 }
 
-// sumsOf describes the rows of an office by a copy of it, which nobody writes meanwhile. If they can't be read, the program says why
-// it refuses the copy.
+// sumsOf describes the rows of an office by a copy of it, which nobody writes meanwhile, and which has the names of sessions only as
+// long as it is read. If they can't be read, the program says why it refuses the copy.
 func sumsOf(ctx context.Context, program, file, copied string) (s sums, err error) {
+	defer func() {
+		for _, left := range []string{copied, copied + walSuffix, copied + "-shm"} {
+			_ = os.Remove(left) // The folder is removed too.
+		}
+	}()
 	if err := copyOffice(file, copied); err != nil {
 		return s, err
 	}

@@ -292,6 +292,9 @@ func TestSessions(t *testing.T) {
 	if err != nil {
 		t.Fatal(err)
 	}
+	if err := copyOffice(b.Office, copied); err != nil {
+		t.Fatal(err)
+	}
 	if given, err := mapped(context.Background(), b.Program, copied); err != nil || given.all != plain.all {
 		t.Errorf("%v, %v and not %v", err, given.all, plain.all)
 	}

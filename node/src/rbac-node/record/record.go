@@ -58,6 +58,9 @@ type Record struct {
 	db             *sql.DB
 	insert, answer *sql.Stmt
 	level          string
+	// keepsReserve says that room is kept on the disk, hasReserve that it is there, and triedReserve when that was last tried.
+	keepsReserve, hasReserve bool
+	triedReserve             time.Time
 	// open has the entries that the replay has got and not answered, and late those whose answers couldn't be kept yet.
 	open, late []entry
 
@@ -142,6 +145,7 @@ func newRecord(options Options) *Record {
 // Open opens the record of an office that no program has open, and begins one if there is none.
 func Open(ctx context.Context, options Options) (*Record, error) {
 	r := newRecord(options)
+	r.keepsReserve = true
 	has, err := hasRecord(r.dir)
 	switch {
 	case err != nil:
@@ -193,6 +197,9 @@ func (r *Record) load() (err error) {
 	if r.db, err = openFile(path, "_txlock=immediate&_busy_timeout="+busy); err != nil {
 		return err
 	}
+	if err := judgeVersion(r.db); err != nil {
+		return err
+	}
 	if _, err := r.db.Exec("PRAGMA journal_mode = WAL"); err != nil {
 		return err
 	}
@@ -202,7 +209,7 @@ func (r *Record) load() (err error) {
 	if r.insert, err = r.db.Prepare("INSERT INTO entry (n, at, caller, reason, request) VALUES (?, ?, ?, ?, ?)"); err != nil {
 		return err
 	}
-	if r.answer, err = r.db.Prepare("UPDATE entry SET answer = ?, found = ?, chain = ? WHERE n = ?"); err != nil {
+	if r.answer, err = r.db.Prepare("UPDATE entry SET answer = ?, found = ?, chain = ?, request = ? WHERE n = ?"); err != nil {
 		return err
 	}
 	bases, err := basesIn(r.dir)
@@ -247,7 +254,13 @@ func (r *Record) Keep(answered, asked []*feed.Unit) error {
 	if len(r.late)+len(next) == 0 {
 		return nil // Nothing is written, which doesn't show that something could be.
 	}
-	err := r.write(r.late, next)
+	var err error
+	if len(next) > 0 {
+		err = r.keepReserve()
+	}
+	if err == nil {
+		err = r.write(r.late, next)
+	}
 	r.note(err)
 	if err != nil {
 		return err
@@ -297,8 +310,9 @@ func (r *Record) write(answered, asked []entry) error {
 		if e.n != head.n+1 {
 			return fmt.Errorf("the answer to entry %d came after that to %d", e.n, head.n)
 		}
+		e.bound()
 		e.ch = chained(head.ch, &e)
-		if _, err := answer.Exec(e.answer, e.found, e.ch, e.n); err != nil {
+		if _, err := answer.Exec(e.answer, e.found, e.ch, e.request, e.n); err != nil {
 			return err
 		}
 		head = e

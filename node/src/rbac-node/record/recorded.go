@@ -60,19 +60,10 @@ func addNewest(ctx context.Context, page *recorded.Page, path string, query reco
 		where, values = where+" AND n < ?", append(values, query.Before)
 	}
 	values = append(values, query.Limit+1-len(page.Entries))
-	rows, err := v.tx.QueryContext(ctx, "SELECT "+columns+" FROM entry WHERE "+where+" ORDER BY n DESC LIMIT ?", values...)
-	if err != nil {
-		return err
-	}
-	defer rows.Close()
-	for rows.Next() {
-		e, err := entryOf(rows)
-		if err != nil {
-			return err
-		}
+	return eachEntry(ctx, v.tx, "WHERE "+where+" ORDER BY n DESC LIMIT ?", values, func(e *entry) error {
 		page.Entries = append(page.Entries, recorded.Entry{
 			N: e.n, At: e.at, Caller: e.caller, Reason: e.reason, Request: e.request, Answer: e.answer, IsFound: e.found,
 		})
-	}
-	return rows.Err()
+		return nil
+	})
 }

@@ -18,22 +18,34 @@ import (
 // marker is a question that changes nothing. Once it is answered, all before it has been done.
 const marker = `{"fn":"ssdRoleSets"}`
 
+// A stop is an entry after which something is done with the file of the copy, while nobody writes it.
+type stop struct {
+	n  int64
+	do func(file string) error
+}
+
 // A rerun does recorded commands again over a copy of the office in which sessions have the digests of their names.
 type rerun struct {
 	replay      *office.Replay
 	file, probe string
+	// stop may be nil.
+	stop *stop
 }
 
 // rerunFile is the name of the copy in a scratch folder, which has to be there before the rerun starts.
 const rerunFile = "again"
 
 func startRerun(program, scratch string, hangTimeout time.Duration) (*rerun, error) {
-	file := filepath.Join(scratch, rerunFile)
+	return startOver(program, filepath.Join(scratch, rerunFile), hangTimeout)
+}
+
+// startOver starts a rerun over a copy of the office, in whose folder others can be made.
+func startOver(program, file string, hangTimeout time.Duration) (*rerun, error) {
 	replay, err := office.Start(program, file, hangTimeout)
 	if err != nil {
 		return nil, err
 	}
-	return &rerun{replay, file, filepath.Join(scratch, "probe")}, nil
+	return &rerun{replay: replay, file: file, probe: filepath.Join(filepath.Dir(file), "probe")}, nil
 }
 
 // Close ends the rerun once all is done.
@@ -62,14 +74,16 @@ func (r *rerun) each(ctx context.Context, next func() (*entry, error)) error {
 		if e == nil {
 			break
 		}
-		if !e.isDone() {
-			continue
+		if e.isDone() {
+			r.replay.Send([]byte(e.request), func(answer []byte) {
+				if string(answer) != e.answer {
+					wrong.CompareAndSwap(nil, &AnswerError{e.n, e.answer, string(answer)})
+				}
+			})
 		}
-		r.replay.Send([]byte(e.request), func(answer []byte) {
-			if string(answer) != e.answer {
-				wrong.CompareAndSwap(nil, &AnswerError{e.n, e.answer, string(answer)})
-			}
-		})
+		if err := r.stopAt(ctx, e.n); err != nil {
+			return err
+		}
 		if ctx.Err() != nil {
 			return ctx.Err()
 		}
@@ -81,6 +95,17 @@ func (r *rerun) each(ctx context.Context, next func() (*entry, error)) error {
 		return found
 	}
 	return nil
+}
+
+// stopAt does what is to be done after an entry, if it is that of the stop.
+func (r *rerun) stopAt(ctx context.Context, n int64) error {
+	if r.stop == nil || n != r.stop.n {
+		return nil
+	}
+	if _, err := r.one(ctx, marker); err != nil {
+		return err
+	}
+	return r.stop.do(r.file)
 }
 
 // one returns the answer to a line, after all before it.

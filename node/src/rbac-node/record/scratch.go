@@ -22,12 +22,14 @@ const (
 	walSuffix   = "-wal"
 )
 
-// Folders for copies, by what they are for. All but those of verify belong to whoever has the lock of the office.
+// Folders for copies, by what they are for. Those of verify and access have more than one, each of which is locked while it is used. All
+// others belong to whoever has the lock of the office.
 const (
 	forStart  = "start"
 	forBase   = "base"
 	forPart   = "part"
 	forVerify = "verify"
+	forAccess = "access"
 )
 
 // scratchPaths returns where a folder for copies of an office may be: in memory, and beside the record. The names depend on the
@@ -62,6 +64,63 @@ func newScratch(office, dir, purpose string) (string, error) {
 	return "", fmt.Errorf("copies: %w", err)
 }
 
+// mostTries is how often it is tried to make a folder that somebody else takes for one that a crash has left.
+const mostTries = 5
+
+// newSharedScratch returns a new empty folder for copies of an office which may be in use, and what ends its use. What a crash has left
+// of others is removed.
+func newSharedScratch(office, dir, purpose string) (path string, end func(), err error) {
+	paths, err := scratchPaths(office, dir, purpose)
+	if err != nil {
+		return "", nil, err
+	}
+	removeLeft(paths)
+	if !hasRoom(office) {
+		paths = paths[1:]
+	}
+	for _, prefix := range paths {
+		for try := 0; try < mostTries; try++ {
+			if path, err = os.MkdirTemp(filepath.Dir(prefix), filepath.Base(prefix)+"-*"); err != nil {
+				break
+			}
+			lock, lockErr := lockFolder(path)
+			if err = lockErr; err == nil {
+				return path, func() { _ = os.RemoveAll(path); _ = lock.Close() }, nil
+			}
+		}
+	}
+	return "", nil, fmt.Errorf("copies: %w", err)
+}
+
+// lockFolder locks a folder that is there, if nobody else has.
+func lockFolder(path string) (*os.File, error) {
+	folder, err := os.Open(path)
+	if err != nil {
+		return nil, err
+	}
+	if err = syscall.Flock(int(folder.Fd()), syscall.LOCK_EX|syscall.LOCK_NB); err == nil {
+		_, err = os.Stat(path)
+	}
+	if err != nil {
+		_ = folder.Close()
+		return nil, err
+	}
+	return folder, nil
+}
+
+// removeLeft removes the folders that begin with these paths and that nobody uses.
+func removeLeft(paths []string) {
+	for _, prefix := range paths {
+		found, _ := filepath.Glob(escapeGlob(prefix) + "-*") // No pattern is wrong.
+		for _, path := range found {
+			if lock, err := lockFolder(path); err == nil {
+				_ = os.RemoveAll(path)
+				_ = lock.Close()
+			}
+		}
+	}
+}
+
 // removeScratch removes what a crash has left of copies of an office, which have the names of sessions. The office is locked.
 func removeScratch(office, dir string) {
 	for _, purpose := range []string{forStart, forBase, forPart} {
@@ -69,6 +128,10 @@ func removeScratch(office, dir string) {
 		for _, path := range paths {
 			_ = os.RemoveAll(path) // What somebody else has made is no copy.
 		}
+	}
+	for _, purpose := range []string{forVerify, forAccess} {
+		paths, _ := scratchPaths(office, dir, purpose)
+		removeLeft(paths)
 	}
 }
 

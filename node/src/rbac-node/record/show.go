@@ -3,7 +3,6 @@
 package record
 
 import (
-	"bufio"
 	"context"
 	"encoding/csv"
 	"errors"
@@ -81,6 +80,10 @@ func (f *Filter) where() (string, []any) {
 	add(f.Role, "? IN (request ->> 'role', request ->> 'asc', request ->> 'desc') OR "+
 		"EXISTS (SELECT 1 FROM json_each(coalesce(request -> 'roles', '[]')) WHERE value = ?)"+inImport+"1)")
 	add(f.Object, "request ->> 'object' = ?")
+	add(f.Operation, "request ->> 'operation' = ?")
+	add(f.Set, "request ->> 'set' = ?")
+	add(f.Session, "request ->> 'session' = ?")
+	add(f.Reason, "instr(reason, ?) > 0")
 	add(f.Function, "request ->> 'fn' = ?")
 	add(f.Caller, "caller = ?")
 	add(f.Since, "at >= ?")
@@ -91,26 +94,33 @@ func (f *Filter) where() (string, []any) {
 	return strings.Join(conditions, " AND "), values
 }
 
-// Show prints the entries that a filter chooses: number, time, caller, reason, request and answer, with tabs between them. None of
-// them has a tab. An answer that a start has found has a star, and an entry without an answer has a question mark in its place.
-func (t *Tool) Show(ctx context.Context, filter Filter) error {
+// entryColumns are what is shown of an entry.
+var entryColumns = []string{"number", "at", "caller", "reason", "request", "answer", "found", "chain"}
+
+// Show prints the entries that a filter chooses: number, time, caller, reason, request and answer, and for programs also whether a start
+// has found the answer, and the link. In a text an answer that was found has a star, and an entry without an answer has a question mark
+// in its place.
+func (t *Tool) Show(ctx context.Context, filter Filter, format Format) error {
 	files, err := t.files()
 	if err != nil {
 		return err
 	}
-	out := bufio.NewWriter(t.Out)
-	defer out.Flush()
+	out, err := newPrinter(t.Out, format, entryColumns...)
+	if err != nil {
+		return err
+	}
 	last := int64(0)
 	for _, path := range files {
 		if last, err = t.show(ctx, out, path, filter, last+1); err != nil {
+			_ = out.end() // What was read is shown.
 			return err
 		}
 	}
-	return out.Flush()
+	return out.end()
 }
 
 // show prints entries of a file, which should begin with an entry, and returns its last one. It says so if it begins later.
-func (t *Tool) show(ctx context.Context, out *bufio.Writer, path string, filter Filter, first int64) (last int64, err error) {
+func (t *Tool) show(ctx context.Context, out *printer, path string, filter Filter, first int64) (last int64, err error) {
 	v, err := openView(ctx, path)
 	if err != nil {
 		return 0, err
@@ -123,16 +133,18 @@ func (t *Tool) show(ctx context.Context, out *bufio.Writer, path string, filter 
 	if parts[0].first > first && t.Part == "" {
 		fmt.Fprintln(t.Err, missing(first, parts[0]))
 	}
-	if err := showEntries(ctx, out, v, filter); err != nil {
+	where, values := filter.where()
+	err = eachEntry(ctx, v.tx, "WHERE "+where+" ORDER BY n", values, func(e *entry) error { return out.add(cellsOf(e, out.format)...) })
+	if err != nil {
 		return 0, err
 	}
 	_, end, err := lastOf(v.tx)
 	return end.n, err
 }
 
-func showEntries(ctx context.Context, out *bufio.Writer, v *view, filter Filter) error {
-	where, values := filter.where()
-	rows, err := v.tx.QueryContext(ctx, "SELECT "+columns+" FROM entry WHERE "+where+" ORDER BY n", values...)
+// eachEntry does something with each entry that a condition chooses.
+func eachEntry(ctx context.Context, db querier, condition string, values []any, do func(e *entry) error) error {
+	rows, err := db.QueryContext(ctx, "SELECT "+columns+" FROM entry "+condition, values...)
 	if err != nil {
 		return err
 	}
@@ -142,16 +154,25 @@ func showEntries(ctx context.Context, out *bufio.Writer, v *view, filter Filter)
 		if err != nil {
 			return err
 		}
-		if e.found {
-			e.answer += " *"
-		}
-		if e.answer == "" {
-			e.answer = "?"
-		}
-		fields := []string{strconv.FormatInt(e.n, 10), e.at, e.caller, e.reason, e.request, e.answer}
-		if _, err := out.WriteString(printed(strings.Join(fields, "\t")) + "\n"); err != nil {
+		if err := do(&e); err != nil {
 			return err
 		}
 	}
 	return rows.Err()
+}
+
+// cellsOf returns what is shown of an entry.
+func cellsOf(e *entry, format Format) []cell {
+	cells := []cell{{strconv.FormatInt(e.n, 10), true}, {text: e.at}, {text: e.caller}, {text: e.reason}, {e.request, true}, {e.answer, true}}
+	if format != Text {
+		return append(cells, cell{strconv.FormatBool(e.found), true}, cell{text: e.ch})
+	}
+	answer := &cells[len(cells)-1].text
+	if e.found {
+		*answer += " *"
+	}
+	if e.answer == "" {
+		*answer = "?"
+	}
+	return cells
 }

@@ -205,10 +205,3 @@ func (s *Signer) ask(ctx context.Context, after int64) (links answeredLinks, err
 	err = json.Unmarshal(text, &struct{ Value *answeredLinks }{&links})
 	return links, err
 }
-
-func min(a, b int) int {
-	if a < b {
-		return a
-	}
-	return b
-}

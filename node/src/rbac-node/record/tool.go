@@ -208,6 +208,9 @@ func openViewBy(ctx context.Context, path, options string) (*view, error) {
 	}
 	tx, err := db.BeginTx(ctx, nil)
 	if err == nil {
+		err = judgeVersion(tx)
+	}
+	if err == nil {
 		var count int
 		if err = tx.QueryRowContext(ctx, "SELECT count(*) FROM part").Scan(&count); err == nil {
 			return &view{db, tx}, nil

@@ -32,12 +32,17 @@ type verifier struct {
 	// last is the last entry that was read, and rows are those after it, if a rerun has led there.
 	last entry
 	rows string
+	// stop may be nil.
+	stop *stop
 }
 
 // Verify reports whether the chain holds, whether the program gives the same answers, and whether the office has the rows that the
 // record gives. While a front has the office its rows are not compared. Heads that are known from elsewhere show whether the end
 // was cut off, or whether the chain was computed anew. It returns ErrMissing if that is all that is wrong.
-func (t *Tool) Verify(ctx context.Context, heads []Head) error {
+func (t *Tool) Verify(ctx context.Context, heads []Head) error { return t.verify(ctx, heads, nil) }
+
+// verify is Verify, which may do something after an entry.
+func (t *Tool) verify(ctx context.Context, heads []Head, at *stop) error {
 	if t.Data == "" && t.Part == "" {
 		if err := CheckOffice(t.Office); err != nil {
 			return err
@@ -47,12 +52,12 @@ func (t *Tool) Verify(ctx context.Context, heads []Head) error {
 	if err != nil {
 		return err
 	}
-	scratch, err := newScratch(t.Office+t.Data+t.Part, t.dir(), forVerify)
+	scratch, end, err := newSharedScratch(t.Office+t.Data+t.Part, t.dir(), forVerify)
 	if err != nil {
 		return err
 	}
-	defer os.RemoveAll(scratch)
-	v := &verifier{Tool: t, scratch: scratch, heads: map[int64]string{}}
+	defer end()
+	v := &verifier{Tool: t, scratch: scratch, heads: map[int64]string{}, stop: at}
 	for _, head := range heads {
 		if link, has := v.heads[head.N]; has && link != head.Chain {
 			return fmt.Errorf("entry %d has two known links: the chain was computed anew", head.N)
@@ -294,6 +299,7 @@ func (v *verifier) part(ctx context.Context, opened *view, p part, end int64, is
 		return err
 	}
 	defer func() { _ = again.Close() }() // What it has done is thrown away.
+	again.stop = v.stop
 	if err := v.compareNode(ctx, opened, p, end, again); err != nil {
 		return err
 	}
@@ -405,7 +411,7 @@ func (v *verifier) checked(next func() (*entry, error), p part) func() (*entry, 
 			return nil, fmt.Errorf("entry %d has another link than the one that is known: the chain was computed anew", e.n)
 		case v.last.answer == unknown && e.answer != unknown && !(isFirst && p.why == adopted):
 			return nil, fmt.Errorf("nobody knows the answer to entry %d, and no part begins anew after it", v.last.n)
-		case isFirst && *e != *begins || !isFirst && !e.isCommand() && !e.isReview():
+		case isFirst && *e != *begins || !isFirst && !e.isCommand() && !e.isReview() && !e.isBounded():
 			return nil, fmt.Errorf("entry %d is not what its part says", e.n)
 		}
 		v.last = *e

@@ -18,8 +18,10 @@ const ReviewPrefix = `{"record":"reviewed",`
 
 // A Filter chooses entries. An empty text chooses all.
 type Filter struct {
-	User, Role, Object, Function, Caller, Since, Until string
-	IsRefused                                          bool
+	User, Role, Object, Operation, Function, Caller, Since, Until string
+	// Set is a separation of duty set, Session the digest of a session's name, and Reason a part of the reason.
+	Set, Session, Reason string
+	IsRefused            bool
 }
 
 // timeLayouts are how a time of a filter may be written, in UTC and with a Z behind it or without.

@@ -22,6 +22,10 @@ const IsAvailable = true
 // digestBytes is how many bytes of the SHA3-256 of a session's name are its name outside the office.
 const digestBytes = 16
 
+// DigestOf returns what is written in place of a text that may let others in: the name that a session has outside the office, or
+// what that name would be.
+func DigestOf(text string) string { return digest(text) }
+
 // digest returns the name that a session has outside the office: whoever knows its own name may use it.
 func digest(name string) string {
 	sum := sha3.Sum256([]byte(name))

@@ -1,0 +1,25 @@
+// Package disk says how much room there is on a disk.
+package disk
+
+import (
+	"fmt"
+	"syscall"
+)
+
+// Reserve is how many bytes are kept so that an office starts and answers questions on a full disk.
+const Reserve = 16 << 20
+
+// Free returns how many bytes may be written to the file system of a path.
+func Free(path string) (int64, error) {
+	var about syscall.Statfs_t
+	if err := syscall.Statfs(path, &about); err != nil {
+		return 0, fmt.Errorf("room of %s: %w", path, err)
+	}
+	return int64(about.Bavail) * about.Bsize, nil
+}
+
+// IsShort reports whether a file system has less room than is kept. If nobody knows, it has more.
+func IsShort(path string) bool {
+	free, err := Free(path)
+	return err == nil && free < Reserve
+}

@@ -1,0 +1,74 @@
+//go:build sqlite
+
+package record
+
+import (
+	"context"
+	"os"
+	"path/filepath"
+	"testing"
+)
+
+// What a verify that was killed has left is removed by the next one and by a start. One that is at work keeps its folder.
+func TestSharedScratch(t *testing.T) {
+	b := open(t)
+	paths, err := scratchPaths(b.Office, b.dir, forVerify)
+	if err != nil {
+		t.Fatal(err)
+	}
+	left := []string{paths[0] + "-1", paths[1] + "-2"}
+	leave := func() {
+		for _, path := range left {
+			if err := os.Mkdir(path, 0o700); err != nil {
+				t.Fatal(err)
+			}
+			if err := os.WriteFile(filepath.Join(path, "office"), []byte("secret"), 0o600); err != nil {
+				t.Fatal(err)
+			}
+		}
+	}
+	isLeft := func(what string) {
+		t.Helper()
+		for _, path := range left {
+			if _, err := os.Stat(path); !os.IsNotExist(err) {
+				t.Errorf("%s leaves %s: %v", what, path, err)
+			}
+		}
+	}
+	leave()
+	one, endOne, err := newSharedScratch(b.Office, b.dir, forVerify)
+	if err != nil {
+		t.Fatal(err)
+	}
+	isLeft("another verify")
+	other, endOther, err := newSharedScratch(b.Office, b.dir, forVerify)
+	if err != nil || one == other {
+		t.Fatalf("%s and %s: %v", one, other, err)
+	}
+	leave()
+	removeScratch(b.Office, b.dir)
+	isLeft("a start")
+	for _, path := range []string{one, other} {
+		if _, err := os.Stat(path); err != nil {
+			t.Errorf("at work: %v", err)
+		}
+	}
+	endOne()
+	endOther()
+	if found, _ := filepath.Glob(paths[0] + "*"); len(found) > 0 {
+		t.Errorf("%v are left", found)
+	}
+}
+
+// TestNoCopyLeft has no copy of the office, with its names of sessions, after its rows were read.
+func TestNoCopyLeft(t *testing.T) {
+	b := open(t)
+	b.answered(addAnn, addRole, assign, login)
+	copied := filepath.Join(t.TempDir(), "copy")
+	if _, err := sumsOf(context.Background(), b.Program, b.Office, copied); err != nil {
+		t.Fatal(err)
+	}
+	if found, _ := filepath.Glob(copied + "*"); len(found) > 0 {
+		t.Errorf("%v are left", found)
+	}
+}
