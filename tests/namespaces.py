@@ -64,15 +64,16 @@ def leave_chroot() -> None:
 
 
 def mount_cgroups() -> None:
-    """Mounts the control groups, which podman needs, unless they are there: those of version 2, or each one that is of version 1."""
+    """Mounts the control groups, which podman and systemd-nspawn need, unless they are there: each hierarchy that the kernel has."""
     if any(CGROUPS.iterdir()):
         return
-    groups = [line.split() for line in Path("/proc/cgroups").read_text(encoding="ascii").splitlines()[1:]]
-    of_version_1 = [name for name, hierarchy, *_ in groups if hierarchy != "0"]
-    if not of_version_1:
+    hierarchies = [line.split(":")[1] for line in Path("/proc/self/cgroup").read_text(encoding="ascii").splitlines()]
+    if hierarchies == [""]:
         call(LIBC.mount, b"cgroup2", bytes(CGROUPS), b"cgroup2", 0, None)
         return
     call(LIBC.mount, b"tmpfs", bytes(CGROUPS), b"tmpfs", 0, None)
-    for name in of_version_1:
-        (CGROUPS / name).mkdir()
-        call(LIBC.mount, b"cgroup", bytes(CGROUPS / name), b"cgroup", 0, name.encode())
+    for names in hierarchies:
+        place = CGROUPS / (names.removeprefix("name=") or "unified")
+        place.mkdir()
+        options = f"none,{names}" if names.startswith("name=") else names
+        call(LIBC.mount, b"cgroup", bytes(place), b"cgroup" if names else b"cgroup2", 0, options.encode() if names else None)

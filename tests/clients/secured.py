@@ -27,7 +27,8 @@ RIGHTS = {
 }
 
 
-# How often a question is asked. On a busy machine a client may take longer for TLS than the front waits.
+# How often a question is asked. On a busy machine a client may take longer for TLS than the front waits. Amid the handshake that of
+# Java takes this for a certificate that it doesn't trust.
 ATTEMPTS = 10
 
 
@@ -35,7 +36,7 @@ def again(ask):
     """What comes of a question, which is asked again some times if it is unanswered."""
     for _ in range(ATTEMPTS):
         outcome = ask()
-        if outcome != "unanswered":
+        if outcome not in ("unanswered", "untrusted"):
             break
     return outcome
 

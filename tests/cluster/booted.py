@@ -2,7 +2,7 @@
 
 import pytest
 
-from deploy.installed import BOOTED, on_layer
+from deploy.installed import BOOTED, BOOTED_SECONDS, on_layer
 from needs import skip
 from pages import markdown
 from program.bench import TESTS
@@ -60,6 +60,7 @@ Result=success
 """
 
 
+@pytest.mark.timeout(2 * BOOTED_SECONDS)
 @pytest.mark.needs("root", "boots", "systemd-nspawn", "curl", "pgrep", "units of etcd")
 def check_unit(bench):
     """The commands of the page make a node that systemd runs: it is started again, and ends with status 0."""

@@ -152,7 +152,7 @@ def check_old_nodes(bench):
         bench.same("a question with a condition", given[0], 200)
         bench.same("nothing is done", whole(front, "users", 1_000), ["ann"])
         bench.same("the old node is removed", cluster.does("del", f"{PREFIX}/nodes/old"), True)
-        cluster.until(lambda: made(front, {"user": "ann"})[0] == 200, "all nodes have the new program")
+        cluster.until(lambda: all(made(node, {"user": "ann"})[0] == 200 for node in front.each), "each node knows that all have the new program")
         given = asked(front, "addUser", {"user": "bob"}, If_Policy_Revision=asked(front, "ssdRoleSets", {})[2])
         bench.same("a condition then", given[:2], (200, '{"ok":true}'))
 

@@ -2,6 +2,7 @@
 
 import os
 import re
+import shutil
 import subprocess
 
 import pytest
@@ -118,3 +119,13 @@ def check_with_sudo(bench, without_packages, own, others, wanted):
     both = [("user", ["--not-needing root,mounts -k word"]), ("root", ["--needing root,mounts -k word"])]
     bench.same("the runs", runs, both if others is not None else both[:1])
     bench.same("the status", done.returncode, wanted)
+
+
+def check_space(bench):
+    """In a folder whose path has a space nothing is run, and a line says what to do."""
+    program = bench.folder / "a folder/bin/test"
+    program.parent.mkdir(parents=True)
+    shutil.copy(TOP / "bin/test", program)
+    done = subprocess.run([program], capture_output=True, text=True, check=False)
+    bench.same("the status and the output", (done.returncode, done.stdout), (2, ""))
+    bench.same("one line", (done.stderr.count("\n"), "Clone it elsewhere" in done.stderr), (1, True))

@@ -8,7 +8,7 @@ from pathlib import Path
 
 import pytest
 
-from deploy.installed import BOOTED, on_layer
+from deploy.installed import BOOTED, BOOTED_SECONDS, on_layer
 from needs import skip
 from pages import markdown
 
@@ -357,6 +357,7 @@ rbac: /etc/rbac is kept with: alone.conf second.conf
 
 
 @pytest.mark.slow
+@pytest.mark.timeout(2 * BOOTED_SECONDS)
 @pytest.mark.needs("root", "boots", "systemd-nspawn", "curl", "pgrep", "sqlite3", "man")
 def check_systemd(bench):
     """The commands of the pages install offices that systemd runs, keep them, replace the programs, and lose no office."""

@@ -79,7 +79,7 @@ def check_java(bench):
 
 @pytest.mark.needs("cargo", "gcc")
 def check_rust(bench, librbac):
-    settings = {"RBAC_LIBRARY": str(librbac), "LD_LIBRARY_PATH": str(librbac), "CARGO_TARGET_DIR": bench.path("target")}
+    settings = {"RBAC_LIBRARY": str(librbac), "LD_LIBRARY_PATH": str(librbac), "CARGO_TARGET_DIR": bench.path("target"), "RUSTFLAGS": "-D warnings"}
     folder = bench.folder / "rbac_office"
     run(["cp", "-r", CLIENTS / "rust/rbac_office", folder], ROOT)
     status, said = run(["cargo", "test", "--offline"], folder, **settings)
