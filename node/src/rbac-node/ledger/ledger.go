@@ -43,8 +43,8 @@ const (
 	maxPageEntries, pageBytes = 64, 512 << 10
 	// maxPageKeys is how many keys are read at once.
 	maxPageKeys = 64
-	// maxWatched is how many revisions a watch may begin behind the newest one. etcd reads all of them for it at once.
-	maxWatched = 4096
+	// maxWatched is how many revisions a watch may begin behind the newest one.
+	maxWatched = 20_000
 	// stallInterval is how long the log may be known to have more before it is followed anew.
 	stallInterval = time.Second
 	// firstKey has the number after which the commands are numbered.
@@ -443,11 +443,10 @@ func (l *Ledger) Follow(ctx context.Context, after int64, deliver func(Entry) er
 	f := &follower{l, after, deliver}
 	for lacks := false; ; {
 		// What is far behind, and what etcd's history lacks after a compaction, is read from the keys. The rest is watched.
-		revision, err := f.begin(ctx)
-		if err == nil && (lacks || revision-f.after > maxWatched) {
+		isNear, err := f.isNear(ctx)
+		revision := f.after
+		if err == nil && (lacks || !isNear) {
 			revision, err = f.catchUp(ctx)
-		} else {
-			revision = f.after
 		}
 		if err != nil {
 			return err
@@ -469,13 +468,22 @@ type follower struct {
 	deliver func(Entry) error
 }
 
-// begin returns the revision of etcd, unless entries were trimmed that are needed.
-func (f *follower) begin(ctx context.Context) (int64, error) {
-	reply, err := f.transact(ctx, "read of the log", clientv3.OpGet("floor"))
+// isNear reports whether so little of the log is missing that etcd may read it at once, as it does for a watch: no node has two snapshots
+// that are newer, so these are no more commands than come between three.
+func (f *follower) isNear(ctx context.Context) (bool, error) {
+	state, err := f.State(ctx)
 	if err != nil {
-		return 0, err
+		return false, err
 	}
-	return reply.Header.Revision, checkFloor(reply, f.after)
+	if state.Floor > f.after {
+		return false, ErrTrimmed
+	}
+	for _, member := range state.Members {
+		if len(member.Snapshots) > 1 && member.Snapshots[1].Revision > f.after {
+			return false, nil
+		}
+	}
+	return state.Revision-f.after <= maxWatched, nil
 }
 
 // catchUp delivers the entries that the log has, and returns the revision up to which it has read. Pages of entries are

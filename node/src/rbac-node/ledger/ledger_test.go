@@ -15,6 +15,7 @@ import (
 	"go.etcd.io/etcd/clientv3"
 
 	"rbac-node/logs"
+	"rbac-node/office"
 )
 
 // newLedger returns the ledger of an etcd of its own.
@@ -223,10 +224,15 @@ func TestFollowFromPlace(t *testing.T) {
 	counted := &countingKV{KV: l.kv}
 	l.kv = counted
 	from := len(before) - 10
+	two := []office.Snapshot{{Revision: before[from+2].Revision}, {Revision: before[from+1].Revision}}
 	for _, one := range []struct {
 		name  string
 		least int64
-	}{{"from the history", 2}, {"from the keys", 6}} {
+		has   []office.Snapshot
+	}{{"far behind", 6, two}, {"from the history", 2, two[:1]}, {"from the keys", 6, nil}} {
+		if err := l.Register(ctx, Member{Name: "a", Snapshots: one.has}); err != nil {
+			t.Fatal(err)
+		}
 		counted.count.Store(0)
 		rest, err := all(t, l, before[from].Revision)
 		if err != nil || len(rest) != 9 || rest[8].ID != before[from+9].ID {
@@ -235,8 +241,10 @@ func TestFollowFromPlace(t *testing.T) {
 		if count := counted.count.Load(); count < one.least || one.least == 2 && count > 2 { // One is that of the head.
 			t.Errorf("%s: %d transactions", one.name, count)
 		}
-		if _, err := l.client.Compact(ctx, before[from+5].Revision); err != nil && one.least == 2 {
-			t.Fatal(err)
+		if len(one.has) == 1 { // Then it has no history.
+			if _, err := l.client.Compact(ctx, before[from+5].Revision); err != nil {
+				t.Fatal(err)
+			}
 		}
 	}
 }

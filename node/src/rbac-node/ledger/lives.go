@@ -33,44 +33,47 @@ var ErrFull, ErrDenied = rpctypes.ErrNoSpace, rpctypes.ErrPermissionDenied
 // ErrNameTaken reports that a node with another folder runs under a name.
 var ErrNameTaken = errors.New("another node runs under the name of this one: give each node another --name")
 
-// Live says that a node runs, and has to be called again and again, by one goroutine at a time. It fails with ErrNameTaken if a node with
+// Live says that a node runs, and has to be called again and again, by one goroutine at a time, since etcd may forget it. It fails with ErrNameTaken if a node with
 // another folder runs under the name, or ran a moment ago, or if a later run has a copy of the folder.
 func (l *Ledger) Live(ctx context.Context, life Life) error {
 	if l.lease != clientv3.NoLease {
-		_, err := l.client.KeepAliveOnce(ctx, l.lease)
-		if err == nil {
-			return l.keep(ctx, life)
-		}
-		if !errors.Is(err, rpctypes.ErrLeaseNotFound) {
+		reply, err := l.transact(ctx, "read of the name", clientv3.OpGet(livesPrefix+life.Name))
+		if err != nil {
 			return err
 		}
+		if found := read(reply, 0); len(found) > 0 {
+			var other Life
+			if err := json.Unmarshal(found[0].Value, &other); err != nil || other.Run != life.Run {
+				return ErrNameTaken
+			}
+			return nil
+		}
 	}
-	granted, err := l.client.Grant(ctx, LifeSeconds)
-	if err != nil {
+	if err := l.renew(ctx); err != nil {
 		return fmt.Errorf("lease of the name: %w", err)
 	}
-	l.lease = granted.ID
-	err = l.claim(ctx, life)
+	err := l.claim(ctx, life)
 	if err != nil {
 		l.Leave(ctx)
 	}
 	return err
 }
 
-// keep reports whether a life is still that of its name: a copy of the folder may run, too.
-func (l *Ledger) keep(ctx context.Context, life Life) error {
-	reply, err := l.transact(ctx, "read of the name", clientv3.OpGet(livesPrefix+life.Name))
+// renew makes a lease, which the client renews until it is revoked, or etcd can't be reached for too long.
+func (l *Ledger) renew(ctx context.Context) error {
+	granted, err := l.client.Grant(ctx, LifeSeconds)
 	if err != nil {
 		return err
 	}
-	found := read(reply, 0)
-	if len(found) == 0 {
-		return l.claim(ctx, life)
+	l.lease = granted.ID
+	renewed, err := l.client.KeepAlive(l.client.Ctx(), l.lease)
+	if err != nil {
+		return err
 	}
-	var other Life
-	if err := json.Unmarshal(found[0].Value, &other); err != nil || other.Run != life.Run {
-		return ErrNameTaken
-	}
+	go func() {
+		for range renewed { // Nothing is to be done with them, but they have to be read.
+		}
+	}()
 	return nil
 }
 

@@ -7,6 +7,8 @@ import (
 	"testing"
 	"time"
 
+	"go.etcd.io/etcd/clientv3"
+
 	"rbac-node/logs"
 )
 
@@ -14,7 +16,15 @@ import (
 // last run has ended, or has said nothing for a while.
 func TestLive(t *testing.T) {
 	first, ctx := newLedger(t), context.Background()
-	second := New(first.client, "test", logs.New(io.Discard))
+	another := func() *Ledger {
+		client, err := clientv3.New(clientv3.Config{Endpoints: first.client.Endpoints(), DialTimeout: 10 * time.Second})
+		if err != nil {
+			t.Fatal(err)
+		}
+		t.Cleanup(func() { client.Close() })
+		return New(client, "test", logs.New(io.Discard))
+	}
+	second := another()
 	life := Life{Name: "a", Run: "1", Folder: "x", Settings: Settings{Every: 7}}
 	must := func(l *Ledger, life Life, wanted error) {
 		t.Helper()
@@ -25,30 +35,31 @@ func TestLive(t *testing.T) {
 	other := Life{Name: "a", Run: "2", Folder: "y"}
 	must(first, life, nil)
 	must(second, other, ErrNameTaken)
-	must(second, Life{Name: "b", Run: "3", Folder: "y"}, nil)
-	for i := 0; i < 2*LifeSeconds; i++ { // It is renewed.
-		time.Sleep(time.Second)
-		must(first, life, nil)
-	}
+	time.Sleep((LifeSeconds + 2) * time.Second) // It is renewed.
+	must(second, other, ErrNameTaken)
 	state, err := first.State(ctx)
 	if err != nil || len(state.Lives) != 1 || state.Lives[0] != life {
 		t.Fatalf("%v, %v", state.Lives, err)
 	}
-	third := New(first.client, "test", logs.New(io.Discard))
+	third := another()
 	life.Run = "4"
 	must(third, life, nil) // The first one was killed, and is started again.
 	earlier := life
 	earlier.Run = "1"
 	must(first, earlier, ErrNameTaken) // Or it was not, and its folder was copied.
-	second = New(first.client, "test", logs.New(io.Discard))
+	second = another()
 	must(second, other, ErrNameTaken)
 	third.Leave(ctx)
 	must(second, other, nil)
 	must(third, life, ErrNameTaken)
-	for deadline := time.Now().Add(20 * time.Second); third.Live(ctx, life) != nil; time.Sleep(time.Second) {
+	_ = second.client.Close() // It is killed.
+	for deadline := time.Now().Add(30 * time.Second); third.Live(ctx, life) != nil; time.Sleep(time.Second) {
 		if time.Now().After(deadline) {
 			t.Fatal("the name of a node that says nothing more is not free")
 		}
 	}
-	must(second, other, ErrNameTaken)
+	if _, err := third.client.Revoke(ctx, third.lease); err != nil { // etcd has forgotten it.
+		t.Fatal(err)
+	}
+	must(third, life, nil)
 }

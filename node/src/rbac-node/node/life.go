@@ -28,7 +28,8 @@ const (
 func (n *Node) beginLife() error {
 	path := filepath.Join(n.options.Data, identityName)
 	text, err := os.ReadFile(path)
-	if errors.Is(err, os.ErrNotExist) {
+	// After a crash of the machine it may be empty.
+	if errors.Is(err, os.ErrNotExist) || err == nil && len(text) == 0 {
 		random := make([]byte, 16)
 		if _, err := rand.Read(random); err != nil {
 			return fmt.Errorf("identity: %w", err)

@@ -4,6 +4,8 @@ import (
 	"context"
 	"errors"
 	"io"
+	"os"
+	"path/filepath"
 	"strings"
 	"testing"
 	"time"
@@ -90,6 +92,13 @@ func TestIdentity(t *testing.T) {
 	again, err := New(n.options, log, logs.New(io.Discard), &metrics.Registry{})
 	if err != nil {
 		t.Fatal(err)
+	}
+	if err := os.Truncate(filepath.Join(other.options.Data, identityName), 0); err != nil {
+		t.Fatal(err)
+	}
+	anew, err := New(other.options, log, logs.New(io.Discard), &metrics.Registry{})
+	if err != nil || anew.life.Folder == "" {
+		t.Errorf("after a crash: %v, %v", anew.life, err)
 	}
 	if again.life.Folder != n.life.Folder || n.life.Folder == "" || other.life.Folder == n.life.Folder {
 		t.Errorf("%v, %v, %v", n.life, again.life, other.life)
