@@ -184,7 +184,7 @@ runuser -u rbac -- sqlite3 /var/lib/rbac/office/office "$sessions"
 runuser -u rbac -- rbac check /var/lib/rbac/office/office
 systemctl start rbac-node@office 2> /dev/null || echo 'the record is that of another office'
 systemctl stop rbac-node@office
-runuser -u rbac -- rbac-node record adopt --office /var/lib/rbac/office/office > /mnt/adopted 2>&1 || cat /mnt/adopted
+runuser -u rbac -- rbac-node record adopt --office /var/lib/rbac/office/office --by root --reason 'sessions ended' > /mnt/adopted 2>&1 || cat /mnt/adopted
 systemctl start rbac-node@office; at office assignedRoles ann
 """
 

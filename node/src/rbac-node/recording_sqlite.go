@@ -27,7 +27,7 @@ func (withRecord) add(s *settings, office *single.Options, registry *metrics.Reg
 	office.OpenRecord = func(ctx context.Context) (single.Recorder, error) {
 		r, err := record.Open(ctx, record.Options{
 			Office: s.office, Program: s.program, HangTimeout: s.hangTimeout, Every: s.record.every, Log: office.Log, Metrics: registry,
-			Say: office.Say,
+			VerifyEvery: s.record.verifyEvery, Say: office.Say,
 		})
 		if err != nil {
 			return nil, err // Not a Recorder that is there and nil.
@@ -53,6 +53,7 @@ const toolHangTimeout = 10 * time.Minute
 type recordCommand struct {
 	record.Tool
 	head, heads, signers string
+	by, reason           string
 	filter               record.Filter
 }
 
@@ -111,6 +112,9 @@ func (c *recordCommand) define(flags *flag.FlagSet, name string) {
 		flags.StringVar(&c.head, "head", "", "a head N:HASH that is known from elsewhere")
 		flags.StringVar(&c.heads, "heads", "", "file of such heads, one in a line, or the log of a front")
 		flags.StringVar(&c.signers, "signers", "", "file of who may have signed each of these heads, as ssh-keygen(1) describes it")
+	case "adopt":
+		flags.StringVar(&c.by, "by", "", "who adopts the office")
+		flags.StringVar(&c.reason, "reason", "", "why, such as the number of a ticket")
 	case "show":
 		flags.StringVar(&c.filter.User, "user", "", "only commands that name this user")
 		flags.StringVar(&c.filter.Role, "role", "", "only commands that name this role")
@@ -143,7 +147,7 @@ func (c *recordCommand) do(ctx context.Context, name string) error {
 	case "cut":
 		return c.Cut(ctx)
 	case "adopt":
-		return c.Adopt(ctx)
+		return c.Adopt(ctx, c.by, c.reason)
 	}
 	return errRecordUsage
 }

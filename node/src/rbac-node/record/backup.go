@@ -79,7 +79,7 @@ func (t *Tool) copyPair(ctx context.Context, files []string, to string) error {
 		return err
 	}
 	// The heads of the copy are known from now on.
-	if err := syncFile(files[len(files)-1]); err != nil {
+	if err := syncLog(files[len(files)-1]); err != nil {
 		return err
 	}
 	if err := kept.copyTo(ctx, filepath.Join(DirOf(to), fileName)); err != nil {

@@ -103,8 +103,8 @@ func (f *Follower) resume(ctx context.Context, text string, isFetched bool) erro
 	}
 	if !has {
 		f.Log.Warn("the record begins with a snapshot: earlier entries are not here", "first", head.N+1)
-		nothing := func(string, string) error { return nil }
-		if err := f.beginWith(ctx, part{head.N + 1, joined, head.Chain, ""}, "", nothing); err != nil {
+		p := part{first: head.N + 1, why: joined, before: head.Chain}
+		if err := f.beginWith(ctx, p, "", refuseNone, func(string, string) error { return nil }); err != nil {
 			return err
 		}
 	}
@@ -173,6 +173,9 @@ func renamePart(dir string, first, last int64) error {
 	return os.Rename(path, partPath(dir, first, last))
 }
 
+// refuseNone lets the record of a node begin over any office: the log has the commands before it.
+func refuseNone(string) error { return nil }
+
 // HasBegun reports whether there is a record: it begins with the first entry of the log that says who asks.
 func (f *Follower) HasBegun() bool {
 	f.mutex.Lock()
@@ -187,7 +190,7 @@ func (f *Follower) prepare(ctx context.Context) error {
 		return err
 	}
 	return f.withCopy(ctx, func(copied, rows string) error {
-		f.prepared = part{1, beginning, "", rows}
+		f.prepared = part{first: 1, why: beginning, rows: rows}
 		return copyFile(copied, filepath.Join(f.dir, preparedName))
 	})
 }
@@ -195,7 +198,7 @@ func (f *Follower) prepare(ctx context.Context) error {
 // Begin begins the record with the office as it is now, which no program has open unless it is as it was at Resume. If an earlier run
 // has begun it, it has to have begun in the same way.
 func (f *Follower) Begin(ctx context.Context, at string, isAsAtResume bool) error {
-	p := part{1, beginning, "", ""}
+	p := part{first: 1, why: beginning}
 	note := func(_, rows string) error { p.rows = rows; return nil }
 	var err error
 	switch {
@@ -205,7 +208,7 @@ func (f *Follower) Begin(ctx context.Context, at string, isAsAtResume bool) erro
 		p = f.prepared
 		err = makeFile(f.dir, p, at, filepath.Join(f.dir, preparedName))
 	default:
-		err = f.beginWith(ctx, p, at, note)
+		err = f.beginWith(ctx, p, at, refuseNone, note)
 	}
 	_ = os.Remove(filepath.Join(f.dir, preparedName)) // It may never have been there.
 	if err == nil && f.db == nil {
@@ -452,31 +455,20 @@ func (f *Follower) Keep(ctx context.Context, text string) error {
 // check reads the entries of the file after one, or all if that is zero, up to a number, and reports whether the chain holds. It
 // returns the last one.
 func (f *Follower) check(ctx context.Context, last entry, to int64, each func(entry)) (entry, error) {
-	v, err := openView(ctx, filepath.Join(f.dir, fileName))
-	if err != nil {
-		return last, err
-	}
-	defer v.Close()
+	path := filepath.Join(f.dir, fileName)
 	if last.ch == "" {
-		parts, err := partsOf(ctx, v)
-		if err != nil {
+		var err error
+		if last, err = beginningOf(ctx, path); err != nil {
 			return last, err
 		}
-		last = entry{n: parts[0].first - 1, ch: parts[0].before}
 		each(last)
 	}
-	next := entriesAfter(ctx, v.tx, last.n, to)
-	for {
-		e, err := next()
-		if err != nil || e == nil {
-			return last, err
-		}
-		if e.n != last.n+1 || chained(last.ch, e) != e.ch {
-			return last, fmt.Errorf("the chain breaks at entry %d: %w", last.n+1, errMoveAway)
-		}
-		last = *e
-		each(last)
+	last, err := followChain(ctx, path, last, to, each)
+	var broken *breakError
+	if errors.As(err, &broken) {
+		err = fmt.Errorf("%v: %w", err, errMoveAway)
 	}
+	return last, err
 }
 
 // Close ends the record once nothing more is added. It writes what waits, and returns why the record couldn't go on.
