@@ -101,6 +101,8 @@ def goes_on(bench, what, front, before):
         bench.same(f"{what}: a command", front.ask("addRole", {"role": "clerk"})[1], OK)
         bench.same(f"{what}: the end", front.end(), 0)
     verified(bench, what, front.office)
+    bench.same(f"{what}: the next cut", tool("record", "cut", "--office", front.office)[0], 0)
+    verified(bench, f"{what}, and the next cut", front.office)
     shown = [line.split("\t") for line in tool("record", "show", "--office", front.office)[1].splitlines()]
     bench.same(f"{what}: the numbers", [int(line[0]) for line in shown], list(range(1, len(shown) + 1)))
     bench.same(f"{what}: the entries", [line[4] for line in shown if '"fn":"addUser"' in line[4]], before)
