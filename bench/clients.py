@@ -55,6 +55,8 @@ def main(words):
         subprocess.run([PROGRAM, "init", office], check=True)
         bank = (ROOT / "examples/bank.jsonl").read_bytes()
         subprocess.run([PROGRAM, "replay", office], input=bank, stdout=subprocess.DEVNULL, check=True)
+        adopting = ["--by", "bench", "--reason", "new", "--program", PROGRAM]
+        subprocess.run([front, "record", "adopt", "--office", office, *adopting], stdout=subprocess.DEVNULL, check=True)
         serving = [front, "serve", "--office", office, "--program", PROGRAM, "--listen", address.removeprefix("http://")]
         with subprocess.Popen(serving, stderr=subprocess.DEVNULL) as served:
             try:

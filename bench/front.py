@@ -136,8 +136,11 @@ class Bench:
 
     def front(self, name, *more, office=None):
         """The process of a front and its port."""
-        port = free_port()
-        words = ("--office", self.copy(name, office), "--program", PROGRAM, "--listen", f"127.0.0.1:{port}")
+        port, path = free_port(), self.copy(name, office)
+        if "--no-record" not in more:
+            adopt = [self.node, "record", "adopt", "--office", path, "--program", PROGRAM, "--by", "bench", "--reason", "new"]
+            subprocess.run(adopt, check=True, stdout=subprocess.DEVNULL)
+        words = ("--office", path, "--program", PROGRAM, "--listen", f"127.0.0.1:{port}")
         process = self.start(self.node, "serve", *words, *more)
         return process, until_open(port)
 

@@ -14,7 +14,7 @@ from program.bench import PROGRAM as RBAC
 from program.bench import SECONDS
 from program.web import free_port
 
-from .recorded import left_in_memory
+from .recorded import left_in_memory, tool
 from .running import PROGRAM
 
 HOST = "127.0.0.1"
@@ -77,8 +77,15 @@ class Front(Asking):
         """The arguments of the front."""
         return ["serve", "--office", self.office, "--program", RBAC, "--listen", self.listen, *self.more]
 
+    def adopt(self):
+        """Begins the record of an office that has commands from before its first front."""
+        has_office = os.path.exists(self.office) and os.path.getsize(self.office) > 0
+        if has_office and not os.path.exists(f"{self.office}.record") and "--no-record" not in self.more:
+            tool("record", "adopt", "--office", self.office, "--by", "tests", "--reason", "commands from before")
+
     def start_without_waiting(self):
         """Starts the front, and returns its process."""
+        self.adopt()
         with open(self.log, "ab") as log:
             self.logged = log.tell()
             return subprocess.Popen(

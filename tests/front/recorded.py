@@ -51,9 +51,8 @@ def link(before, entry):
     return hashlib.sha256("".join(f"{field}\n" for field in fields).encode()).hexdigest()
 
 
-def chain_again(office):
-    """Computes the whole chain anew, as somebody does who may write the record."""
-    before = ""
+def chain_again(office, before=""):
+    """Computes the whole chain of the file at hand anew, as somebody does who may write the record."""
     with closing(sqlite3.connect(path_of(office))) as opened:
         for entry in [Entry(*row) for row in opened.execute("SELECT * FROM entry ORDER BY n")]:
             before = link(before, entry)
@@ -61,9 +60,9 @@ def chain_again(office):
         opened.commit()
 
 
-def change(office, *statements):
+def change(office, *statements, file="record.db"):
     """Changes the record by SQL."""
-    with closing(sqlite3.connect(path_of(office))) as opened:
+    with closing(sqlite3.connect(path_of(office, file), timeout=SECONDS)) as opened:
         for statement in statements:
             opened.execute(statement)
         opened.commit()

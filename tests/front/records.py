@@ -191,29 +191,42 @@ def by_sql(front):
         office.commit()
 
 
+# Who adopts an office, and why. The rows that were added behind its record.
+WHO = ("--by", "root <ö>", "--reason", "ticket 9 & more")
+EVE = [["+", "name_row", 1, "eve"]]
+BOB = [["+", "name_row", 1, "bob"], ["+", "pair_row", 2, "bob", "clerk"]]
+
+
 def check_written_behind(bench):
     """An office that was written behind its record doesn't start, until it is adopted."""
-    for what, write in [("by rbac replay", by_replay), ("by SQL", by_sql)]:
+    for what, write, rows in [("by rbac replay", by_replay, EVE), ("by SQL", by_sql, BOB)]:
         front = made(bench, what.replace(" ", "-"))
         old = entries(front.office)
         write(front)
         same_refusal(bench, what, front, "`rbac-node record adopt`")
         refuted(bench, what, front.office, "the office is not what the record gives")
-        status, out, said = tool("record", "adopt", "--office", front.office)
+        bench.same(f"{what}: adopt by nobody", tool("record", "adopt", "--office", front.office, "--reason", "x")[0], 1)
+        bench.same(f"{what}: adopt for nothing", tool("record", "adopt", "--office", front.office, "--by", "x")[0], 1)
+        status, out, said = tool("record", "adopt", "--office", front.office, *WHO)
         bench.same(
             f"{what}: adopt",
             (status, out, said),
             (0, f"the record begins anew over the office as it is, at entry {len(old) + 1}\n", ""),
         )
-        bench.same(f"{what}: the record says so", json.loads(entries(front.office)[-1].request)["record"], "adopts")
-        bench.same(f"{what}: adopt again", tool("record", "adopt", "--office", front.office)[0], 1)
+        last = entries(front.office)[-1]
+        text = json.loads(last.request)
+        bench.same(f"{what}: the record says so", (text["record"], text["by"], last.reason), ("adopts", "root <ö>", "ticket 9 & more"))
+        bench.same(f"{what}: the rows that were changed", text["changed"], {"added": len(rows), "removed": 0, "rows": rows})
+        shown = tool("record", "show", "--office", front.office)[1].splitlines()[-1]
+        bench.judge(f"{what}: show says so", [] if '"by":"root ' in shown and "\tticket 9 & more\t" in shown else [shown])
+        bench.same(f"{what}: adopt again", tool("record", "adopt", "--office", front.office, *WHO)[0], 1)
         with front:
             bench.same(f"{what}: a command", front.ask("addUser", {"user": "zoe"})[1], OK)
             front.kill()
         out = tool("record", "verify", "--office", front.office)[1]
-        bench.same(
-            f"{what}: verify says so", f"entry {len(old) + 1} begins anew over an office that somebody has written" in out, True
-        )
+        says = f"entry {len(old) + 1} begins anew over an office that somebody has written behind the record: "
+        says += f'adopted by "root <ö>", with {len(rows)} rows added and 0 removed, for "ticket 9 & more"\n'
+        bench.judge(f"{what}: verify says so", [] if says in out else [out])
         with front:
             bench.same(f"{what}: after a kill", front.ask("addUser", {"user": "zoe"})[1], '{"code":3,"error":"UserExists"}')
             bench.same(f"{what}: the end", front.end(), 0)
@@ -465,7 +478,7 @@ def check_usage(bench):
     """Command lines that can't work end with one line."""
     for words in [("record",), ("record", "fly", "--office", "o"), ("record", "head"), ("backup", "--office", "o"), ("backup", "x"),
                   ("record", "head", "--office", bench.path("none")), ("record", "verify", "--office", bench.path("none")),
-                  ("record", "adopt", "--office", bench.path("none")), ("record", "show", "--office", "o", "word")]:  # fmt: skip
+                  ("record", "adopt", "--office", bench.path("none"), *WHO), ("record", "show", "--office", "o", "word")]:  # fmt: skip
         status, out, said = tool(*words, program=False)
         bench.same(f"{' '.join(words)}", (status, out, said.count("\n")), (1, "", 1))
     bench.same("what it makes", os.listdir(bench.folder), [])

@@ -144,6 +144,9 @@ for turn in $(seq 300); do ! systemctl -q is-failed rbac-serve@alone || break; s
 of rbac-serve@alone ActiveState; of rbac-serve@alone ExecMainStatus
 rm -r /etc/systemd/system/rbac-serve@alone.service.d; systemctl daemon-reload
 systemctl restart rbac-serve@alone; wait_for 8080
+systemctl stop rbac-serve@alone
+runuser -u rbac -- rbac-node record adopt --office /var/lib/rbac/alone/office --by root --reason new > /mnt/adopted 2>&1 || cat /mnt/adopted
+systemctl start rbac-serve@alone; wait_for 8080
 systemctl start rbac-node@alone; systemctl is-active rbac-serve@alone rbac-node@alone; at alone assignedRoles eve
 systemctl disable --now rbac-serve@alone rbac-node@alone 2> /dev/null
 """
@@ -184,7 +187,7 @@ runuser -u rbac -- sqlite3 /var/lib/rbac/office/office "$sessions"
 runuser -u rbac -- rbac check /var/lib/rbac/office/office
 systemctl start rbac-node@office 2> /dev/null || echo 'the record is that of another office'
 systemctl stop rbac-node@office
-runuser -u rbac -- rbac-node record adopt --office /var/lib/rbac/office/office > /mnt/adopted 2>&1 || cat /mnt/adopted
+runuser -u rbac -- rbac-node record adopt --office /var/lib/rbac/office/office --by root --reason 'sessions ended' > /mnt/adopted 2>&1 || cat /mnt/adopted
 systemctl start rbac-node@office; at office assignedRoles ann
 """
 

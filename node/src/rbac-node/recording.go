@@ -6,6 +6,7 @@ import (
 	"fmt"
 	"os"
 	"path/filepath"
+	"time"
 
 	"rbac-node/logs"
 	"rbac-node/metrics"
@@ -15,8 +16,9 @@ import (
 
 // recordSettings are what the command line chooses for the record of an office.
 type recordSettings struct {
-	isOff bool
-	every int64
+	isOff       bool
+	every       int64
+	verifyEvery time.Duration
 }
 
 // recordMode is what a program with SQLite does.

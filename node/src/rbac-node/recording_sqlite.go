@@ -32,7 +32,7 @@ func (withRecord) add(s *settings, office *single.Options, registry *metrics.Reg
 	office.OpenRecord = func(ctx context.Context) (single.Recorder, error) {
 		r, err := record.Open(ctx, record.Options{
 			Office: s.office, Program: s.program, HangTimeout: s.hangTimeout, Every: s.record.every, Log: office.Log, Metrics: registry,
-			Say: office.Say,
+			VerifyEvery: s.record.verifyEvery, Say: office.Say,
 		})
 		if err != nil {
 			return nil, err // Not a Recorder that is there and nil.
@@ -64,6 +64,7 @@ const toolHangTimeout = 10 * time.Minute
 type recordCommand struct {
 	record.Tool
 	head, heads, signers string
+	by, reason           string
 	filter               record.Filter
 	access               record.AccessQuery
 	format               record.Format
@@ -133,6 +134,9 @@ func (c *recordCommand) define(flags *flag.FlagSet, name string) {
 		flags.Var(&c.format, "format", "text, csv or json")
 	}
 	switch name {
+	case "adopt":
+		flags.StringVar(&c.by, "by", "", "who adopts the office")
+		flags.StringVar(&c.reason, "reason", "", "why, such as the number of a ticket")
 	case "export":
 		flags.StringVar(&c.export.To, "syslog", "", "receiver: unix:PATH, udp:HOST:PORT or tcp:HOST:PORT")
 		flags.StringVar(&c.export.Place, "place", "", "file that has up to where was sent")
@@ -183,7 +187,7 @@ func (c *recordCommand) do(ctx context.Context, name string) error {
 	case "cut":
 		return c.Cut(ctx)
 	case "adopt":
-		return c.Adopt(ctx)
+		return c.Adopt(ctx, c.by, c.reason)
 	}
 	return errRecordUsage
 }

@@ -92,6 +92,8 @@ func (s *settings) define(flags *flag.FlagSet) {
 	flags.StringVar(&s.origins, "origin", "", "origins from which browsers may send requests, separated by commas; it sets no CORS fields")
 	flags.StringVar(&s.refused, "refused", "", "file for requests that are refused with 401, 403 or 421 (default: OFFICE.refused)")
 	flags.BoolVar(&s.record.isOff, "no-record", false, "don't record commands")
+	flags.DurationVar(&s.record.verifyEvery, "record-verify", 6*time.Hour,
+		"after how much time the whole chain of the record is verified again; 0 is never")
 	flags.Int64Var(&s.record.every, "record-base", 10_000, "commands between two copies of the office, from which a start does them again")
 	flags.BoolVar(&s.isCheck, "check", false, "with callers: only check the files of the callers")
 }
@@ -116,7 +118,7 @@ func (s *settings) check() error {
 		return errors.New("--session-idle is for one machine: a node doesn't know which sessions are used at others")
 	case s.sessionAge+s.sessionIdle > 0 && !state.IsAvailable:
 		return fmt.Errorf("--session-age and --session-idle: %w", state.ErrUnavailable)
-	case s.record.every < 1:
+	case s.record.every < 1 || s.record.verifyEvery < 0:
 		return errors.New("--record-base must be at least 1")
 	case web.MaxConnections() < 1:
 		return fmt.Errorf("the limit of open files is too low for any connection: raise it by %d or more (ulimit -n, or LimitNOFILE= of systemd)",

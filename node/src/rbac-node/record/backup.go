@@ -5,6 +5,7 @@ package record
 import (
 	"bytes"
 	"context"
+	"crypto/sha256"
 	"database/sql"
 	"errors"
 	"fmt"
@@ -12,6 +13,7 @@ import (
 	"os"
 	"os/exec"
 	"path/filepath"
+	"sort"
 	"strconv"
 	"strings"
 	"syscall"
@@ -32,6 +34,11 @@ func (t *Tool) Backup(ctx context.Context, folder string) error {
 	if err != nil {
 		return err
 	}
+	lock, err := waitForFolder(ctx, folder)
+	if err != nil {
+		return fmt.Errorf("backup: %w", err)
+	}
+	defer lock.Close()
 	making := filepath.Join(folder, makingBackup)
 	if err := os.RemoveAll(making); err != nil {
 		return fmt.Errorf("backup: %w", err)
@@ -59,6 +66,64 @@ func (t *Tool) Backup(ctx context.Context, folder string) error {
 	return nil
 }
 
+// waitForFolder waits until no other backup is made in a folder.
+func waitForFolder(ctx context.Context, folder string) (*os.File, error) {
+	file, err := os.Open(folder)
+	if err != nil {
+		return nil, err
+	}
+	for {
+		err := syscall.Flock(int(file.Fd()), syscall.LOCK_EX|syscall.LOCK_NB)
+		if err == nil {
+			return file, nil
+		}
+		select {
+		case <-ctx.Done():
+			_ = file.Close()
+			return nil, fmt.Errorf("lock %s: %w", folder, err)
+		case <-time.After(glance):
+		}
+	}
+}
+
+// linkOrCopy copies the file of an earlier part, which never changes. If a backup in the folder has the same, it becomes another name
+// of that.
+func linkOrCopy(path, to, folder string) error {
+	earlier, err := filepath.Glob(filepath.Join(escapeGlob(folder), "*", filepath.Base(filepath.Dir(to)), filepath.Base(path)))
+	if err != nil {
+		return err
+	}
+	sort.Sort(sort.Reverse(sort.StringSlice(earlier)))
+	for _, same := range earlier {
+		if isSame(path, same) && os.Link(same, to) == nil {
+			return nil
+		}
+	}
+	return copyFile(path, to)
+}
+
+// isSame reports whether two files have the same bytes.
+func isSame(one, other string) bool {
+	first, err := digestOfFile(one)
+	if err != nil {
+		return false
+	}
+	second, err := digestOfFile(other)
+	return err == nil && first == second
+}
+
+// digestOfFile returns the SHA-256 of a file.
+func digestOfFile(path string) (sum string, err error) {
+	file, err := os.Open(path)
+	if err != nil {
+		return "", err
+	}
+	defer file.Close()
+	h := sha256.New()
+	_, err = io.Copy(h, file)
+	return string(h.Sum(nil)), err
+}
+
 // copyPair copies an office and its record as of one moment.
 func (t *Tool) copyPair(ctx context.Context, files []string, to string) error {
 	if err := os.Mkdir(DirOf(to), 0o700); err != nil {
@@ -84,14 +149,14 @@ func (t *Tool) copyPair(ctx context.Context, files []string, to string) error {
 		return err
 	}
 	// The heads of the copy are known from now on.
-	if err := syncFile(files[len(files)-1]); err != nil {
+	if err := syncLog(files[len(files)-1]); err != nil {
 		return err
 	}
 	if err := kept.copyTo(ctx, filepath.Join(DirOf(to), fileName)); err != nil {
 		return err
 	}
 	for _, path := range files[:len(files)-1] {
-		if err := copyFile(path, filepath.Join(DirOf(to), filepath.Base(path))); err != nil {
+		if err := linkOrCopy(path, filepath.Join(DirOf(to), filepath.Base(path)), filepath.Dir(filepath.Dir(to))); err != nil {
 			return err
 		}
 	}

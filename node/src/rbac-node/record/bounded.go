@@ -40,7 +40,7 @@ func (e *entry) shorten() {
 		return
 	}
 	var line strings.Builder
-	line.WriteString(`{"fn":` + string(asked["fn"]) + "," + beginningOf(e.request))
+	line.WriteString(`{"fn":` + string(asked["fn"]) + "," + shownStart(e.request))
 	for _, key := range boundedKeys {
 		var name string
 		if json.Unmarshal(asked[key], &name) == nil && 0 < len(name) && len(name) <= longestName {
@@ -50,8 +50,8 @@ func (e *entry) shorten() {
 	e.request = line.String() + "}"
 }
 
-// beginningOf returns what is shown of a long text, as keys of JSON.
-func beginningOf(text string) string {
+// shownStart returns what is shown of a long text, as keys of JSON.
+func shownStart(text string) string {
 	begins := text
 	if len(begins) > begunBytes {
 		begins = begins[:begunBytes]

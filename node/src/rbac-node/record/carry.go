@@ -106,7 +106,8 @@ func carry(ctx context.Context, options Options, files []string, snapshot string
 		return Head{}, err
 	}
 	err := r.withCopy(ctx, func(copied, rows string) error {
-		return inTransaction(r.db, func(tx *sql.Tx) error { return r.adopt(ctx, tx, copied, rows) })
+		p := part{why: adopted, rows: rows, adoption: adoption{By: "rbac-node"}, reason: "the office of a backup"}
+		return inTransaction(r.db, func(tx *sql.Tx) error { return r.adopt(ctx, tx, p, copied) })
 	})
 	if err != nil {
 		return Head{}, err

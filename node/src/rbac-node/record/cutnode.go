@@ -63,7 +63,7 @@ func (t *Tool) cutNode(ctx context.Context) error {
 		if err := os.Link(path, closed); err != nil {
 			return err
 		}
-		if err := makeFile(r.dir, part{head.N + 1, joined, head.Chain, rows}, "", copied); err != nil {
+		if err := makeFile(r.dir, part{first: head.N + 1, why: joined, before: head.Chain, rows: rows}, "", copied); err != nil {
 			return err
 		}
 		return addAll(path, later)

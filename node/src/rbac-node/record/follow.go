@@ -105,8 +105,8 @@ func (f *Follower) resume(ctx context.Context, text string, isFetched bool) erro
 	}
 	if !has {
 		f.Log.Warn("the record begins with a snapshot: earlier entries are not here", "first", head.N+1)
-		nothing := func(string, string) error { return nil }
-		if err := f.beginWith(ctx, part{head.N + 1, joined, head.Chain, ""}, "", nothing); err != nil {
+		p := part{first: head.N + 1, why: joined, before: head.Chain}
+		if err := f.beginWith(ctx, p, "", refuseNone, func(string, string) error { return nil }); err != nil {
 			return err
 		}
 	}
@@ -150,6 +150,9 @@ func renamePart(dir string, first, last int64) error {
 	return os.Rename(path, partPath(dir, first, last))
 }
 
+// refuseNone lets the record of a node begin over any office: the log has the commands before it.
+func refuseNone(string) error { return nil }
+
 // HasBegun reports whether there is a record: it begins with the first entry of the log that says who asks.
 func (f *Follower) HasBegun() bool {
 	f.mutex.Lock()
@@ -164,7 +167,7 @@ func (f *Follower) prepare(ctx context.Context) error {
 		return err
 	}
 	return f.withCopy(ctx, func(copied, rows string) error {
-		f.prepared = part{1, beginning, "", rows}
+		f.prepared = part{first: 1, why: beginning, rows: rows}
 		return copyFile(copied, filepath.Join(f.dir, preparedName))
 	})
 }
@@ -172,7 +175,7 @@ func (f *Follower) prepare(ctx context.Context) error {
 // Begin begins the record with the office as it is now, which no program has open unless it is as it was at Resume. If an earlier run
 // has begun it, it has to have begun in the same way.
 func (f *Follower) Begin(ctx context.Context, at string, isAsAtResume bool) error {
-	p := part{1, beginning, "", ""}
+	p := part{first: 1, why: beginning}
 	note := func(_, rows string) error { p.rows = rows; return nil }
 	var err error
 	switch {
@@ -182,7 +185,7 @@ func (f *Follower) Begin(ctx context.Context, at string, isAsAtResume bool) erro
 		p = f.prepared
 		err = makeFile(f.dir, p, at, filepath.Join(f.dir, preparedName))
 	default:
-		err = f.beginWith(ctx, p, at, note)
+		err = f.beginWith(ctx, p, at, refuseNone, note)
 	}
 	_ = os.Remove(filepath.Join(f.dir, preparedName)) // It may never have been there.
 	if err == nil && f.db == nil {

@@ -85,7 +85,7 @@ func (r *Record) DurableHead() (Head, error) {
 	if isDurable {
 		return head, nil
 	}
-	if err := syncFile(filepath.Join(r.dir, fileName)); err != nil {
+	if err := syncLog(filepath.Join(r.dir, fileName)); err != nil {
 		return Head{}, err
 	}
 	r.mutex.Lock()
@@ -94,13 +94,12 @@ func (r *Record) DurableHead() (Head, error) {
 	return head, nil
 }
 
-// syncFile makes durable what was written to the file of a record, most of which may be in its log.
-func syncFile(path string) error {
-	for _, name := range []string{path + walSuffix, path} {
-		err := syncPath(name)
-		if err != nil && !errors.Is(err, os.ErrNotExist) && !errors.Is(err, syscall.EROFS) {
-			return fmt.Errorf("record: %w", err)
-		}
+// syncLog makes durable what was written to the log of a file of a record. SQLite syncs the file itself when it merges the log. The file
+// is not opened here: when it is closed, this process would lose the locks that SQLite has on it.
+func syncLog(path string) error {
+	err := syncPath(path + walSuffix)
+	if err != nil && !errors.Is(err, os.ErrNotExist) && !errors.Is(err, syscall.EROFS) {
+		return fmt.Errorf("record: %w", err)
 	}
 	return nil
 }
@@ -148,6 +147,17 @@ func (r *Record) addMetrics() {
 	})
 	r.Metrics.Gauge("rbac_node_record_failing", "1 if the record can't be written: one machine refuses commands then.", func() float64 {
 		if r.Why() != "" {
+			return 1
+		}
+		return 0
+	})
+	if r.VerifyEvery <= 0 {
+		return
+	}
+	r.Metrics.Gauge("rbac_node_record_broken", "1 if the chain of the record was broken when it was last verified.", func() float64 {
+		r.mutex.Lock()
+		defer r.mutex.Unlock()
+		if r.isBroken {
 			return 1
 		}
 		return 0

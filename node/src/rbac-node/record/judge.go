@@ -72,7 +72,7 @@ func (v *verifier) judgeParts(ctx context.Context, opened *view, parts []part) e
 		case joined:
 			canBe = i == 0 && p.first > 1 && (v.Data != "" || v.Part != "")
 		case adopted:
-			canBe = i > 0
+			canBe = i > 0 || p.first == 1 && p.before == "" && v.Data == ""
 		}
 		if !canBe {
 			return fmt.Errorf("the part that begins with entry %d can't say %q: somebody has written it", p.first, p.why)

@@ -16,7 +16,7 @@ import (
 // The alarm of a record that can't be written goes on until something was written.
 func TestAlarm(t *testing.T) {
 	dir := t.TempDir()
-	if err := makeFile(dir, part{1, beginning, "", ""}, now(), "/dev/null"); err != nil {
+	if err := makeFile(dir, part{first: 1, why: beginning, rows: ""}, now(), "/dev/null"); err != nil {
 		t.Fatal(err)
 	}
 	r := &Record{Options: Options{Log: logs.New(io.Discard)}, dir: dir}
@@ -48,7 +48,7 @@ func TestAlarm(t *testing.T) {
 func BenchmarkKeep(b *testing.B) {
 	const size = 16
 	dir := b.TempDir()
-	if err := makeFile(dir, part{1, beginning, "", ""}, now(), "/dev/null"); err != nil {
+	if err := makeFile(dir, part{first: 1, why: beginning, rows: ""}, now(), "/dev/null"); err != nil {
 		b.Fatal(err)
 	}
 	r := &Record{dir: dir}

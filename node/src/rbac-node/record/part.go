@@ -4,6 +4,7 @@ package record
 
 import (
 	"database/sql"
+	"encoding/json"
 	"fmt"
 	"os"
 	"path/filepath"
@@ -21,10 +22,12 @@ const (
 )
 
 // A part is a row of its table: which entry is the first, why the part begins, the link before it, and the digest of the rows of the
-// office over which the commands are done.
+// office over which the commands are done. If an office is adopted, the first entry alone has who did so and why.
 type part struct {
 	first             int64
 	why, before, rows string
+	adoption          adoption
+	reason            string
 }
 
 // entry returns the entry that says how a part begins, or nil if there is none.
@@ -32,11 +35,31 @@ func (p *part) entry(at string) *entry {
 	if p.why == joined {
 		return nil
 	}
-	e := &entry{
-		n: p.first, at: at, caller: Front, request: fmt.Sprintf(`{"record":"%s","rows":"%s"}`, p.why, p.rows), answer: accepted,
-	}
+	text, _ := json.Marshal(beginningText{p.why, p.rows, p.adoption.By, p.adoption.Changed}) // It has nothing that JSON can't say.
+	e := &entry{n: p.first, at: at, caller: Front, reason: p.reason, request: string(text), answer: accepted}
 	e.ch = chained(p.before, e)
 	return e
+}
+
+// A beginningText is the request of an entry that says how a part begins.
+type beginningText struct {
+	Record  string   `json:"record"`
+	Rows    string   `json:"rows"`
+	By      string   `json:"by,omitempty"`
+	Changed *changes `json:"changed,omitempty"`
+}
+
+// begins reports whether an entry says how the part begins. It notes what that entry says of an adoption.
+func (p *part) begins(e *entry) bool {
+	if p.why == adopted {
+		var text beginningText
+		if json.Unmarshal([]byte(e.request), &text) != nil {
+			return false
+		}
+		p.adoption, p.reason = adoption{text.By, text.Changed}, e.reason
+	}
+	wanted := p.entry(e.at)
+	return wanted != nil && *e == *wanted
 }
 
 // addPart begins a part with a mapped copy of the office, and returns its first entry, if it has one.

@@ -32,7 +32,10 @@ func (r *Record) Before(ctx context.Context) error {
 	if err := r.reconcile(ctx, scratch); err != nil {
 		return fmt.Errorf("record: %w", err)
 	}
-	r.announces.Do(func() { go r.announce() })
+	r.announces.Do(func() {
+		go r.announce()
+		go r.verifyAgain()
+	})
 	return nil
 }
 

@@ -44,9 +44,11 @@ type Options struct {
 	// HangTimeout is how long a replay of the record may answer nothing.
 	HangTimeout time.Duration
 	// Every is how many commands there are between two base copies.
-	Every   int64
-	Log     *logs.Logger
-	Metrics *metrics.Registry
+	Every int64
+	// VerifyEvery is after how much time the whole chain is verified again while the front runs. Zero is never.
+	VerifyEvery time.Duration
+	Log         *logs.Logger
+	Metrics     *metrics.Registry
 	// Say is called with what a start does. It may be nil.
 	Say func(stage string)
 }
@@ -72,10 +74,11 @@ type Record struct {
 	based    int64
 	isMaking bool
 	making   sync.WaitGroup
-	// failing says why nothing can be kept, or is empty.
-	failing string
-	stop    context.CancelFunc
-	life    context.Context
+	// failing says why nothing can be kept, or is empty. isBroken says that the chain was broken when it was last verified.
+	failing  string
+	isBroken bool
+	stop     context.CancelFunc
+	life     context.Context
 	// announces starts the announcements of the head, once it is known that the office is what the record gives.
 	announces sync.Once
 }
@@ -157,6 +160,9 @@ func Open(ctx context.Context, options Options) (*Record, error) {
 	if err == nil {
 		err = r.load()
 	}
+	if err == nil {
+		err = r.verifyStart(ctx)
+	}
 	if err != nil {
 		r.close()
 		return nil, fmt.Errorf("record: %w", err)
@@ -165,26 +171,62 @@ func Open(ctx context.Context, options Options) (*Record, error) {
 	return r, nil
 }
 
-// begin makes a record that begins with the office as it is. After a crash there is a whole record or none.
+var errNoRecord = errors.New("the office has commands, and no record: restore both from one backup; if it never had one, let " +
+	"`rbac-node record adopt` begin it")
+
+// begin makes a record that begins with the office as it is, which has no command. After a crash there is a whole record or none.
 func (r *Record) begin(ctx context.Context) error {
 	r.say("the office is copied, since its record begins")
-	return r.beginWith(ctx, part{1, beginning, "", ""}, now(), func(copied, rows string) error {
-		return addBase(r.dir, copied, base{1, rows})
-	})
+	return r.beginWith(ctx, part{first: 1, why: beginning}, now(), func(copied string) error {
+		if has, err := hasCommands(ctx, copied); err != nil || !has {
+			return err
+		}
+		return errNoRecord
+	}, r.addFirstBase)
 }
 
-// beginWith makes a file that begins with the office as it is, and then does something more.
-func (r *Record) beginWith(ctx context.Context, p part, at string, more func(copied, rows string) error) error {
+// addFirstBase makes the copy of the office with which the record begins a base.
+func (r *Record) addFirstBase(copied, rows string) error {
+	return addBase(r.dir, copied, base{1, rows})
+}
+
+// hasCommands reports whether a mapped copy of the office has rows that commands have made.
+func hasCommands(ctx context.Context, copied string) (bool, error) {
+	c, err := openCopy(copied, true)
+	if err != nil {
+		return false, err
+	}
+	defer c.Close()
+	for i, table := range tables {
+		count, err := c.count(ctx, i)
+		if err != nil || count > 0 && table.name != "meta_row" {
+			return true, err
+		}
+	}
+	return false, nil
+}
+
+// beginWith makes a file that begins with the office as it is, unless that is refused, and then does something more.
+func (r *Record) beginWith(
+	ctx context.Context, p part, at string, refuse func(copied string) error, more func(copied, rows string) error,
+) error {
 	if err := os.Mkdir(r.dir, 0o700); err != nil && !errors.Is(err, os.ErrExist) {
 		return err
 	}
-	return r.withCopy(ctx, func(copied, rows string) error {
+	err := r.withCopy(ctx, func(copied, rows string) error {
+		if err := refuse(copied); err != nil {
+			return err
+		}
 		p.rows = rows
 		if err := makeFile(r.dir, p, at, copied); err != nil {
 			return err
 		}
 		return more(copied, rows)
 	})
+	if err != nil {
+		_ = os.Remove(r.dir) // It may have something.
+	}
+	return err
 }
 
 // load opens the file and reads where it ends.

@@ -74,20 +74,6 @@ func (f *Follower) checkEarlier(to entry) {
 	}
 }
 
-// beginOf returns what is before the first entry of a file: its number and its link.
-func beginOf(ctx context.Context, path string) (entry, error) {
-	v, err := openView(ctx, path)
-	if err != nil {
-		return entry{}, err
-	}
-	defer v.Close()
-	parts, err := partsOf(ctx, v)
-	if err != nil {
-		return entry{}, err
-	}
-	return entry{n: parts[0].first - 1, ch: parts[0].before}, nil
-}
-
 // has refuses a file that doesn't have an entry, if something else is before its first one.
 func has(ctx context.Context, path string, begin, wanted entry) error {
 	v, err := openView(ctx, path)
@@ -116,21 +102,10 @@ func has(ctx context.Context, path string, begin, wanted entry) error {
 
 // check reads the entries of a file after one, up to a number, and reports whether the chain holds. It returns the last one.
 func (f *Follower) check(ctx context.Context, path string, last entry, to int64, each func(entry)) (entry, error) {
-	v, err := openView(ctx, path)
-	if err != nil {
-		return last, err
+	last, err := followChain(ctx, path, last, to, each)
+	var broken *breakError
+	if errors.As(err, &broken) {
+		err = fmt.Errorf("%v: %w", err, errMoveAway)
 	}
-	defer v.Close()
-	next := entriesAfter(ctx, v.tx, last.n, to)
-	for {
-		e, err := next()
-		if err != nil || e == nil {
-			return last, err
-		}
-		if e.n != last.n+1 || chained(last.ch, e) != e.ch {
-			return last, fmt.Errorf("the chain breaks at entry %d: %w", last.n+1, errMoveAway)
-		}
-		last = *e
-		each(last)
-	}
+	return last, err
 }

@@ -106,7 +106,7 @@ func (s *syslogSender) message(office string, e *entry) string {
 	if len(head)+len(text) > mostSyslog {
 		short := *e
 		if short.shorten(); len(short.answer) > mostRefused {
-			short.answer = "{" + beginningOf(short.answer) + "}"
+			short.answer = "{" + shownStart(short.answer) + "}"
 		}
 		text = messageOf(office, &short)
 	}

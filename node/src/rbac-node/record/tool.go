@@ -107,12 +107,17 @@ func (t *Tool) openLocked(ctx context.Context) (*Record, *os.File, error) {
 	if err != nil {
 		return nil, nil, err
 	}
-	r, err := Open(ctx, Options{Office: t.Office, Program: t.Program, HangTimeout: t.HangTimeout, Every: 1, Log: logs.New(io.Discard)})
+	r, err := Open(ctx, t.options())
 	if err != nil {
 		_ = lock.Close()
 		return nil, nil, err
 	}
 	return r, lock, nil
+}
+
+// options returns those of the record, with which nothing is logged.
+func (t *Tool) options() Options {
+	return Options{Office: t.Office, Program: t.Program, HangTimeout: t.HangTimeout, Every: 1, Log: logs.New(io.Discard)}
 }
 
 // filesOf returns the paths of the files of a record, in the order of their entries.
@@ -238,62 +243,13 @@ func (t *Tool) PrintHead(ctx context.Context) error {
 	defer v.Close()
 	answered, _, err := lastOf(v.tx)
 	if err == nil {
-		err = syncFile(files[len(files)-1])
+		err = syncLog(files[len(files)-1])
 	}
 	if err != nil {
 		return err
 	}
 	fmt.Fprintln(t.Out, Head{answered.n, answered.ch})
 	return nil
-}
-
-// Adopt begins a new part over the office as it is, and says so in the record.
-func (t *Tool) Adopt(ctx context.Context) error {
-	r, lock, err := t.openLocked(ctx)
-	if err != nil {
-		return err
-	}
-	defer lock.Close()
-	defer r.close()
-	var wrong *AnswerError
-	switch err := r.Before(ctx); {
-	case err == nil:
-		return errors.New("there is nothing to adopt: the office is what the record gives")
-	case !errors.Is(err, errDiffers) && !errors.Is(err, errNoStart) && !errors.As(err, &wrong):
-		return err
-	}
-	err = r.withCopy(ctx, func(copied, rows string) error {
-		if err := inTransaction(r.db, func(tx *sql.Tx) error { return r.adopt(ctx, tx, copied, rows) }); err != nil {
-			return err
-		}
-		return addBase(r.dir, copied, base{r.head.n, rows})
-	})
-	if err != nil {
-		return fmt.Errorf("record: %w", err)
-	}
-	fmt.Fprintf(t.Out, "the record begins anew over the office as it is, at entry %d\n", r.head.n)
-	return nil
-}
-
-// adopt says of each entry without an answer that nobody knows it, and begins a part.
-func (r *Record) adopt(ctx context.Context, tx *sql.Tx, copied, rows string) error {
-	open, err := openEntries(ctx, tx, r.head.n)
-	if err != nil {
-		return err
-	}
-	for _, e := range open {
-		e.answer = unknown
-		e.ch = chained(r.head.ch, &e)
-		if _, err := tx.Exec("UPDATE entry SET answer = ?, chain = ? WHERE n = ?", e.answer, e.ch, e.n); err != nil {
-			return err
-		}
-		r.head = e
-	}
-	begins, err := addPart(tx, part{r.head.n + 1, adopted, r.head.ch, rows}, now(), copied)
-	if err == nil {
-		r.head = *begins
-	}
-	return err
 }
 
 // withCopy does something with a mapped copy of the office, which no program has open.
@@ -350,7 +306,7 @@ func (t *Tool) Cut(ctx context.Context) error {
 		if err := os.Link(filepath.Join(r.dir, fileName), path); err != nil {
 			return err
 		}
-		if err := makeFile(r.dir, part{r.head.n + 1, continued, r.head.ch, rows}, now(), copied); err != nil {
+		if err := makeFile(r.dir, part{first: r.head.n + 1, why: continued, before: r.head.ch, rows: rows}, now(), copied); err != nil {
 			return err
 		}
 		return addBase(r.dir, copied, base{r.head.n + 1, rows})

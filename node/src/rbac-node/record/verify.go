@@ -67,7 +67,7 @@ func (t *Tool) verify(ctx context.Context, heads []Head, at *stop) error {
 	if err := v.files(ctx, files); err != nil {
 		return err
 	}
-	if err := syncFile(files[len(files)-1]); err != nil {
+	if err := syncLog(files[len(files)-1]); err != nil {
 		return err
 	}
 	v.sayUnknown()
@@ -380,14 +380,19 @@ func (v *verifier) join(p part) error {
 	case (p.why == continued || p.why == joined) && p.rows != v.rows:
 		return fmt.Errorf("the part that begins with entry %d has other rows than entry %d leaves", p.first, v.last.n)
 	}
-	if p.why == adopted {
-		over := "an office that somebody has written behind the record"
-		if v.Data != "" {
-			over = "the office of a backup"
-		}
-		fmt.Fprintf(v.Out, "entry %d begins anew over %s\n", p.first, over)
-	}
 	return nil
+}
+
+// sayAdopted says how a part begins over an office that was adopted.
+func (v *verifier) sayAdopted(p *part) {
+	what := "anew over an office that somebody has written behind the record"
+	switch {
+	case v.Data != "":
+		what = "anew over the office of a backup"
+	case p.first == 1:
+		what = "over an office that had commands and no record"
+	}
+	fmt.Fprintf(v.Out, "entry %d begins %s: adopted %s, for %q\n", p.first, what, p.adoption, p.reason)
 }
 
 // checked returns entries as next does, after it has checked their links.
@@ -397,8 +402,7 @@ func (v *verifier) checked(next func() (*entry, error), p part) func() (*entry, 
 		if err != nil || e == nil {
 			return e, err
 		}
-		begins := p.entry(e.at)
-		isFirst := begins != nil && e.n == p.first
+		isFirst := p.why != joined && e.n == p.first
 		link, isKnown := v.heads[e.n]
 		switch {
 		case e.n != v.last.n+1:
@@ -411,8 +415,11 @@ func (v *verifier) checked(next func() (*entry, error), p part) func() (*entry, 
 			return nil, fmt.Errorf("entry %d has another link than the one that is known: the chain was computed anew", e.n)
 		case v.last.answer == unknown && e.answer != unknown && !(isFirst && p.why == adopted):
 			return nil, fmt.Errorf("nobody knows the answer to entry %d, and no part begins anew after it", v.last.n)
-		case isFirst && *e != *begins || !isFirst && !e.isCommand() && !e.isReview() && !e.isBounded():
+		case isFirst && !p.begins(e) || !isFirst && !e.isCommand() && !e.isReview() && !e.isBounded():
 			return nil, fmt.Errorf("entry %d is not what its part says", e.n)
+		}
+		if isFirst && p.why == adopted {
+			v.sayAdopted(&p)
 		}
 		v.last = *e
 		return e, nil
