@@ -26,6 +26,7 @@
     records     what the record has, which starts it refuses, and what is found in one that was changed
     recordkills     the front and its replay are killed under load: record, office and clients agree
     accessed    who had access at a time, beside the plain model
+    exported    entries that go to syslog while the export is killed
     tampered    kinds of tampering: verify refuses each, or the page lists it
     recordfaults    disks under the record that fail or are full
     recordorder     the order of writes and syncs, by strace

@@ -362,6 +362,7 @@ def check_tamperings(bench):
 
 
 def check_page(bench):
-    """The page lists what nobody can see, and nothing else."""
+    """The page lists what nobody can see, and nothing else, and has how many kinds verify refuses."""
+    bench.same("how many are refused", f" and {len(REFUSED)} other kinds of tampering" in PAGE, True)
     listed = re.findall(r"^- (.*?)[:;.]", markdown.section(PAGE, "## 5. What nobody can see"), re.M)
     bench.same("what nobody can see", sorted(listed), sorted(UNSEEN))

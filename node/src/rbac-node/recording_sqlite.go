@@ -148,19 +148,24 @@ func (c *recordCommand) define(flags *flag.FlagSet, name string) {
 		flags.StringVar(&c.access.Operation, "operation", "", "only this operation")
 		flags.StringVar(&c.access.Object, "object", "", "only this object")
 	case "show":
-		flags.StringVar(&c.filter.User, "user", "", "only commands that name this user")
-		flags.StringVar(&c.filter.Role, "role", "", "only commands that name this role")
-		flags.StringVar(&c.filter.Object, "object", "", "only commands that name this object")
-		flags.StringVar(&c.filter.Operation, "operation", "", "only commands that name this operation")
-		flags.StringVar(&c.filter.Set, "set", "", "only commands that name this separation of duty set")
-		flags.StringVar(&c.filter.Session, "session", "", "only commands that name the session with this digest")
-		flags.StringVar(&c.filter.Reason, "reason", "", "only commands with this text in their reason")
-		flags.StringVar(&c.filter.Function, "function", "", "only commands of this function")
-		flags.StringVar(&c.filter.Caller, "caller", "", "only commands of this caller")
-		flags.Func("since", "only commands from this time on, such as 2026-11-27T09", timeOf(&c.filter.Since))
-		flags.Func("until", "only commands before this time", timeOf(&c.filter.Until))
-		flags.BoolVar(&c.filter.IsRefused, "refused", false, "only commands that were refused")
+		c.defineFilter(flags)
 	}
+}
+
+// defineFilter defines the flags that choose entries.
+func (c *recordCommand) defineFilter(flags *flag.FlagSet) {
+	flags.StringVar(&c.filter.User, "user", "", "only commands that name this user")
+	flags.StringVar(&c.filter.Role, "role", "", "only commands that name this role")
+	flags.StringVar(&c.filter.Object, "object", "", "only commands that name this object")
+	flags.StringVar(&c.filter.Operation, "operation", "", "only commands that name this operation")
+	flags.StringVar(&c.filter.Set, "set", "", "only commands that name this separation of duty set")
+	flags.StringVar(&c.filter.Session, "session", "", "only commands that name the session with this digest")
+	flags.StringVar(&c.filter.Reason, "reason", "", "only commands with this text in their reason")
+	flags.StringVar(&c.filter.Function, "function", "", "only commands of this function")
+	flags.StringVar(&c.filter.Caller, "caller", "", "only commands of this caller")
+	flags.Func("since", "only commands from this time on, such as 2026-11-27T09", timeOf(&c.filter.Since))
+	flags.Func("until", "only commands before this time", timeOf(&c.filter.Until))
+	flags.BoolVar(&c.filter.IsRefused, "refused", false, "only commands that were refused")
 }
 
 // timeOf returns a function that reads a time of a filter into a place.

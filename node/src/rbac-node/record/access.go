@@ -66,7 +66,12 @@ func (t *Tool) Access(ctx context.Context, query AccessQuery) error {
 	file := filepath.Join(scratch, rerunFile)
 	judged := *t
 	judged.Out = t.Err // What verify prints isn't what is asked for.
-	verified := judged.verify(ctx, query.Heads, &stop{p.n, func(given string) error { return copyOffice(given, file) }})
+	verified := judged.verify(ctx, query.Heads, &stop{p.n, func(given string, e *entry) error {
+		if e.ch != p.link {
+			return fmt.Errorf("somebody has written entry %d meanwhile", e.n)
+		}
+		return copyOffice(given, file)
+	}})
 	if verified != nil && !errors.Is(verified, ErrMissing) {
 		return verified
 	}

@@ -21,7 +21,7 @@ const marker = `{"fn":"ssdRoleSets"}`
 // A stop is an entry after which something is done with the file of the copy, while nobody writes it.
 type stop struct {
 	n  int64
-	do func(file string) error
+	do func(file string, e *entry) error
 }
 
 // A rerun does recorded commands again over a copy of the office in which sessions have the digests of their names.
@@ -81,7 +81,7 @@ func (r *rerun) each(ctx context.Context, next func() (*entry, error)) error {
 				}
 			})
 		}
-		if err := r.stopAt(ctx, e.n); err != nil {
+		if err := r.stopAt(ctx, e); err != nil {
 			return err
 		}
 		if ctx.Err() != nil {
@@ -98,14 +98,14 @@ func (r *rerun) each(ctx context.Context, next func() (*entry, error)) error {
 }
 
 // stopAt does what is to be done after an entry, if it is that of the stop.
-func (r *rerun) stopAt(ctx context.Context, n int64) error {
-	if r.stop == nil || n != r.stop.n {
+func (r *rerun) stopAt(ctx context.Context, e *entry) error {
+	if r.stop == nil || e.n != r.stop.n {
 		return nil
 	}
 	if _, err := r.one(ctx, marker); err != nil {
 		return err
 	}
-	return r.stop.do(r.file)
+	return r.stop.do(r.file, e)
 }
 
 // one returns the answer to a line, after all before it.
