@@ -6,6 +6,7 @@ import random
 import signal
 import sqlite3
 import subprocess
+import threading
 import time
 from contextlib import closing
 from pathlib import Path
@@ -202,6 +203,7 @@ def check_records(bench, seed, node=None):
         judge_same(bench, cluster, asker)
         judge_shown(bench, cluster)
         judge_cut(bench, cluster, asker)
+        judge_backup(bench, cluster, asker)
         judge_joined(bench, cluster, asker)
         judge_written(bench, cluster, asker)
         judge_secret(bench, cluster)
@@ -252,6 +254,21 @@ def judge_cut(bench, cluster, asker):
     bench.same("the files", len(files_of(data)), 2)
     bench.same("the entries", entries_of(data), entries_of(cluster.data("node0")))
     bench.same("verify", tool(cluster.node, "verify", "--data", data)[::2], (0, ""))
+
+
+def judge_backup(bench, cluster, asker):
+    """A backup of a node that runs is complete, whatever is asked meanwhile: what it has is as verify wants it."""
+    folder = bench.folder / "backups"
+    folder.mkdir()
+    asking = threading.Thread(target=asker.ask, args=(2 * EVERY,))
+    asking.start()
+    for _ in range(4):
+        words = [cluster.node, "backup", "--data", cluster.data("node0"), "--program", PROGRAM, folder]
+        done = subprocess.run(words, capture_output=True, text=True, check=False)
+        bench.same("backup", (done.returncode, done.stderr), (0, ""))
+        bench.same("verify of the backup", tool(cluster.node, "verify", "--data", done.stdout.strip())[::2], (0, ""))
+    asking.join()
+    bench.same("what is there", len(list(folder.iterdir())), 4)
 
 
 def judge_joined(bench, cluster, asker):

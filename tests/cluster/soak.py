@@ -228,7 +228,7 @@ class AllFaults(Faults):
         words = [self.cluster.node, "backup", "--data", self.cluster.data(f"node{i}"), "--program", PROGRAM, to]
         done = subprocess.run(words, capture_output=True, text=True, check=False)
         if done.returncode != 0:
-            if "no snapshot" not in done.stderr and "deleted meanwhile" not in done.stderr and "record" not in done.stderr:
+            if "there is no snapshot" not in done.stderr:
                 self.faults.append(f"backup of node {i}: {done.stderr}")
             return
         status, out, said = tool(self.cluster.node, "verify", "--data", done.stdout.strip())

@@ -22,13 +22,9 @@ func (t *Tool) copyNode(ctx context.Context, files []string, to string) error {
 			return err
 		}
 	}
-	snapshot, head, err := t.newestRecorded()
+	copied, head, err := t.copyNewest(folder)
 	if err != nil {
 		return err
-	}
-	copied := filepath.Join(folder, filepath.Base(snapshot))
-	if err := copyFile(snapshot, copied); err != nil {
-		return fmt.Errorf("the snapshot was deleted meanwhile: %w", err)
 	}
 	if err := office.Run(ctx, t.Program, "check", copied); err != nil {
 		return err
@@ -45,6 +41,22 @@ func (t *Tool) copyNode(ctx context.Context, files []string, to string) error {
 		return err
 	}
 	return syncAll(to)
+}
+
+// copyNewest copies the newest snapshot into a folder. If the node deletes it meanwhile, there are newer ones.
+func (t *Tool) copyNewest(folder string) (copied string, head Head, err error) {
+	for last := ""; ; {
+		snapshot, head, err := t.newestRecorded()
+		if err != nil {
+			return "", head, err
+		}
+		copied = filepath.Join(folder, filepath.Base(snapshot))
+		err = copyFile(snapshot, copied)
+		if err == nil || !errors.Is(err, os.ErrNotExist) || snapshot == last {
+			return copied, head, err
+		}
+		last = snapshot
+	}
 }
 
 // copyRecord copies the files of a record into an empty folder, the one at hand as it is now.
