@@ -37,7 +37,7 @@ function whatOf({ request, answer, found }) {
         return [request.fn, ": whether it was done isn't known."];
     }
     if (answer.lost) {
-        return [...wanted(request.fn, request), ": the office never got it, since the front ended before."];
+        return [...wanted(request.fn, request), ": the office never got it, since the front or its replay ended before."];
     }
     if (answer.error !== undefined) {
         return [h("span", { class: "mark no" }, "refused"), " ", wanted(request.fn, request), ": ", short(answer, request), ".", note];
