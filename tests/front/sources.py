@@ -41,7 +41,7 @@ def check_options(bench):
 
 
 # Options of other programs on the page.
-OTHERS = {"build", "features", "part", "unix-socket", "cacert", "system", "home-dir", "shell", "now"}
+OTHERS = {"build", "by", "features", "part", "reason", "unix-socket", "cacert", "system", "home-dir", "shell", "now"}
 
 
 def check_metrics(bench):
