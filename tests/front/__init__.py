@@ -30,6 +30,10 @@
     tampered    kinds of tampering: verify refuses each, or the page lists it
     recordfaults    disks under the record that fail or are full
     recordorder     the order of writes and syncs, by strace
+    signed      heads that another machine signs, and the commands of docs/HEADS.md
+    verifying   what the front finds by itself in a record that was changed, and an office without its record
+    backups     parts that a backup has already, and several backups at once
+    callkills   commands about a record are killed at each system call
     wrongfronts     wrong fronts are found: with --long they are built and run
     auditing    the commands of docs/RECORD.md, and of docs/AUDITING.md about the record
     recorded    reads a record

@@ -107,7 +107,7 @@ def goes_on(bench, what, front, before):
     bench.same(f"{what}: the numbers", [int(line[0]) for line in shown], list(range(1, len(shown) + 1)))
     bench.same(f"{what}: the entries", [line[4] for line in shown if '"fn":"addUser"' in line[4]], before)
     left = [name for name in os.listdir(f"{front.office}.record") if name.startswith(("scratch-", "record.db.making"))]
-    bench.same(f"{what}: what is left", [name for name in left if name != "record.db.making"], [])
+    bench.same(f"{what}: what is left", left, [])
 
 
 @pytest.mark.slow

@@ -19,6 +19,10 @@ export function entriesTable(caption, entries, isShort = false) {
 
 /** What an entry says, in a sentence. */
 function whatOf({ request, answer, found }) {
+    if (answer?.lost) {
+        const what = request.fn ? wanted(request.fn, request) : ["the end of the review ", name(request.review)];
+        return [...what, ": the office never got it, since the front or its replay ended before."];
+    }
     if (request.record === "reviewed") {
         return ["The review ", name(request.review), ` has ended: ${request.kept} kept, ${request.removed} removed, ${request.open} open. SHA-256 of its list: `,
             h("span", { class: "mono" }, request.sha256), "."];
@@ -35,9 +39,6 @@ function whatOf({ request, answer, found }) {
     }
     if (answer.unknown) {
         return [request.fn, ": whether it was done isn't known."];
-    }
-    if (answer.lost) {
-        return [...wanted(request.fn, request), ": the office never got it, since the front ended before."];
     }
     if (answer.error !== undefined) {
         return [h("span", { class: "mark no" }, "refused"), " ", wanted(request.fn, request), ": ", short(answer, request), ".", note];
