@@ -19,8 +19,9 @@ func TestNumbers(t *testing.T) {
 		}
 		return o.numbers().All
 	}
+	begin := time.Now().Unix() << 20
 	first := count()
-	if first < time.Now().Unix()<<20 || o.numbers().Policy != first {
+	if first < begin || o.numbers().Policy != first {
 		t.Errorf("the first number is %d", first)
 	}
 	if second := count(); second <= first+block {
