@@ -10,11 +10,11 @@ from .program import refused_start
 
 PAGES = {name: markdown.page(name) for name in ("FRONT.md", "CALLERS.md", "CLUSTER.md")}
 
-# Options of other programs on the pages: of etcd, etcdctl, curl, useradd, systemctl, bin/node and the tests.
+# Options of other programs on the pages: of etcd, etcdctl, curl, useradd, systemctl, bin/node and the tests; and of `record adopt`.
 OTHERS = {
-    "advertise-client-urls", "build", "cacert", "data-dir", "endpoints", "features", "gate", "home-dir", "initial-advertise-peer-urls",
+    "advertise-client-urls", "build", "by", "cacert", "data-dir", "endpoints", "features", "gate", "home-dir", "initial-advertise-peer-urls",
     "initial-cluster", "initial-cluster-state", "initial-cluster-token", "listen-client-urls", "listen-peer-urls", "long", "now", "part",
-    "peer-urls", "prefix", "print-value-only", "quota-backend-bytes", "shell", "system", "unix-socket",
+    "peer-urls", "prefix", "print-value-only", "quota-backend-bytes", "reason", "shell", "system", "unix-socket",
 }  # fmt: skip
 
 # Options whose default depends on the machine, or on the kind of office.
@@ -25,7 +25,7 @@ def options():
     """The options of `rbac-node serve` as its help lists them, each with its default if it is one word."""
     _, _, said = refused_start("serve", "--help")
     found = re.findall(r'^  -([a-z-]+)(?: \w+)?\n    \t.*?(?: \(default:? "?([^" ]+?)"?\).*)?$', said, re.M)
-    return {name: default.removesuffix("0s") if default == "1m0s" else default for name, default in found}
+    return {name: re.sub(r"(?<=h)0m0s$|(?<=m)0s$", "", default) for name, default in found}
 
 
 def listed_options():
