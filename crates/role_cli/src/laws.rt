@@ -1,7 +1,7 @@
 //! The laws of the program's work.
 ghost use Rattle.sqlite.specs.Held.{state};
 ghost use Rattle.role_cli.specs.Environment.{StartDecides};
-ghost use Rattle.role_cli.specs.FileWork.{DoneWorkIsStored, FailedWorkIsStored, MigrationIsStored, NewOfficeIsStored};
+ghost use Rattle.role_cli.specs.FileWork.{DoneWorkIsStored, FailedWorkIsStored, MigrationIsStored, NewOfficeIsStored, RefusedOpeningIsStored};
 ghost use Rattle.role_cli.specs.ServedConnections.{ServedAreAccepted};
 ghost use Rattle.role_cli.specs.Work.{NoneBeginsOverRefused};
 
@@ -20,10 +20,12 @@ pub fn refused_work<S: Alter>(_conn: &Connection<S>)
 /// What a subcommand did is in the file, and so is what it did before it failed: if it worked over files that
 /// stored a good state whose texts are valid names, and the files were closed then, the database file alone,
 /// without its log, stores the state that the work led to, as it reads now and after a crash. After `init`
-/// it stores the empty state, and after `migrate` the migrated one.
+/// it stores the empty state, and after `migrate` the migrated one. If the office could not be created, migrated or
+/// opened, it stores the state that was there.
 pub fn work_is_stored<D: Disk>(_disk: &D)
     ensures done { DoneWorkIsStored D.Disk }
     ensures failed { FailedWorkIsStored D.Disk }
+    ensures unopened { RefusedOpeningIsStored D.Disk }
     ensures created { NewOfficeIsStored D.Disk }
     ensures migrated { MigrationIsStored D.Disk }
 {}
