@@ -25,8 +25,8 @@ use Rattle.role_tables.specs.Office.{OfficeModel}
 use Rattle.role_tables.specs.Runs.{IsInRun}
 use Rattle.role_tables.specs.StoredState.{HoldsState}
 use Rattle.role_cli.specs.Environment.{Environment}
-use Rattle.role_cli.specs.FileWork.{ClosesConnection, ClosesOver, DoneWorkIsStored, EndsStored, FailedWorkIsStored, FailsOnStore, HoldsCommit, MigrationIsStored, NewOfficeIsStored, RefusedOpeningIsStored, StoresAlone, StoresState, WorksAndCloses, WorksOnFiles, WorksOnStore}
-use Rattle.role_cli.specs.Work.{BeginsRun, DoesSubcommand, FailsOnConnection, FailsSubcommand, IsUnopened, WorksOnConnection, makes}
+use Rattle.role_cli.specs.FileWork.{ClosesConnection, ClosesOver, FailsOnStore, HoldsCommit, MigrationIsStored, NewOfficeIsStored, RefusedOpeningIsStored, StoresAlone, StoresState, WorkIsStored, WorksOnFiles, WorksOnStore}
+use Rattle.role_cli.specs.Work.{BeginsRun, FailsOnConnection, IsUnopened, makes}
 use Rattle.role_cli.specs.declared.choice.Choice.{Choice}
 use Rattle.role_cli.specs.declared.choice.Choice.TheVariants as choice
 use Rattle.role_cli.specs.declared.failure.Failure.{Failure}
@@ -88,19 +88,12 @@ begins_with shown (choice.Migrate path) before office S makes good named durable
 begins_with shown _ before office S makes good named durable begins = begins.1 S good named durable
 
 module _ {D : Type 0} (g : Ghosts D) where
-  ends_stored : (chosen : Choice) (image : Image) (files : Files D) (Work : OfficeModel (FileStore D g) → OfficeModel (FileStore D g) → Type 0) (S : RbacState) → makes chosen ≡ false → IsGood S → AreNamed S → StoresState image S
-      → WorksAndCloses g image files (λ before conn. WorksOnConnection (state over_files) chosen before Work conn) → EndsStored g files S Work
-  ends_stored chosen image files Work S makes good named stored (conn, on_files, closes) =
+  pub work_stored : (Work : Choice → Environment → Environment → OfficeModel (FileStore D g) → OfficeModel (FileStore D g) → Type 0) → WorkIsStored g Work
+  work_stored Work chosen image files from to S makes good named stored (conn, on_files, closes) =
       let works = on_files.work in
       let run = begins_with (state over_files) chosen (file_state on_files.opened) works.first S makes good named (on_files.durable S stored) works.begins in
       let later = works.continues.runs S [] run in
       (works.first, works.last, run.state, works.work, run_stored conn files closes works.is_outside S later.0 works.last works.is_last later.1)
-
-  pub done_stored : DoneWorkIsStored g
-  done_stored chosen image files from to S = ends_stored chosen image files (λ first last. DoesSubcommand (state over_files) chosen first from to last) S
-
-  pub failed_stored : FailedWorkIsStored g
-  failed_stored chosen image files failure from to S = ends_stored chosen image files (λ first last. FailsSubcommand (state over_files) chosen failure first from to last) S
 
   pub new_stored : NewOfficeIsStored g
   new_stored path image files from to (conn, on_files, closes) =
@@ -118,7 +111,7 @@ module _ {D : Type 0} (g : Ghosts D) where
       (version, subst (StoresAlone g files) last.state (run_stored conn files closes works.is_outside (migrated_to_version_2 S) [] works.last works.is_last last))
 
   -- a refused opening left the connection outside a transaction, and what it held
-  unopened_holds : (chosen : Choice) (before : State) (refusal : Refusal) (after : State) (S : RbacState) → IsGood S → AreNamed S → IsDurable before S → IsUnopened (state over_files) chosen before refusal after
+  unopened_holds : (chosen : Choice) (before : State) (refusal : Refusal) (after : State) (S : RbacState) → IsGood S → AreNamed S → IsDurable before S → IsUnopened chosen before refusal after
       → StaysOutside before after × HoldsAsBefore before after
   unopened_holds (choice.Init path) before refusal after S good named durable (why, holds, left, outside) = (outside, holds)
   unopened_holds (choice.Migrate path) before refusal after S good named durable (why, stays, left, outside) = (outside, (stays S good named durable).0)

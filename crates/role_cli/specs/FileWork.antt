@@ -24,7 +24,7 @@ use Rattle.admin_mgr.specs.StateNames.{AreNamed}
 use Rattle.role_tables.specs.Durability.{LeavesState, IsDurable}
 use Rattle.role_tables.specs.Office.{OfficeModel}
 use Rattle.role_cli.specs.Environment.{Environment}
-use Rattle.role_cli.specs.Work.{DoesOnConnection, DoesSubcommand, FailsOnConnection, FailsSubcommand, IsUnopened, WorksOnConnection, makes}
+use Rattle.role_cli.specs.Work.{DoesOnConnection, FailsOnConnection, IsUnopened, WorksOnConnection, makes}
 use Rattle.role_cli.specs.declared.choice.Choice.{Choice}
 use Rattle.role_cli.specs.declared.choice.Choice.TheVariants.{Init, Migrate}
 use Rattle.role_cli.specs.declared.failure.Failure.{Failure}
@@ -99,22 +99,16 @@ FailsOnStore g image chosen failure untouched never_begins from to became =
 abbrev pub EndsStored : {D : Type 0} (g : Ghosts D) (files : Files D) → RbacState → (OfficeModel (FileStore D g) → OfficeModel (FileStore D g) → Type 0) → Type 0
 EndsStored {D} g files S Work = (first last : OfficeModel (FileStore D g)) × (first.facts ≡ S) × Work first last × StoresAlone g files last.facts
 
--- What a subcommand did that neither creates nor migrates an office was done over the state that was stored, and the closed database
--- file stores what it led to. The same holds if it failed.
-abbrev pub DoneWorkIsStored : {D : Type 0} → Ghosts D → Type 0
-DoneWorkIsStored {D} g = (chosen : Choice) (image : Image) (files : Files D) (from to : Environment) (S : RbacState) → makes chosen ≡ false → IsGood S → AreNamed S → StoresState image S
-    → WorksAndCloses g image files (λ before conn. WorksOnConnection (state over_files) chosen before (λ first last. DoesSubcommand (state over_files) chosen first from to last) conn)
-    → EndsStored g files S (λ first last. DoesSubcommand (state over_files) chosen first from to last)
-
-abbrev pub FailedWorkIsStored : {D : Type 0} → Ghosts D → Type 0
-FailedWorkIsStored {D} g = (chosen : Choice) (image : Image) (files : Files D) (failure : Failure) (from to : Environment) (S : RbacState) → makes chosen ≡ false → IsGood S → AreNamed S → StoresState image S
-    → WorksAndCloses g image files (λ before conn. WorksOnConnection (state over_files) chosen before (λ first last. FailsSubcommand (state over_files) chosen failure first from to last) conn)
-    → EndsStored g files S (λ first last. FailsSubcommand (state over_files) chosen failure first from to last)
+-- The work of a subcommand that neither creates nor migrates an office was over the state that was stored, and the closed database file
+-- stores what it led to.
+abbrev pub WorkIsStored : {D : Type 0} (g : Ghosts D) → (Choice → Environment → Environment → OfficeModel (FileStore D g) → OfficeModel (FileStore D g) → Type 0) → Type 0
+WorkIsStored {D} g Work = (chosen : Choice) (image : Image) (files : Files D) (from to : Environment) (S : RbacState) → makes chosen ≡ false → IsGood S → AreNamed S → StoresState image S
+    → WorksAndCloses g image files (λ before conn. WorksOnConnection (state over_files) chosen before (Work chosen from to) conn) → EndsStored g files S (Work chosen from to)
 
 -- If no office was created, migrated or opened, the state that was stored still is.
 abbrev pub RefusedOpeningIsStored : {D : Type 0} → Ghosts D → Type 0
 RefusedOpeningIsStored {D} g = (chosen : Choice) (image : Image) (files : Files D) (refusal : Refusal) (S : RbacState) → IsGood S → AreNamed S → StoresState image S
-    → WorksAndCloses g image files (λ before conn. IsUnopened (state over_files) chosen before refusal (file_state conn)) → StoresAlone g files S
+    → WorksAndCloses g image files (λ before conn. IsUnopened chosen before refusal (file_state conn)) → StoresAlone g files S
 
 -- What a migration made of a state is stored.
 abbrev pub MigrationIsStored : {D : Type 0} → Ghosts D → Type 0
@@ -125,5 +119,5 @@ MigrationIsStored {D} g = (path : String Global) (image : Image) (files : Files 
 -- A new office is stored, empty.
 abbrev pub NewOfficeIsStored : {D : Type 0} → Ghosts D → Type 0
 NewOfficeIsStored {D} g = (path : String Global) (image : Image) (files : Files D) (from to : Environment)
-    → WorksAndCloses g image files (λ before conn. WorksOnConnection (state over_files) (Init path) before (λ first last. DoesSubcommand (state over_files) (Init path) first from to last) conn)
+    → WorksAndCloses g image files (λ before conn. DoesOnConnection (state over_files) (Init path) before from to conn)
     → StoresAlone g files (empty_state 2)

@@ -49,7 +49,7 @@ returns-in_default-clause-begins g c =
 pub returns-in_default-clause-unopened : goal.returns-in_default-clause-unopened
 returns-in_default-clause-unopened g c =
     if_err-four c.open.result _ _ _ _ _ c.open.ensures.err c.open.ensures.undone c.open.ensures.refused c.open.ensures.outside
-    (λ u why held left outside clean. unopened_open c.args.choice.now c.in_default.not-Init c.in_default.not-Migrate (state g.S.Store) (state g.S.Store c.args.conn) u.refusal (state g.S.Store u.conn) (why clean) (held clean) (left clean) outside)
+    (λ u why held left outside clean. unopened_open c.args.choice.now c.in_default.not-Init c.in_default.not-Migrate (state g.S.Store c.args.conn) u.refusal (state g.S.Store u.conn) (why clean) (held clean) (left clean) outside)
 
 pub returns-in_default-clause-refusal : goal.returns-in_default-clause-refusal
 returns-in_default-clause-refusal g c = if_err-then c.open.result _ _ c.open.ensures.refusal (λ u is. refusal_fails c.args.choice.now u.refusal c.in_default.not-Init is)
