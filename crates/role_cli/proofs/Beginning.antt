@@ -153,5 +153,5 @@ less_on_store g image chosen failure kept untouched cannot never from to (after.
 pub fails_less : (in_memory : Ghosts MemoryFile) {F : Type 0} (g : Ghosts F) (image : Image) (chosen : Choice) (failure : Failure) (kept untouched cannot never : Type 0) (from to : Environment) (became : StoreAfter F g)
     → (kept → untouched) → (cannot → never) → FailsBy in_memory g image chosen failure kept cannot from to became → FailsBy in_memory g image chosen failure untouched never from to became
 fails_less in_memory g image chosen failure kept untouched cannot never from to became keeps step =
-    matched_then (is_memory_replay chosen) _ _ _ _ (λ (fails, caused). (less_in_memory in_memory failure kept untouched from to keeps fails, caused))
+    matched_then (is_memory_replay chosen) _ _ _ _ (λ (fails, caused, none). (less_in_memory in_memory failure kept untouched from to keeps fails, caused, none))
     (λ (over, fails). (less_somewhere (state over_files) chosen failure kept untouched from to keeps over, less_on_store g image chosen failure kept untouched cannot never from to became keeps step fails))

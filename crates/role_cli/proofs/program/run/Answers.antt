@@ -1,4 +1,4 @@
-use Rattle.std.proofs.Common.{inl, inr, subst}
+use Rattle.std.proofs.Common.{ℕ, inl, inr, subst}
 use Rattle.std.specs.Prelude.{None}
 use Rattle.rbac_sets.specs.Stream.{HasRisen}
 use Rattle.role_cli.specs.Hosts.{failed_in_folder}

@@ -1,6 +1,7 @@
 use Rattle.std.proofs.Common.{inl, inr, refl, sym, subst, ◌∙◌}
 use Rattle.std.specs.Prelude.{is_err}
 use Rattle.std.proofs.lemmas.Bool.{true≢false}
+use Rattle.sqlite.specs.WalFiles.{image_at}
 use Rattle.rbac_sets.specs.Stream.{HasRisen}
 use Rattle.role_cli.specs.Leftovers.{LeavesPaths, NeverBegins}
 use Rattle.role_cli.proofs.Beginning.{fails_in_file, fails_in_memory, of_file, of_memory}
@@ -30,12 +31,12 @@ returns-in-Some-clause-left g c =
 -- ---- a replay in memory
 
 pub returns-in-None-clause-done : goal.returns-in-None-clause-done
-returns-in-None-clause-done g c = on_ok-then c.replay_memory.result _ _ c.replay_memory.ensures.done (of_memory _ _ _ c.args.choice.now _ _ _ c.in-None.ensures.none.0 refl)
+returns-in-None-clause-done g c = on_ok-then c.replay_memory.result _ _ c.replay_memory.ensures.done (of_memory _ _ (image_at g.D.Start) c.args.choice.now _ _ _ c.in-None.ensures.none.0 refl)
 
 pub returns-in-None-clause-failed : goal.returns-in-None-clause-failed
 returns-in-None-clause-failed g c =
     if_err-join c.replay_memory.result _ _ _ c.replay_memory.ensures.stopped c.replay_memory.ensures.caused
-    (λ failure fails caused. fails_in_memory _ _ _ c.args.choice.now failure _ _ _ _ _ _ c.in-None.ensures.none.0 refl (λ kept. (kept.0, kept.1, refl)) fails caused)
+    (λ failure fails caused. fails_in_memory _ _ (image_at g.D.Start) c.args.choice.now failure _ _ _ _ _ _ c.in-None.ensures.none.0 refl (λ kept. (kept.0, kept.1, refl)) fails caused)
 
 pub returns-in-None-clause-left : goal.returns-in-None-clause-left
 returns-in-None-clause-left g c = refl
