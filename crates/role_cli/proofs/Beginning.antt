@@ -1,6 +1,6 @@
 -- How the work of a subcommand begins.
 use Rattle.std.proofs.Common.{Global, List, ℕ, String, ◌≡◌, ◌⊎◌, [], refl, inl, inr, subst, sym}
-use Rattle.std.specs.Prelude.{Bool, MatchBool, true, false, IsTrue}
+use Rattle.std.specs.Prelude.{Bool, true, false, IsTrue}
 use Rattle.std.proofs.lemmas.Bool.{true≢false}
 use Rattle.sqlite.specs.Held.{Held, state}
 use Rattle.sqlite.specs.Files.{file_state, over_files}
@@ -20,7 +20,7 @@ use Rattle.role_cli.specs.Environment.{Environment, ReadFailed, WriteFailed}
 use Rattle.role_cli.specs.FailureCause.{IsCaused, IsOpeningFailure}
 use Rattle.role_cli.specs.FileWork.{DoesOnStore, FailsOnStore, WorksOnFiles}
 use Rattle.role_cli.specs.MemoryReplay.{FailsInMemory, ReplaysInMemory}
-use Rattle.role_cli.specs.ProgramOutcome.{FailsBy, IsDone, is_memory_replay}
+use Rattle.role_cli.specs.ProgramOutcome.{FailsBy, FailsIn, IsDone, IsDoneIn, is_memory_replay}
 use Rattle.role_cli.specs.Work.{BeginsRun, DoesOverSomeState, FailsOnConnection, FailsOrFindsNoOffice, IsUnopened, NoneBeginsOverRefused, StartsWell}
 use Rattle.role_cli.specs.declared.choice.Choice.{Choice}
 use Rattle.role_cli.specs.declared.choice.Choice.TheVariants as choice
@@ -74,36 +74,22 @@ none_begins none shown (choice.Init x) old office refusal opens other refuses be
 none_begins none shown (choice.Migrate x) old office refusal opens other refuses begins = none (contents_of (shown old).now) refusal begins.0.1 refuses other begins.0.2
 none_begins none shown _ old office refusal opens other refuses begins = none (contents_of (shown old).now) refusal office.facts refuses other begins.0.0
 
--- ---- one thing or another
-
-a_match : (b : Bool) (One Other : Type 0) → b ≡ true → One → MatchBool b One Other
-a_match true One Other is one = one
-a_match false One Other is one = absurd (true≢false (sym is))
-
-no_match : (b : Bool) (One Other : Type 0) → b ≡ false → Other → MatchBool b One Other
-no_match true One Other is other = absurd (true≢false is)
-no_match false One Other is other = other
-
-matched_then : (b : Bool) (One Other One_then Other_then : Type 0) → (One → One_then) → (Other → Other_then) → MatchBool b One Other → MatchBool b One_then Other_then
-matched_then true One Other One_then Other_then step step_other one = step one
-matched_then false One Other One_then Other_then step step_other other = step_other other
-
 -- what was done over an office in a file was done
 pub of_file : (in_memory : Ghosts MemoryFile) {F : Type 0} (g : Ghosts F) (image : Image) (chosen : Choice) (from to : Environment) (became : StoreAfter F g) → is_memory_replay chosen ≡ false
     → DoesOverSomeState (state (over_files {g = g})) chosen from to → DoesOnStore g image chosen from to became → IsDone in_memory g image chosen from to became
-of_file in_memory g image chosen from to became is_not over done = no_match (is_memory_replay chosen) _ _ is_not (over, done)
+of_file in_memory g image chosen from to became is_not over done = subst (λ b. IsDoneIn b in_memory g image chosen from to became) (sym is_not) (over, done)
 
 -- and what was done in memory
 pub of_memory : (in_memory : Ghosts MemoryFile) {F : Type 0} (g : Ghosts F) (image : Image) (chosen : Choice) (from to : Environment) (became : StoreAfter F g) → is_memory_replay chosen ≡ true
     → became ≡ after.Untouched → ReplaysInMemory in_memory from.remaining to.remaining from.written to.written → IsDone in_memory g image chosen from to became
-of_memory in_memory g image chosen from to became is none done = a_match (is_memory_replay chosen) _ _ is (done, none)
+of_memory in_memory g image chosen from to became is none done = subst (λ b. IsDoneIn b in_memory g image chosen from to became) (sym is) (done, none)
 
 -- what failed over an office in a file, failed
 pub fails_in_file : (in_memory : Ghosts MemoryFile) {F : Type 0} (g : Ghosts F) (image : Image) (chosen : Choice) (failure : Failure) (untouched : Type 0) (cannot : List ℕ → Type 0) (from to : Environment) (became : StoreAfter F g)
     (path at : List ℕ) → is_memory_replay chosen ≡ false → path ≡ at → FailsOrFindsNoOffice (state (over_files {g = g})) chosen failure untouched from to
     → FailsOnStore g image chosen failure untouched (cannot path) from to became → FailsBy in_memory g image chosen failure untouched (cannot at) from to became
 fails_in_file in_memory g image chosen failure untouched cannot from to became path at is_not same over fails =
-    no_match (is_memory_replay chosen) _ _ is_not
+    subst (λ b. FailsIn b in_memory g image chosen failure untouched (cannot at) from to became) (sym is_not)
     (over, subst (λ p. FailsOnStore g image chosen failure untouched (cannot p) from to became) same fails)
 
 less_in_memory : (in_memory : Ghosts MemoryFile) (failure : Failure) (kept untouched : Type 0) (from to : Environment) → (kept → untouched)
@@ -116,7 +102,7 @@ pub fails_in_memory : (in_memory : Ghosts MemoryFile) {F : Type 0} (g : Ghosts F
     → is_memory_replay chosen ≡ true → became ≡ after.Untouched → (kept → untouched) → FailsInMemory in_memory failure kept from.remaining to.remaining from.written to.written
     → IsCaused failure (WriteFailed from to) (ReadFailed from to) → FailsBy in_memory g image chosen failure untouched cannot from to became
 fails_in_memory in_memory g image chosen failure kept untouched cannot from to became is none keeps fails caused =
-    a_match (is_memory_replay chosen) _ _ is (less_in_memory in_memory failure kept untouched from to keeps fails, caused, none)
+    subst (λ b. FailsIn b in_memory g image chosen failure untouched cannot from to became) (sym is) (less_in_memory in_memory failure kept untouched from to keeps fails, caused, none)
 
 -- ---- who touched nothing touched less
 
@@ -150,8 +136,12 @@ less_on_store g image chosen failure kept untouched cannot never from to (after.
 less_on_store g image chosen failure kept untouched cannot never from to (after.Left store) keeps step fails = λ clean.
     (let (conn, works, left) = fails clean in (conn, less_on_files g image chosen failure kept untouched from to conn keeps works, left))
 
+less_in : (b : Bool) (in_memory : Ghosts MemoryFile) {F : Type 0} (g : Ghosts F) (image : Image) (chosen : Choice) (failure : Failure) (kept untouched cannot never : Type 0) (from to : Environment) (became : StoreAfter F g)
+    → (kept → untouched) → (cannot → never) → FailsIn b in_memory g image chosen failure kept cannot from to became → FailsIn b in_memory g image chosen failure untouched never from to became
+less_in true in_memory g image chosen failure kept untouched cannot never from to became keeps step (fails, caused, none) = (less_in_memory in_memory failure kept untouched from to keeps fails, caused, none)
+less_in false in_memory g image chosen failure kept untouched cannot never from to became keeps step (over, fails) =
+    (less_somewhere (state over_files) chosen failure kept untouched from to keeps over, less_on_store g image chosen failure kept untouched cannot never from to became keeps step fails)
+
 pub fails_less : (in_memory : Ghosts MemoryFile) {F : Type 0} (g : Ghosts F) (image : Image) (chosen : Choice) (failure : Failure) (kept untouched cannot never : Type 0) (from to : Environment) (became : StoreAfter F g)
     → (kept → untouched) → (cannot → never) → FailsBy in_memory g image chosen failure kept cannot from to became → FailsBy in_memory g image chosen failure untouched never from to became
-fails_less in_memory g image chosen failure kept untouched cannot never from to became keeps step =
-    matched_then (is_memory_replay chosen) _ _ _ _ (λ (fails, caused, none). (less_in_memory in_memory failure kept untouched from to keeps fails, caused, none))
-    (λ (over, fails). (less_somewhere (state over_files) chosen failure kept untouched from to keeps over, less_on_store g image chosen failure kept untouched cannot never from to became keeps step fails))
+fails_less in_memory g image chosen = less_in (is_memory_replay chosen) in_memory g image chosen

@@ -1,5 +1,5 @@
 -- Work over the files at a path: what they held when they were opened, and what the work did.
-use Rattle.std.specs.Prelude.{◌≡◌, false, IsTrue, List, String}
+use Rattle.std.specs.Prelude.{◌≡◌, false, IsTrue, String}
 use Rattle.std.specs.declared.alloc.Global.{Global}
 use Rattle.sqlite.specs.Closing.{HoldsAlone, IsCopied}
 use Rattle.sqlite.specs.Held.{Held, state}

@@ -1,5 +1,5 @@
 //! Offices in files: how they are opened, created and closed, and what is restored if that fails.
-ghost use Rattle.std.specs.Prelude.{◌≡◌, ◌⊎◌, ◌≤◌, ◌+◌, false, is_err, if◌then◌else◌, IfErr, IfNone, IfOk, IfSome, OnErr, OnOk};
+ghost use Rattle.std.specs.Prelude.{◌≡◌, ◌≤◌, ◌+◌, false, is_err, if◌then◌else◌, IfErr, IfOk, OnErr, OnOk};
 ghost use Rattle.sqlite.specs.Files.{IsOpened, file_state, over_files};
 ghost use Rattle.sqlite.specs.Held.{state};
 ghost use Rattle.sqlite.specs.Start.{FindsIn};

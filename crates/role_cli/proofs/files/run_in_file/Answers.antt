@@ -1,4 +1,4 @@
-use Rattle.std.proofs.Common.{inl, inr, refl, arith, ◌∙◌}
+use Rattle.std.proofs.Common.{inr, refl, arith, ◌∙◌}
 use Rattle.role_cli.proofs.Beginning.{store_fails}
 use Rattle.role_cli.proofs.FileWork.{fails_on, works_on}
 use Rattle.role_cli.proofs.PathChanges.{closed_left, risen_later, unopened_left}
