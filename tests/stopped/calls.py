@@ -17,7 +17,7 @@ from program.cases import cases
 from program.offices import SMALL, Office, change
 
 from .shim import ENDED, Stopper
-from .stories import REFUSED, judge_end, judge_office, lay, reading_story, story_named
+from .stories import REFUSED, init_story, judge_end, judge_office, lay, reading_story, story_named
 
 # More calls than any of these runs makes.
 MOST = 5_000
@@ -126,6 +126,29 @@ def check_refuse_making(bench, before, how):
         undone += 1
     bench.same(f"init over {before}: some were undone, some had begun", (undone > 0, begun > 0), (True, True))
     return {"makings that were undone": undone}
+
+
+def check_office_in_its_log(bench):
+    """An office is opened whose pages are all in its log, beside a file of one byte, which alone would be a new database.
+
+    The log is that of an `init` that is ended while it copies it into the file. SQLite itself would read the file alone.
+    """
+    stopper, story, opened = Stopper(bench), init_story(), 0
+    for number in range(1, MOST):
+        path = lay(bench, None)
+        stopper.run(["init", path], **stopper.settings(number, "exit"))
+        if stopper.report is None:
+            break
+        left = bench.contents()
+        if stopper.call != "pwrite office" or len(left["office-wal"]) <= BEGUN:
+            continue
+        bench.write("office", left["office"][:1])
+        what = f"an office in its log, when call {number} was the last"
+        bench.same(f"{what}: check", bench.run(["check", path]), Done(b"good\n", b"", 0))
+        judge_office(bench, what, story, path, [1])
+        opened += 1
+    bench.same("there were such offices", opened > 0, True)
+    return {"offices in their logs": opened}
 
 
 def small_log(bench):

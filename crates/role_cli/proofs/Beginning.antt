@@ -15,7 +15,7 @@ use Rattle.role_tables.specs.TableContents.{contents_of}
 use Rattle.role_tables.specs.Office.{OfficeModel}
 use Rattle.role_tables.specs.OpeningChecks.{IsMemoryOrStore, is_opening_refusal, ReadsState, RefusedHaveNoState, RefusesContents}
 use Rattle.role_tables.specs.Runs.{IsInRun}
-use Rattle.role_tables.specs.Durability.{HoldsAsBefore, LeavesOnly, WhateverIsDurable}
+use Rattle.role_tables.specs.Durability.{HoldsAsBefore, LeavesOnly, StaysOutside, WhateverIsDurable}
 use Rattle.role_cli.specs.Environment.{Environment, ReadFailed, WriteFailed}
 use Rattle.role_cli.specs.FailureCause.{IsCaused, IsOpeningFailure}
 use Rattle.role_cli.specs.FileWork.{DoesOnStore, FailsOnStore, WorksOnFiles}
@@ -48,14 +48,15 @@ module _ (chosen : Choice) (never_makes : (x : String Global) → chosen ≡ cho
       go (choice.Migrate x) makes migrates = absurd (migrates x refl)
       go _ makes migrates = (reads, runs)
 
-  pub unopened_open : {C : Type 0} (shown : Held C → State) (before : State) (refusal : Refusal) (after : State)
-      → (refusal ≡ Store) ⊎ RefusesContents (contents_of before.now) refusal → HoldsAsBefore before after → WhateverIsDurable before (λ S. IsMemoryOrStore refusal × LeavesOnly after S) → IsUnopened shown chosen before refusal after
-  unopened_open shown before refusal after why holds leaves = go chosen never_makes never_migrates
+  pub unopened_open : (before : State) (refusal : Refusal) (after : State)
+      → (refusal ≡ Store) ⊎ RefusesContents (contents_of before.now) refusal → HoldsAsBefore before after → WhateverIsDurable before (λ S. IsMemoryOrStore refusal × LeavesOnly after S) → StaysOutside before after
+      → IsUnopened chosen before refusal after
+  unopened_open before refusal after why holds leaves outside = go chosen never_makes never_migrates
     where
-      go : (c : Choice) → ((x : String Global) → c ≡ choice.Init x → ⊥) → ((x : String Global) → c ≡ choice.Migrate x → ⊥) → IsUnopened shown c before refusal after
+      go : (c : Choice) → ((x : String Global) → c ≡ choice.Init x → ⊥) → ((x : String Global) → c ≡ choice.Migrate x → ⊥) → IsUnopened c before refusal after
       go (choice.Init x) makes migrates = absurd (makes x refl)
       go (choice.Migrate x) makes migrates = absurd (migrates x refl)
-      go _ makes migrates = (why, holds, leaves)
+      go _ makes migrates = (why, holds, leaves, outside)
 
 -- any refusal of an opening is, unless an office was to be created
 pub refusal_fails : (chosen : Choice) (refusal : Refusal) → ((x : String Global) → chosen ≡ choice.Init x → ⊥) → IsTrue (is_opening_refusal refusal) → IsOpeningFailure chosen (Refused refusal)
@@ -80,8 +81,8 @@ of_file in_memory g image chosen from to became is_not over done = subst (λ b. 
 
 -- and what was done in memory
 pub of_memory : (in_memory : Ghosts MemoryFile) {F : Type 0} (g : Ghosts F) (image : Image) (chosen : Choice) (from to : Environment) (became : StoreAfter F g) → is_memory_replay chosen ≡ true
-    → ReplaysInMemory in_memory from.remaining to.remaining from.written to.written → IsDone in_memory g image chosen from to became
-of_memory in_memory g image chosen from to became is done = subst (λ b. IsDoneIn b in_memory g image chosen from to became) (sym is) done
+    → became ≡ after.Untouched → ReplaysInMemory in_memory from.remaining to.remaining from.written to.written → IsDone in_memory g image chosen from to became
+of_memory in_memory g image chosen from to became is none done = subst (λ b. IsDoneIn b in_memory g image chosen from to became) (sym is) (done, none)
 
 -- what failed over an office in a file, failed
 pub fails_in_file : (in_memory : Ghosts MemoryFile) {F : Type 0} (g : Ghosts F) (image : Image) (chosen : Choice) (failure : Failure) (untouched : Type 0) (cannot : List ℕ → Type 0) (from to : Environment) (became : StoreAfter F g)
@@ -98,10 +99,10 @@ less_in_memory in_memory failure kept untouched from to keeps (inr (unmade, same
 
 -- a replay in memory that touched nothing before it failed
 pub fails_in_memory : (in_memory : Ghosts MemoryFile) {F : Type 0} (g : Ghosts F) (image : Image) (chosen : Choice) (failure : Failure) (kept untouched cannot : Type 0) (from to : Environment) (became : StoreAfter F g)
-    → is_memory_replay chosen ≡ true → (kept → untouched) → FailsInMemory in_memory failure kept from.remaining to.remaining from.written to.written
+    → is_memory_replay chosen ≡ true → became ≡ after.Untouched → (kept → untouched) → FailsInMemory in_memory failure kept from.remaining to.remaining from.written to.written
     → IsCaused failure (WriteFailed from to) (ReadFailed from to) → FailsBy in_memory g image chosen failure untouched cannot from to became
-fails_in_memory in_memory g image chosen failure kept untouched cannot from to became is keeps fails caused =
-    subst (λ b. FailsIn b in_memory g image chosen failure untouched cannot from to became) (sym is) (less_in_memory in_memory failure kept untouched from to keeps fails, caused)
+fails_in_memory in_memory g image chosen failure kept untouched cannot from to became is none keeps fails caused =
+    subst (λ b. FailsIn b in_memory g image chosen failure untouched cannot from to became) (sym is) (less_in_memory in_memory failure kept untouched from to keeps fails, caused, none)
 
 -- ---- who touched nothing touched less
 
@@ -129,6 +130,7 @@ less_on_files g image chosen failure kept untouched from to conn keeps works = r
 less_on_store : {F : Type 0} (g : Ghosts F) (image : Image) (chosen : Choice) (failure : Failure) (kept untouched cannot never : Type 0) (from to : Environment) (became : StoreAfter F g)
     → (kept → untouched) → (cannot → never) → FailsOnStore g image chosen failure kept cannot from to became → FailsOnStore g image chosen failure untouched never from to became
 less_on_store g image chosen failure kept untouched cannot never from to after.Untouched keeps step (same, why) = (keeps same, step why)
+less_on_store g image chosen failure kept untouched cannot never from to (after.Unopened opened) keeps step (same, why) = (keeps same, step why)
 less_on_store g image chosen failure kept untouched cannot never from to (after.Closed files) keeps step fails = λ clean.
     (let (conn, works, closes) = fails clean in (conn, less_on_files g image chosen failure kept untouched from to conn keeps works, closes))
 less_on_store g image chosen failure kept untouched cannot never from to (after.Left store) keeps step fails = λ clean.
@@ -136,7 +138,7 @@ less_on_store g image chosen failure kept untouched cannot never from to (after.
 
 less_in : (b : Bool) (in_memory : Ghosts MemoryFile) {F : Type 0} (g : Ghosts F) (image : Image) (chosen : Choice) (failure : Failure) (kept untouched cannot never : Type 0) (from to : Environment) (became : StoreAfter F g)
     → (kept → untouched) → (cannot → never) → FailsIn b in_memory g image chosen failure kept cannot from to became → FailsIn b in_memory g image chosen failure untouched never from to became
-less_in true in_memory g image chosen failure kept untouched cannot never from to became keeps step (fails, caused) = (less_in_memory in_memory failure kept untouched from to keeps fails, caused)
+less_in true in_memory g image chosen failure kept untouched cannot never from to became keeps step (fails, caused, none) = (less_in_memory in_memory failure kept untouched from to keeps fails, caused, none)
 less_in false in_memory g image chosen failure kept untouched cannot never from to became keeps step (over, fails) =
     (less_somewhere (state over_files) chosen failure kept untouched from to keeps over, less_on_store g image chosen failure kept untouched cannot never from to became keeps step fails)
 

@@ -2,23 +2,20 @@
 use Rattle.std.proofs.Common.{◌≡◌, ℕ, None, subst}
 use Rattle.rbac_sets.specs.declared.sink.Sink as sink
 use Rattle.rbac_sets.specs.declared.source.Source as source
+use Rattle.role_cli.specs.Around.{environment_of}
 use Rattle.role_cli.specs.Environment.{Environment}
-use Rattle.role_cli.specs.Hosts.{OnMachine, environment_on_machine, clients_on_machine, failed_on_machine, known_clients}
+use Rattle.role_cli.specs.Hosts.{OnMachine, clients_on_machine, failed_on_machine, known_clients, unknown_csv}
 use Rattle.role_cli.specs.ServedConnections.{Clients}
 use Rattle.role_cli.specs.declared.machine.Machine.{Machine}
 
 -- it had listened on no port and read nothing before
 pub on_machine : {R W : Type 0} (input : source.Ghosts R) (output : sink.Ghosts W) (Holds : Environment → Environment → Type 0) (source now_source : R) (out now_out : W) (machine now : Machine)
     → clients_on_machine machine ≡ known_clients None 0 0 → failed_on_machine machine ≡ 0
-    → Holds (record (environment_on_machine input output source out None 0 0 0) { clients = clients_on_machine machine; failed_csv = failed_on_machine machine })
-    (environment_on_machine input output now_source now_out now.port now.accepted now.failed now.failed_csv)
+    → Holds (environment_of input output source out unknown_csv (failed_on_machine machine) (clients_on_machine machine)) (environment_of input output now_source now_out unknown_csv (failed_on_machine now) (clients_on_machine now))
     → OnMachine input output Holds source out now_source now_out
 on_machine input output Holds source now_source out now_out machine now nobody nothing holds =
-    let to = environment_on_machine input output now_source now_out now.port now.accepted now.failed now.failed_csv in
-    let at = environment_on_machine input output source out None 0 0 0 in (
-      now.port,
-      now.accepted,
-      now.failed,
-      now.failed_csv,
-      subst (λ (n : ℕ). Holds (record at { failed_csv = n }) to) nothing (subst (λ (c : Clients). Holds (record at { clients = c; failed_csv = failed_on_machine machine }) to) nobody holds),
+    let to = environment_of input output now_source now_out unknown_csv (failed_on_machine now) (clients_on_machine now) in (
+      now,
+      subst (λ (n : ℕ). Holds (environment_of input output source out unknown_csv n (known_clients None 0 0)) to) nothing
+          (subst (λ (c : Clients). Holds (environment_of input output source out unknown_csv (failed_on_machine machine) c) to) nobody holds),
     )

@@ -7,7 +7,8 @@ use Rattle.std.proofs.lemmas.Bool.{true≢false}
 use Rattle.std.proofs.lemmas.List.Folds.{list_any-append}
 use Rattle.rbac_sets.specs.Stream.{HasRisen}
 use Rattle.sqlite_disk.specs.declared.Disk.{Ghosts}
-use Rattle.role_cli.specs.Leftovers.{IsBefore, IsBegun, IsLogWithoutPage, LeavesClosed, LeavesPaths, RemovesEmpty, RemovesSiblings, Restores, leftovers, siblings, without_leftover, without_siblings}
+use Rattle.sqlite_disk.specs.declared.Files.{Files}
+use Rattle.role_cli.specs.Leftovers.{IsBefore, IsBegun, IsLogWithoutPage, LeavesClosed, LeavesPaths, LeavesUnopened, RemovesEmpty, RemovesSiblings, Restores, leftovers, siblings, without_leftover, without_siblings}
 use Rattle.role_cli.specs.Paths.{Changes, ChangesKnown, ChangesOnly, Paths, index_of, length_in, log_of, only, with_entry, without}
 use Rattle.role_cli.specs.declared.choice.Choice.{Choice}
 use Rattle.role_cli.specs.declared.folder.Entry.{Entry}
@@ -57,15 +58,15 @@ closed_later before path (after.Closed files) e f old now step (between, restore
     (between, restores_later before path e f old between step restores, siblings_later path e f between now step removes)
 closed_later before path (after.Left store) e f old now step restores = restores_later before path e f old now step restores
 closed_later before path after.Untouched e f old now step none = none
+closed_later before path (after.Unopened opened) e f old now step none = none
 
 -- what was removed after an opening that failed, which itself had changed no path
-pub unopened_left : (before : PathState) (path : List ℕ) (first mid last : ℕ) (old then_paths now : Option Paths) → then_paths ≡ old → first ≤ mid
-    → Restores before path (HasRisen mid last) then_paths now ⊎ RemovesEmpty before path (HasRisen mid last) then_paths now
-    → Restores before path (HasRisen first last) old now ⊎ RemovesEmpty before path (HasRisen first last) old now
-unopened_left before path first mid last old then_paths now same up (inl restores) =
-    inl (restores_later before path (HasRisen mid last) (HasRisen first last) old now (risen_later first mid last up) (subst (λ p. Restores before path (HasRisen mid last) p now) same restores))
-unopened_left before path first mid last old then_paths now same up (inr removes) =
-    inr (removes_empty_later before path (HasRisen mid last) (HasRisen first last) old now (risen_later first mid last up) (subst (λ p. RemovesEmpty before path (HasRisen mid last) p now) same removes))
+pub unopened_left : {F : Type 0} (opened : Option (Files F)) (before : PathState) (path : List ℕ) (first mid last : ℕ) (old then_paths now : Option Paths) → then_paths ≡ old → first ≤ mid
+    → LeavesUnopened before path opened (HasRisen mid last) then_paths now → LeavesUnopened before path opened (HasRisen first last) old now
+unopened_left (Some files) before path first mid last old then_paths now same up restores =
+    restores_later before path (HasRisen mid last) (HasRisen first last) old now (risen_later first mid last up) (subst (λ p. Restores before path (HasRisen mid last) p now) same restores)
+unopened_left None before path first mid last old then_paths now same up removes =
+    removes_empty_later before path (HasRisen mid last) (HasRisen first last) old now (risen_later first mid last up) (subst (λ p. RemovesEmpty before path (HasRisen mid last) p now) same removes)
 
 -- what was removed after a close
 module _ {F : Type 0} {g : Ghosts F} (chosen : Choice) (path : List ℕ) (has_failed : Bool) (before restored : PathState) (first mid last : ℕ) (old then_paths now : Option Paths)
@@ -76,6 +77,7 @@ module _ {F : Type 0} {g : Ghosts F} (chosen : Choice) (path : List ℕ) (has_fa
 
   pub closed_left : (became : StoreAfter F g) → LeavesClosed restored path became (HasRisen mid last) then_paths now → LeavesPaths chosen path has_failed became (HasRisen first last) old now
   closed_left after.Untouched leaves = absurd leaves
+  closed_left (after.Unopened opened) leaves = absurd leaves
   closed_left (after.Closed files) leaves = (before, was, closed_then (after.Closed files) leaves)
   closed_left (after.Left store) leaves = (before, was, closed_then (after.Left store) leaves)
 

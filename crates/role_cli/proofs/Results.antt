@@ -37,9 +37,9 @@ pub if_err-join : {T E : Type 0} (r : Result T E) (P Q Z : E → Type 0) → IfE
 if_err-join (Ok t) P Q Z one other step = tt
 if_err-join (Err e) P Q Z one other step = step e one other
 
-pub if_err-three : {T E : Type 0} (r : Result T E) (P Q R Z : E → Type 0) → IfErr r P → IfErr r Q → IfErr r R → ((e : E) → P e → Q e → R e → Z e) → IfErr r Z
-if_err-three (Ok t) P Q R Z one two three step = tt
-if_err-three (Err e) P Q R Z one two three step = step e one two three
+pub if_err-four : {T E : Type 0} (r : Result T E) (P Q R S Z : E → Type 0) → IfErr r P → IfErr r Q → IfErr r R → IfErr r S → ((e : E) → P e → Q e → R e → S e → Z e) → IfErr r Z
+if_err-four (Ok t) P Q R S Z one two three four step = tt
+if_err-four (Err e) P Q R S Z one two three four step = step e one two three four
 
 -- a refusal that became a failure, with what was written
 pub unwritten : (r : Result (Unit {0}) Refusal) (m : Result (Unit {0}) Failure) (Part Fault : Type 0)

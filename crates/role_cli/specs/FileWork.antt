@@ -1,5 +1,5 @@
 -- Work over the files at a path: what they held when they were opened, and what the work did.
-use Rattle.std.specs.Prelude.{◌≡◌, false, IsTrue, List, String}
+use Rattle.std.specs.Prelude.{◌≡◌, false, IsTrue, String}
 use Rattle.std.specs.declared.alloc.Global.{Global}
 use Rattle.sqlite.specs.Closing.{HoldsAlone, IsCopied}
 use Rattle.sqlite.specs.Held.{Held, state}
@@ -17,14 +17,14 @@ use Rattle.sqlite_trees.specs.View.{IsClean}
 use Rattle.sqlite_disk.specs.declared.Disk.{Ghosts}
 use Rattle.sqlite_disk.specs.declared.Files.{Files}
 use Rattle.admin_mgr.specs.Good.{IsGood}
-use Rattle.admin_mgr.specs.OfficeRun.{Event, migrated_to_version_2}
+use Rattle.rbac_sets.specs.declared.refusal.Refusal.{Refusal}
+use Rattle.admin_mgr.specs.OfficeRun.{migrated_to_version_2}
 use Rattle.admin_mgr.specs.RbacState.{RbacState, empty_state}
 use Rattle.admin_mgr.specs.StateNames.{AreNamed}
 use Rattle.role_tables.specs.Durability.{LeavesState, IsDurable}
 use Rattle.role_tables.specs.Office.{OfficeModel}
-use Rattle.role_tables.specs.Runs.{IsInRun}
 use Rattle.role_cli.specs.Environment.{Environment}
-use Rattle.role_cli.specs.Work.{DoesOnConnection, DoesSubcommand, FailsOnConnection, FailsSubcommand, WorksOnConnection, makes}
+use Rattle.role_cli.specs.Work.{DoesOnConnection, FailsOnConnection, IsUnopened, WorksOnConnection, makes}
 use Rattle.role_cli.specs.declared.choice.Choice.{Choice}
 use Rattle.role_cli.specs.declared.choice.Choice.TheVariants.{Init, Migrate}
 use Rattle.role_cli.specs.declared.failure.Failure.{Failure}
@@ -54,11 +54,10 @@ pub record StoresAlone {D : Type 0} (g : Ghosts D) (files : Files D) (S : RbacSt
   pub now : HoldsAlone (image_of g files) trees
   pub left : (image : Image) → outcomes g files.log files.db image → HoldsAlone image trees
 
--- The connection was closed: its last commit was copied into the database file. If an office in some run has handed it back, outside
--- a transaction, the database file alone stores the state of this office.
+-- The connection was closed: its last commit was copied into the database file. Outside a transaction this is what it held.
 pub record ClosesOver {D : Type 0} (g : Ghosts D) (files : Files D) (conn : Held (FileStore D g)) : Type 0 where
   pub copied : IsCopied conn files
-  pub stored : (start : RbacState) (events : List Event) (office : OfficeModel (FileStore D g)) → conn ≡ office.conn → conn.in_transaction ≡ false → IsInRun (state over_files) start events office → StoresAlone g files office.facts
+  pub settled : HoldsCommit (file_state conn)
 
 -- the files were opened, the work was over the connection, and they were closed
 abbrev pub WorksAndCloses : {D : Type 0} (g : Ghosts D) (image : Image) (files : Files D) → (State → Held (FileStore D g) → Type 0) → Type 0
@@ -72,46 +71,46 @@ pub record LeavesLog {D : Type 0} (g : Ghosts D) (store : FileStore D g) (conn :
 
 -- what a close made of a connection: the files, into which the log was copied, or the store, which keeps it
 abbrev pub ClosesConnection : {D : Type 0} (g : Ghosts D) → Held (FileStore D g) → StoreAfter D g → Type 0
-ClosesConnection g conn after.Untouched = ⊥
 ClosesConnection g conn (after.Closed files) = AreClean g files.log files.db → IsCopied conn files
 ClosesConnection g conn (after.Left store) = LeavesLog g store conn
+ClosesConnection g conn _ = ⊥
 
 -- while the disk returned what was written: the files were opened, the work was over the connection, and it was closed
 abbrev pub WorksOnStore : {D : Type 0} (g : Ghosts D) (image : Image) → (State → Held (FileStore D g) → Type 0) → StoreAfter D g → Type 0
-WorksOnStore g image Work after.Untouched = ⊥
 WorksOnStore g image Work (after.Closed files) = AreClean g files.log files.db → WorksAndCloses g image files Work
 WorksOnStore {D} g image Work (after.Left store) =
     IsClean (view store) → (conn : Held (FileStore D g)) × WorksOnFiles g image (λ before. Work before conn) × LeavesLog g store conn
+WorksOnStore g image Work _ = ⊥
 
 -- what a subcommand does was done over the files
 abbrev pub DoesOnStore : {D : Type 0} (g : Ghosts D) (image : Image) → Choice → Environment → Environment → StoreAfter D g → Type 0
 DoesOnStore g image chosen from to became = WorksOnStore g image (λ before conn. DoesOnConnection (state over_files) chosen before from to conn) became
 
--- it failed over the files, or it could not begin, and nothing was touched
-abbrev pub FailsOnStore : {D : Type 0} (g : Ghosts D) (image : Image) → Choice → Failure → (untouched cannot_begin : Type 0) → Environment → Environment → StoreAfter D g → Type 0
-FailsOnStore g image chosen failure untouched cannot_begin from to after.Untouched = untouched × cannot_begin
-FailsOnStore g image chosen failure untouched cannot_begin from to became =
+-- it failed over the files, or it never began, and nothing was touched
+abbrev pub FailsOnStore : {D : Type 0} (g : Ghosts D) (image : Image) → Choice → Failure → (untouched never_begins : Type 0) → Environment → Environment → StoreAfter D g → Type 0
+FailsOnStore g image chosen failure untouched never_begins from to after.Untouched = untouched × never_begins
+FailsOnStore g image chosen failure untouched never_begins from to (after.Unopened opened) = untouched × never_begins
+FailsOnStore g image chosen failure untouched never_begins from to became =
     WorksOnStore g image (λ before conn. FailsOnConnection (state over_files) chosen before failure untouched from to conn) became
 
--- ---- laws
+-- ---- laws, over files that stored a good state whose texts are valid names
 
 -- The work was over an office that began with this state, and the database file alone stores the state that it ended with.
 abbrev pub EndsStored : {D : Type 0} (g : Ghosts D) (files : Files D) → RbacState → (OfficeModel (FileStore D g) → OfficeModel (FileStore D g) → Type 0) → Type 0
 EndsStored {D} g files S Work = (first last : OfficeModel (FileStore D g)) × (first.facts ≡ S) × Work first last × StoresAlone g files last.facts
 
--- What a subcommand did that neither creates nor migrates an office, over files that stored a good state whose texts are valid names,
--- was done over this state, and the closed database file stores what it led to. The same holds if it failed.
-abbrev pub DoneWorkIsStored : {D : Type 0} → Ghosts D → Type 0
-DoneWorkIsStored {D} g = (chosen : Choice) (image : Image) (files : Files D) (from to : Environment) (S : RbacState) → makes chosen ≡ false → IsGood S → AreNamed S → StoresState image S
-    → WorksAndCloses g image files (λ before conn. WorksOnConnection (state over_files) chosen before (λ first last. DoesSubcommand (state over_files) chosen first from to last) conn)
-    → EndsStored g files S (λ first last. DoesSubcommand (state over_files) chosen first from to last)
+-- The work of a subcommand that neither creates nor migrates an office was over the state that was stored, and the closed database file
+-- stores what it led to.
+abbrev pub WorkIsStored : {D : Type 0} (g : Ghosts D) → (Choice → Environment → Environment → OfficeModel (FileStore D g) → OfficeModel (FileStore D g) → Type 0) → Type 0
+WorkIsStored {D} g Work = (chosen : Choice) (image : Image) (files : Files D) (from to : Environment) (S : RbacState) → makes chosen ≡ false → IsGood S → AreNamed S → StoresState image S
+    → WorksAndCloses g image files (λ before conn. WorksOnConnection (state over_files) chosen before (Work chosen from to) conn) → EndsStored g files S (Work chosen from to)
 
-abbrev pub FailedWorkIsStored : {D : Type 0} → Ghosts D → Type 0
-FailedWorkIsStored {D} g = (chosen : Choice) (image : Image) (files : Files D) (failure : Failure) (from to : Environment) (S : RbacState) → makes chosen ≡ false → IsGood S → AreNamed S → StoresState image S
-    → WorksAndCloses g image files (λ before conn. WorksOnConnection (state over_files) chosen before (λ first last. FailsSubcommand (state over_files) chosen failure first from to last) conn)
-    → EndsStored g files S (λ first last. FailsSubcommand (state over_files) chosen failure first from to last)
+-- If no office was created, migrated or opened, the state that was stored still is.
+abbrev pub RefusedOpeningIsStored : {D : Type 0} → Ghosts D → Type 0
+RefusedOpeningIsStored {D} g = (chosen : Choice) (image : Image) (files : Files D) (refusal : Refusal) (S : RbacState) → IsGood S → AreNamed S → StoresState image S
+    → WorksAndCloses g image files (λ before conn. IsUnopened chosen before refusal (file_state conn)) → StoresAlone g files S
 
--- What a migration made of a good state of version 1, whose texts are valid names, is stored.
+-- What a migration made of a state is stored.
 abbrev pub MigrationIsStored : {D : Type 0} → Ghosts D → Type 0
 MigrationIsStored {D} g = (path : String Global) (image : Image) (files : Files D) (from to : Environment) (S : RbacState) → IsGood S → AreNamed S → StoresState image S
     → WorksAndCloses g image files (λ before conn. DoesOnConnection (state over_files) (Migrate path) before from to conn)
@@ -120,5 +119,5 @@ MigrationIsStored {D} g = (path : String Global) (image : Image) (files : Files 
 -- A new office is stored, empty.
 abbrev pub NewOfficeIsStored : {D : Type 0} → Ghosts D → Type 0
 NewOfficeIsStored {D} g = (path : String Global) (image : Image) (files : Files D) (from to : Environment)
-    → WorksAndCloses g image files (λ before conn. WorksOnConnection (state over_files) (Init path) before (λ first last. DoesSubcommand (state over_files) (Init path) first from to last) conn)
+    → WorksAndCloses g image files (λ before conn. DoesOnConnection (state over_files) (Init path) before from to conn)
     → StoresAlone g files (empty_state 2)

@@ -5,6 +5,7 @@ use Rattle.rbac_sets.specs.Stream.{failed_in_memory as failed_writes_of, left_in
 use Rattle.rbac_sets.specs.declared.sink.MemorySink.{MemorySink}
 use Rattle.rbac_sets.specs.declared.sink.Sink as sink
 use Rattle.rbac_sets.specs.declared.source.Source as source
+use Rattle.role_cli.specs.Around.{environment_of}
 use Rattle.role_cli.specs.Environment.{CsvTexts, Environment}
 use Rattle.role_cli.specs.ServedConnections.{Clients, SentReply}
 use Rattle.role_cli.specs.declared.folder.MachineFolder.{MachineFolder}
@@ -57,21 +58,8 @@ clients_in_memory host = record {
 abbrev pub unknown_csv : CsvTexts
 unknown_csv path = None
 
--- what is met on the machine, if it listens on this port, and these many clients were accepted and calls failed
-abbrev pub environment_on_machine : {R W : Type 0} → source.Ghosts R → sink.Ghosts W → R → W → (port : Option ℕ) (accepted failed failed_csv : ℕ) → Environment
-environment_on_machine input output source out port accepted failed failed_csv = record {
-  remaining = input.remaining source;
-  reads = input.reads source;
-  failed_reads = input.failed source;
-  written = output.written out;
-  failed_writes = output.failed out;
-  idle_writes = output.idle out;
-  csv_at = unknown_csv;
-  failed_csv = failed_csv;
-  clients = known_clients port accepted failed;
-}
-
 -- This holds of what the program met on its machine, where it had listened on no port and read nothing before.
 abbrev pub OnMachine : {R W : Type 0} → source.Ghosts R → sink.Ghosts W → (Environment → Environment → Type 0) → (source : R) (out : W) (now_source : R) (now_out : W) → Type 0
-OnMachine input output Holds source out now_source now_out = (port : Option ℕ) × (accepted failed failed_csv : ℕ)
-    × Holds (environment_on_machine input output source out None 0 0 0) (environment_on_machine input output now_source now_out port accepted failed failed_csv)
+OnMachine input output Holds source out now_source now_out = (machine : Machine)
+    × Holds (environment_of input output source out unknown_csv 0 (known_clients None 0 0))
+    (environment_of input output now_source now_out unknown_csv (failed_on_machine machine) (clients_on_machine machine))

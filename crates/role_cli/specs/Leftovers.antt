@@ -2,6 +2,7 @@
 use Rattle.std.specs.Prelude.{⊤, ◌≡◌, ◌⊎◌, ◌≤◌, ◌<◌, ◌+◌, ℕ, Bool, false, List, [], ◌∷◌, Option, Some, None, IfSome, if◌then◌else◌}
 use Rattle.rbac_sets.specs.declared.refusal.Refusal.TheVariants.{Memory, NotAnOffice, Store}
 use Rattle.sqlite_disk.specs.declared.Disk.{Ghosts}
+use Rattle.sqlite_disk.specs.declared.Files.{Files}
 use Rattle.role_cli.specs.Paths.{Changes, ChangesKnown, Paths, index_of, length_in, log_of, with_empty, without}
 use Rattle.role_cli.specs.Work.{creates}
 use Rattle.role_cli.specs.declared.choice.Choice.{Choice}
@@ -56,6 +57,11 @@ CannotBegin chosen path failure paths call_failed =
     ((failure ≡ Refused Store) × IfSome paths (λ known. IsNoPlaceFor chosen (known.at path)))
     ⊎ (((failure ≡ Refused NotAnOffice) × (creates chosen ≡ false) × IfSome paths (IsNew path))
     ⊎ (((failure ≡ Refused Memory) ⊎ (failure ≡ Refused Store)) × call_failed))
+
+-- No work was done: it can't begin, or the files could not be opened.
+abbrev pub NeverBegins : {F : Type 0} {g : Ghosts F} → Choice → List ℕ → Failure → Option Paths → (call_failed : Type 0) → StoreAfter F g → Type 0
+NeverBegins chosen path failure paths call_failed (after.Unopened opened) = (failure ≡ Refused Store) × call_failed
+NeverBegins chosen path failure paths call_failed _ = CannotBegin chosen path failure paths call_failed
 
 -- ---- after the work
 
@@ -120,17 +126,24 @@ siblings path known = log_of path known ∷ (index_of path known ∷ [])
 abbrev pub RemovesSiblings : List ℕ → (call_failed : Type 0) → Option Paths → Option Paths → Type 0
 RemovesSiblings path call_failed = ChangesKnown (siblings path) (without_siblings path) call_failed
 
+-- What is at the paths after an opening that failed: what it had begun is removed if the files were opened, and otherwise an empty file.
+abbrev pub LeavesUnopened : {F : Type 0} → PathState → List ℕ → Option (Files F) → (call_failed : Type 0) → Option Paths → Option Paths → Type 0
+LeavesUnopened before path (Some files) call_failed paths now = Restores before path call_failed paths now
+LeavesUnopened before path None call_failed paths now = RemovesEmpty before path call_failed paths now
+
 -- What is at the paths after the files of a connection were closed: a leftover is removed, and so are the log and its index once the log
 -- was copied into the file. Only then.
 abbrev pub LeavesClosed : {F : Type 0} {g : Ghosts F} → PathState → List ℕ → StoreAfter F g → (call_failed : Type 0) → Option Paths → Option Paths → Type 0
 LeavesClosed before path (after.Closed files) call_failed paths now =
     (between : Option Paths) × Restores before path call_failed paths between × RemovesSiblings path call_failed between now
 LeavesClosed before path (after.Left store) call_failed paths now = Restores before path call_failed paths now
-LeavesClosed before path after.Untouched call_failed paths now = ⊥
+LeavesClosed before path _ call_failed paths now = ⊥
 
--- What is at the paths after the work. If it was done, the file is an office's: it is removed only if the work failed where nothing was.
+-- What is at the paths after the work: nothing changed if the files were not opened. If the work was done, the file is an office's: it
+-- is removed only if the work failed where nothing was.
 abbrev pub LeavesPaths : {F : Type 0} {g : Ghosts F} → Choice → List ℕ → (has_failed : Bool) → StoreAfter F g → (call_failed : Type 0) → Option Paths → Option Paths → Type 0
-LeavesPaths chosen path has_failed after.Untouched call_failed paths now = (now ≡ paths)
-    ⊎ ((before : PathState) × IfSome paths (IsBefore chosen path before) × (Restores before path call_failed paths now ⊎ RemovesEmpty before path call_failed paths now))
+LeavesPaths chosen path has_failed after.Untouched call_failed paths now = now ≡ paths
+LeavesPaths chosen path has_failed (after.Unopened opened) call_failed paths now =
+    (before : PathState) × IfSome paths (IsBefore chosen path before) × LeavesUnopened before path opened call_failed paths now
 LeavesPaths chosen path has_failed became call_failed paths now =
     (before : PathState) × IfSome paths (IsBefore chosen path before) × LeavesClosed (if has_failed then before else Bytes) path became call_failed paths now

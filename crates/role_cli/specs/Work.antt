@@ -22,7 +22,7 @@ use Rattle.role_tables.specs.Migration.{IsMigratedFrom, LeavesEitherVersion, Ref
 use Rattle.role_tables.specs.Office.{OfficeModel}
 use Rattle.role_tables.specs.OpeningChecks.{IsMemoryOrStore, ReadsState, RefusesContents}
 use Rattle.role_tables.specs.Runs.{IsInRun}
-use Rattle.role_tables.specs.Durability.{HoldsAsBefore, LeavesBeforeOr, LeavesOnly, WhateverIsDurable}
+use Rattle.role_tables.specs.Durability.{HoldsAsBefore, LeavesBeforeOr, LeavesOnly, StaysOutside, WhateverIsDurable}
 use Rattle.role_wire.specs.Continuation.{Continues, ReachesState}
 use Rattle.role_wire.specs.Lines.{line_feed}
 use Rattle.role_wire.specs.Outcome.{after_lines, asking_lines}
@@ -80,6 +80,15 @@ abbrev pub StartsWell : Choice → RbacState → Type 0
 StartsWell (choice.Init _) S = S ≡ empty_state 2
 StartsWell (choice.Migrate _) S = S.version ≡ 2
 StartsWell _ S = ⊤
+
+-- No office was created, migrated or opened: why, what the connection holds now, and what a crash would leave.
+abbrev pub IsUnopened : Choice → State → Refusal → State → Type 0
+IsUnopened (choice.Init _) before refusal after = (refusal ≡ Store) × HoldsAsBefore before after × LeavesBeforeOr before after (empty_state 2) × StaysOutside before after
+IsUnopened (choice.Migrate _) before refusal after =
+    RefusesMigration (contents_of before.now) refusal × StaysRefused before after refusal × LeavesEitherVersion before after × StaysOutside before after
+IsUnopened _ before refusal after =
+    ((refusal ≡ Store) ⊎ RefusesContents (contents_of before.now) refusal) × HoldsAsBefore before after
+    × WhateverIsDurable before (λ S. IsMemoryOrStore refusal × LeavesOnly after S) × StaysOutside before after
 
 module _ {C : Type 0} (shown : Held C → State) where
   -- ---- a replay
@@ -164,13 +173,6 @@ module _ {C : Type 0} (shown : Held C → State) where
   abbrev pub NoneBeginsOverRefused : Type 0
   NoneBeginsOverRefused = (chosen : Choice) (old : Held C) (office : OfficeModel C) (refusal : Refusal) → creates chosen ≡ false → refusal ≢ Memory
       → RefusesContents (contents_of (shown old).now) refusal → BeginsRun chosen (shown old) office → ⊥
-
-  -- No office was created, migrated or opened: why, what the connection holds now, and what a crash would leave.
-  abbrev pub IsUnopened : Choice → State → Refusal → State → Type 0
-  IsUnopened (choice.Init _) before refusal after = (refusal ≡ Store) × HoldsAsBefore before after × LeavesBeforeOr before after (empty_state 2)
-  IsUnopened (choice.Migrate _) before refusal after = RefusesMigration (contents_of before.now) refusal × StaysRefused before after refusal × LeavesEitherVersion before after
-  IsUnopened _ before refusal after =
-      ((refusal ≡ Store) ⊎ RefusesContents (contents_of before.now) refusal) × HoldsAsBefore before after × WhateverIsDurable before (λ S. IsMemoryOrStore refusal × LeavesOnly after S)
 
   -- Work that led from the first office to the last: the first began a run over what the connection held, the last continues it,
   -- and its connection was handed back, outside a transaction.

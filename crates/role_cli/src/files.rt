@@ -1,5 +1,5 @@
 //! Offices in files: how they are opened, created and closed, and what is restored if that fails.
-ghost use Rattle.std.specs.Prelude.{◌≡◌, ◌⊎◌, ◌≤◌, ◌+◌, false, is_err, if◌then◌else◌, IfErr, IfNone, IfOk, IfSome, OnErr, OnOk};
+ghost use Rattle.std.specs.Prelude.{◌≡◌, ◌≤◌, ◌+◌, false, is_err, if◌then◌else◌, IfErr, IfOk, OnErr, OnOk};
 ghost use Rattle.sqlite.specs.Files.{IsOpened, file_state, over_files};
 ghost use Rattle.sqlite.specs.Held.{state};
 ghost use Rattle.sqlite.specs.Start.{FindsIn};
@@ -9,7 +9,7 @@ ghost use Rattle.rbac_sets.specs.Stream.{HasRisen};
 ghost use Rattle.role_wire.specs.Replay.{most_reads};
 ghost use Rattle.role_cli.specs.Around.{IsUntouched, around};
 ghost use Rattle.role_cli.specs.FileWork.{ClosesConnection, DoesOnStore, FailsOnStore, HoldsCommit, WorksOnFiles};
-ghost use Rattle.role_cli.specs.Leftovers.{CannotBegin, LeavesClosed, LeavesPaths, RemovesEmpty, Restores};
+ghost use Rattle.role_cli.specs.Leftovers.{LeavesClosed, LeavesPaths, LeavesUnopened, NeverBegins};
 ghost use Rattle.role_cli.specs.Work.{DoesOnConnection, DoesOverSomeState, FailsOnConnection, FailsOrFindsNoOffice, asks_host, reads_input};
 
 use crate::choice::Choice;
@@ -21,7 +21,7 @@ use crate::store_after::StoreAfter;
 use crate::work::run_on_connection;
 use rbac_sets::{Refusal, Sink, Source};
 use role_tables::laws::reopened;
-use sqlite::{Alter, Connection, FileFrom, FileStore, Start};
+use sqlite::{Alter, Connection, FileFrom, FileStore, Files, Start};
 use sqlite_disk::Disk;
 use std::alloc::Global;
 
@@ -34,7 +34,7 @@ use std::alloc::Global;
 ///
 /// # Errors
 ///
-/// `Refused` with `Store` if the file can't be opened or created. Nothing was read or written then.
+/// If the file can't be opened or created, nothing was read or written. What was opened is handed back, still locked.
 pub fn run_on_path<D: Start, F: Folder, H: Accept + CsvFiles, R: Source, W: Sink>(
     alloc: Global,
     folder: &mut F,
@@ -45,7 +45,7 @@ pub fn run_on_path<D: Start, F: Folder, H: Accept + CsvFiles, R: Source, W: Sink
     host: &mut H,
     source: &mut R,
     out: &mut W,
-) -> Result<(Result<(), Failure>, Connection<FileStore<FileFrom<D>>>), Failure>
+) -> Result<(Result<(), Failure>, Connection<FileStore<FileFrom<D>>>), Option<Files<FileFrom<D>>>>
     ensures done { IfOk result (λ worked. HasCleanDisk (file_state worked.1) → OnOk worked.0 (WorksOnFiles ⟦<FileFrom<D> as Disk>⟧ (image_at D.Start)
         (λ before. DoesOnConnection (state (over_files {g = ⟦<FileFrom<D> as Disk>⟧})) choice.now before
         (around R.Source W.Sink H.CsvFiles H.Accept source.old out.old host.old)
@@ -68,25 +68,19 @@ pub fn run_on_path<D: Start, F: Folder, H: Accept + CsvFiles, R: Source, W: Sink
         (around R.Source W.Sink H.CsvFiles H.Accept source.old out.old host.old)
         (around R.Source W.Sink H.CsvFiles H.Accept source.new out.new host.new))) }
 
-    ensures unopened { IfErr result (λ failure. (failure ≡ Failure.Refused Refusal.Store)
-        × (IsUntouched source.old source.new out.old out.new host.old host.new)
+    ensures unopened { OnErr result ((IsUntouched source.old source.new out.old out.new host.old host.new)
         × HasRisen (F.failed_calls folder.old) (F.failed_calls folder.new)) }
     ensures kept { OnOk result (F.paths folder.new ≡ F.paths folder.old) }
-    ensures restored { OnErr result
-        (Restores before path.now (HasRisen (F.failed_calls folder.old) (F.failed_calls folder.new)) (F.paths folder.old) (F.paths folder.new)
-        ⊎ RemovesEmpty before path.now (HasRisen (F.failed_calls folder.old) (F.failed_calls folder.new)) (F.paths folder.old) (F.paths folder.new)) }
+    ensures restored { IfErr result (λ opened. LeavesUnopened before path.now opened (HasRisen (F.failed_calls folder.old) (F.failed_calls folder.new))
+        (F.paths folder.old) (F.paths folder.new)) }
     ensures count { F.failed_calls folder.old ≤ F.failed_calls folder.new }
     ensures unread { reads_input choice.now ≡ false → source.new ≡ source.old }
     ensures unasked { asks_host choice.now ≡ false → host.new ≡ host.old }
     ensures reads { R.reads source.new ≤ R.reads source.old + most_reads }
 {
-    match connect(folder, path, before, start) {
-        Some(conn) => {
-            reopened(&conn);
-            Ok(run_on_connection(alloc, conn, choice, host, source, out))
-        }
-        None => Err(Failure::Refused(Refusal::Store)),
-    }
+    let conn = connect(folder, path, before, start)?;
+    reopened(&conn);
+    Ok(run_on_connection(alloc, conn, choice, host, source, out))
 }
 
 /// Does the work of a subcommand over the file at a path as `run_on_path` does, closes the file, and returns what became
@@ -118,7 +112,7 @@ pub fn run_in_file<D: Start, F: Folder, H: Accept + CsvFiles, R: Source, W: Sink
     ensures failed { IfErr result.0
         (λ failure. FailsOnStore ⟦<FileFrom<D> as Disk>⟧ (image_at D.Start) choice.now failure
         (IsUntouched source.old source.new out.old out.new host.old host.new)
-        (CannotBegin choice.now path.now failure (F.paths folder.old) (HasRisen (F.failed_calls folder.old) (F.failed_calls folder.new)))
+        (NeverBegins choice.now path.now failure (F.paths folder.old) (HasRisen (F.failed_calls folder.old) (F.failed_calls folder.new)) result.1)
         (around R.Source W.Sink H.CsvFiles H.Accept source.old out.old host.old)
         (around R.Source W.Sink H.CsvFiles H.Accept source.new out.new host.new) result.1) }
 
@@ -150,7 +144,10 @@ pub fn run_in_file<D: Start, F: Folder, H: Accept + CsvFiles, R: Source, W: Sink
             let restored = to_restore(&done, before);
             (done, close(folder, path, conn, restored))
         }
-        Err(failure) => (Err(failure), StoreAfter::Untouched),
+        Err(opened) => (
+            Err(Failure::Refused(Refusal::Store)),
+            StoreAfter::Unopened(opened),
+        ),
     }
 }
 
@@ -178,26 +175,24 @@ fn connect<D: Start, F: Folder>(
     path: &str,
     before: PathState,
     start: D,
-) -> Option<Connection<FileStore<FileFrom<D>>>>
-    ensures opened { IfSome result (λ conn. HasCleanDisk (file_state conn) → IsOpened conn) }
-    ensures found { IfSome result (λ conn. HasCleanDisk (file_state conn) → FindsIn (image_at D.Start) (file_state conn)) }
-    ensures kept { IfSome result (λ _. F.paths folder.new ≡ F.paths folder.old) }
-    ensures failed { IfNone result (HasRisen (F.failed_calls folder.old) (F.failed_calls folder.new)) }
-    ensures restored { IfNone result
-        (Restores before path.now (HasRisen (F.failed_calls folder.old) (F.failed_calls folder.new)) (F.paths folder.old) (F.paths folder.new)
-        ⊎ RemovesEmpty before path.now (HasRisen (F.failed_calls folder.old) (F.failed_calls folder.new)) (F.paths folder.old) (F.paths folder.new)) }
+) -> Result<Connection<FileStore<FileFrom<D>>>, Option<Files<FileFrom<D>>>>
+    ensures opened { IfOk result (λ conn. HasCleanDisk (file_state conn) → IsOpened conn) }
+    ensures found { IfOk result (λ conn. HasCleanDisk (file_state conn) → FindsIn (image_at D.Start) (file_state conn)) }
+    ensures kept { OnOk result (F.paths folder.new ≡ F.paths folder.old) }
+    ensures failed { OnErr result (HasRisen (F.failed_calls folder.old) (F.failed_calls folder.new)) }
+    ensures restored { IfErr result (λ opened. LeavesUnopened before path.now opened (HasRisen (F.failed_calls folder.old) (F.failed_calls folder.new))
+        (F.paths folder.old) (F.paths folder.new)) }
     ensures count { F.failed_calls folder.old ≤ F.failed_calls folder.new }
 {
     match folder.open(path, start) {
-        Ok(conn) => Some(conn),
+        Ok(conn) => Ok(conn),
         Err(Some(files)) => {
             restore(folder, path, before);
-            drop(files);
-            None
+            Err(Some(files))
         }
         Err(None) => {
             remove_empty(folder, path, before);
-            None
+            Err(None)
         }
     }
 }

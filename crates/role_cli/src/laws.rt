@@ -1,9 +1,11 @@
 //! The laws of the program's work.
+ghost use Rattle.sqlite.specs.Files.{over_files};
 ghost use Rattle.sqlite.specs.Held.{state};
 ghost use Rattle.role_cli.specs.Environment.{StartDecides};
-ghost use Rattle.role_cli.specs.FileWork.{DoneWorkIsStored, FailedWorkIsStored, MigrationIsStored, NewOfficeIsStored};
+ghost use Rattle.role_cli.specs.FileWork.{MigrationIsStored, NewOfficeIsStored, RefusedOpeningIsStored, WorkIsStored};
 ghost use Rattle.role_cli.specs.ServedConnections.{ServedAreAccepted};
-ghost use Rattle.role_cli.specs.Work.{NoneBeginsOverRefused};
+ghost use Rattle.role_cli.specs.Work.{DoesSubcommand, FailsSubcommand, NoneBeginsOverRefused};
+ghost use Rattle.role_cli.specs.declared.failure.Failure.{Failure};
 
 use role_tables::laws::refused_openings;
 use sqlite::{Alter, Connection};
@@ -20,10 +22,12 @@ pub fn refused_work<S: Alter>(_conn: &Connection<S>)
 /// What a subcommand did is in the file, and so is what it did before it failed: if it worked over files that
 /// stored a good state whose texts are valid names, and the files were closed then, the database file alone,
 /// without its log, stores the state that the work led to, as it reads now and after a crash. After `init`
-/// it stores the empty state, and after `migrate` the migrated one.
+/// it stores the empty state, and after `migrate` the migrated one. If the office could not be created, migrated or
+/// opened, it stores the state that was there.
 pub fn work_is_stored<D: Disk>(_disk: &D)
-    ensures done { DoneWorkIsStored D.Disk }
-    ensures failed { FailedWorkIsStored D.Disk }
+    ensures done { WorkIsStored D.Disk (λ chosen from to first last. DoesSubcommand (state over_files) chosen first from to last) }
+    ensures failed { (failure : Failure) → WorkIsStored D.Disk (λ chosen from to first last. FailsSubcommand (state over_files) chosen failure first from to last) }
+    ensures unopened { RefusedOpeningIsStored D.Disk }
     ensures created { NewOfficeIsStored D.Disk }
     ensures migrated { MigrationIsStored D.Disk }
 {}

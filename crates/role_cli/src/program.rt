@@ -8,7 +8,7 @@ ghost use Rattle.role_cli.specs.Around.{IsUntouched, around};
 ghost use Rattle.role_cli.specs.CommandLine.{program};
 ghost use Rattle.role_cli.specs.Environment.{HasFailed};
 ghost use Rattle.role_cli.specs.Hosts.{OnMachine};
-ghost use Rattle.role_cli.specs.Leftovers.{CannotBegin, LeavesPaths};
+ghost use Rattle.role_cli.specs.Leftovers.{LeavesPaths, NeverBegins};
 ghost use Rattle.role_cli.specs.ProgramOutcome.{FailsBy, FailsSomehow, IsDone, IsDoneSomehow, is_memory_replay, path_of};
 ghost use Rattle.role_cli.specs.ErrorOutput.{IsLineOf, Says, SaysSome, both_or_neither_line, no_memory_line};
 ghost use Rattle.role_cli.specs.Work.{asks_host, reads_input};
@@ -75,7 +75,7 @@ pub fn run<R: Source, W: Sink, E: Sink>(
         × (reads_input choice ≡ false → source.new ≡ source.old)
         × OnMachine R.Source W.Sink
         (FailsSomehow ⟦<MemoryFile as Disk>⟧ ⟦<File as Disk>⟧ choice failure ((source.new ≡ source.old) × (out.new ≡ out.old))
-        ((calls : ℕ) × CannotBegin choice (path_of choice) failure None (HasRisen 0 calls))) source.old out.old source.new out.new)) }
+        (λ became. (calls : ℕ) × NeverBegins choice (path_of choice) failure None (HasRisen 0 calls) became)) source.old out.old source.new out.new)) }
     ensures silent { result ≡ 0 → err.new ≡ err.old }
     ensures reads { R.reads source.new ≤ R.reads source.old + most_reads }
 {
@@ -135,12 +135,12 @@ pub fn run_with<D: Start, F: Folder, H: Accept + CsvFiles, R: Source, W: Sink, E
         × (reads_input choice ≡ false → source.new ≡ source.old) × (asks_host choice ≡ false → host.new ≡ host.old)
         × FailsBy ⟦<MemoryFile as Disk>⟧ ⟦<FileFrom<D> as Disk>⟧ (image_at D.Start) choice failure
         (IsUntouched source.old source.new out.old out.new host.old host.new)
-        (CannotBegin choice (path_of choice) failure (F.paths folder.old) (HasRisen (F.failed_calls folder.old) (F.failed_calls folder.new)))
+        (NeverBegins choice (path_of choice) failure (F.paths folder.old) (HasRisen (F.failed_calls folder.old) (F.failed_calls folder.new)) result.1)
         (around R.Source W.Sink H.CsvFiles H.Accept source.old out.old host.old)
         (around R.Source W.Sink H.CsvFiles H.Accept source.new out.new host.new) result.1)) }
 
     // What is at the paths then: what the work made, and nothing is removed but leftovers and a log that was copied.
-    ensures left { (folder.new ≡ folder.old) ⊎ ((choice : Choice) × Chooses (subcommand_of program (map (λ s. s.now) words.entry.now)) choice
+    ensures left { ((result.1 ≡ StoreAfter.Untouched) × (F.paths folder.new ≡ F.paths folder.old)) ⊎ ((choice : Choice) × Chooses (subcommand_of program (map (λ s. s.now) words.entry.now)) choice
         × LeavesPaths choice (path_of choice) (result.0 == 1) result.1 (HasRisen (F.failed_calls folder.old) (F.failed_calls folder.new))
         (F.paths folder.old) (F.paths folder.new)) }
     ensures silent { result.0 ≡ 0 → err.new ≡ err.old }
@@ -179,10 +179,10 @@ fn run_choice<D: Start, F: Folder, H: Accept + CsvFiles, R: Source, W: Sink>(
     ensures failed { IfErr result.0
         (λ failure. FailsBy ⟦<MemoryFile as Disk>⟧ ⟦<FileFrom<D> as Disk>⟧ (image_at D.Start) choice.now failure
         (IsUntouched source.old source.new out.old out.new host.old host.new)
-        (CannotBegin choice.now (path_of choice.now) failure (F.paths folder.old) (HasRisen (F.failed_calls folder.old) (F.failed_calls folder.new)))
+        (NeverBegins choice.now (path_of choice.now) failure (F.paths folder.old) (HasRisen (F.failed_calls folder.old) (F.failed_calls folder.new)) result.1)
         (around R.Source W.Sink H.CsvFiles H.Accept source.old out.old host.old)
         (around R.Source W.Sink H.CsvFiles H.Accept source.new out.new host.new) result.1) }
-    ensures left { (folder.new ≡ folder.old) ⊎ LeavesPaths choice.now (path_of choice.now) (is_err result.0) result.1
+    ensures left { LeavesPaths choice.now (path_of choice.now) (is_err result.0) result.1
         (HasRisen (F.failed_calls folder.old) (F.failed_calls folder.new)) (F.paths folder.old) (F.paths folder.new) }
     ensures unread { reads_input choice.now ≡ false → source.new ≡ source.old }
     ensures unasked { asks_host choice.now ≡ false → host.new ≡ host.old }

@@ -1,5 +1,5 @@
 //! The work of each subcommand over the office of an open connection, whatever its store.
-ghost use Rattle.std.specs.Prelude.{◌≡◌, ◌⊎◌, ◌≤◌, ◌+◌, ◌++◌, ◌∷◌, [], ℕ, List, false, Ok, Err, IfErr, IfOk, IsOk, IsTrue, MatchResult, OnOk, codes, string_bytes};
+ghost use Rattle.std.specs.Prelude.{◌≡◌, ◌⊎◌, ◌≤◌, ◌+◌, ◌++◌, ◌∷◌, [], ℕ, List, false, Ok, Err, IfErr, IfOk, IsOk, MatchResult, OnOk, string_bytes};
 ghost use Rattle.std.specs.Io.KnownBytes.{Appends};
 ghost use Rattle.sqlite.specs.Held.{state};
 ghost use Rattle.sqlite.specs.State.{HasCleanDisk};
@@ -104,7 +104,7 @@ fn office_of<S: Alter>(
         (λ office. HasCleanDisk (state S.Store office.conn) → BeginsRun (state S.Store) choice.now (state S.Store conn) office) }
     ensures refusal { IfErr result (λ u. IsOpeningFailure choice.now (Failure.Refused u.refusal)) }
     ensures unopened { IfErr result
-        (λ u. HasCleanDisk (state S.Store u.conn) → IsUnopened (state S.Store) choice.now (state S.Store conn) u.refusal (state S.Store u.conn)) }
+        (λ u. HasCleanDisk (state S.Store u.conn) → IsUnopened choice.now (state S.Store conn) u.refusal (state S.Store u.conn)) }
 {
     match choice {
         Choice::Init(_) => create(alloc, conn),

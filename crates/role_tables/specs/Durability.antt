@@ -49,6 +49,10 @@ ForgetsNoFault old new = HasCleanDisk new → HasCleanDisk old
 abbrev pub HoldsAsBefore : State → State → Type 0
 HoldsAsBefore old new = IsTrue new.is_open → new.now ≡ old.now
 
+-- a connection outside a transaction stays so
+abbrev pub StaysOutside : State → State → Type 0
+StaysOutside old new = old.in_transaction ≡ false → new.in_transaction ≡ false
+
 -- a crash leaves the state
 abbrev pub LeavesOnly : State → RbacState → Type 0
 LeavesOnly s S = (trees : Trees) → s.may_leave trees → LeavesState S trees

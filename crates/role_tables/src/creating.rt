@@ -5,7 +5,7 @@ ghost use Rattle.sqlite.specs.State.{HasCleanDisk, KeepsCommit, Survives};
 ghost use Rattle.sqlite.specs.Held.{state};
 ghost use Rattle.role_tables.specs.Creation.{IsFirstStage, CreatesOffice, MayCreate, StageAfter};
 ghost use Rattle.role_tables.specs.Runs.{IsInRun};
-ghost use Rattle.role_tables.specs.Durability.{ForgetsNoFault, HoldsAsBefore, LeavesBeforeOr, TransactsTo};
+ghost use Rattle.role_tables.specs.Durability.{ForgetsNoFault, HoldsAsBefore, LeavesBeforeOr, StaysOutside, TransactsTo};
 
 use crate::office::Office;
 use crate::opening::Unopened;
@@ -54,6 +54,7 @@ fn create_with<S: Alter>(conn: Connection<S>, first: State) -> Result<Office<S>,
     ensures run { IfOk result (λ o. IsInRun (state S.Store) first.facts [] o) }
     ensures err { IfErr result (λ u. u.refusal ≡ Refusal.Store) }
     ensures untouched { IfErr result (λ u. (MayCreate first.facts.version (state S.Store conn) → ⊥) → u.conn ≡ conn) }
+    ensures outside { IfErr result (λ u. StaysOutside (state S.Store conn) (state S.Store u.conn)) }
     ensures undone { IfErr result (λ u. HasCleanDisk (state S.Store u.conn) → HoldsAsBefore (state S.Store conn) (state S.Store u.conn)) }
     ensures crash { IfErr result (λ u. HasCleanDisk (state S.Store u.conn) → LeavesBeforeOr (state S.Store conn) (state S.Store u.conn) first.facts) }
 {
@@ -91,6 +92,7 @@ pub fn create<S: Alter>(alloc: Global, conn: Connection<S>) -> Result<Office<S>,
     ensures run { IfOk result (λ o. IsInRun (state S.Store) (empty_state 2) [] o) }
     ensures err { IfErr result (λ u. u.refusal ≡ Refusal.Store) }
     ensures untouched { IfErr result (λ u. (MayCreate 2 (state S.Store conn) → ⊥) → u.conn ≡ conn) }
+    ensures outside { IfErr result (λ u. StaysOutside (state S.Store conn) (state S.Store u.conn)) }
     ensures undone { IfErr result (λ u. HasCleanDisk (state S.Store u.conn) → HoldsAsBefore (state S.Store conn) (state S.Store u.conn)) }
     ensures crash { IfErr result (λ u. HasCleanDisk (state S.Store u.conn) → LeavesBeforeOr (state S.Store conn) (state S.Store u.conn) (empty_state 2)) }
 {
@@ -108,6 +110,7 @@ pub fn create_v1<S: Alter>(alloc: Global, conn: Connection<S>) -> Result<Office<
     ensures run { IfOk result (λ o. IsInRun (state S.Store) (empty_state 1) [] o) }
     ensures err { IfErr result (λ u. u.refusal ≡ Refusal.Store) }
     ensures untouched { IfErr result (λ u. (MayCreate 1 (state S.Store conn) → ⊥) → u.conn ≡ conn) }
+    ensures outside { IfErr result (λ u. StaysOutside (state S.Store conn) (state S.Store u.conn)) }
     ensures undone { IfErr result (λ u. HasCleanDisk (state S.Store u.conn) → HoldsAsBefore (state S.Store conn) (state S.Store u.conn)) }
     ensures crash { IfErr result (λ u. HasCleanDisk (state S.Store u.conn) → LeavesBeforeOr (state S.Store conn) (state S.Store u.conn) (empty_state 1)) }
 {

@@ -7,7 +7,7 @@ ghost use Rattle.role_tables.specs.TableContents.{contents_of};
 ghost use Rattle.role_tables.specs.Migration.{IsMigratedFrom, LeavesEitherVersion, MigratesTables, MigratesDurably, RefusesMigration, StaysRefused};
 ghost use Rattle.role_tables.specs.OpeningChecks.{is_opening_refusal, IsOfVersion2};
 ghost use Rattle.role_tables.specs.Runs.{IsInRun};
-ghost use Rattle.role_tables.specs.Durability.{ForgetsNoFault, HoldsAsBefore, WhateverIsDurable};
+ghost use Rattle.role_tables.specs.Durability.{ForgetsNoFault, HoldsAsBefore, StaysOutside, WhateverIsDurable};
 
 use crate::content_checks::{read_state, refuse_v2};
 use crate::office::Office;
@@ -103,6 +103,7 @@ pub fn migrate<S: Alter>(alloc: Global, conn: Connection<S>) -> Result<Office<S>
     ensures refusal { IfErr result (λ u. IsTrue (is_opening_refusal u.refusal)) }
     ensures err { IfErr result (λ u. HasCleanDisk (state S.Store u.conn) → RefusesMigration (contents_of (state S.Store conn).now) u.refusal) }
     ensures inside { IfErr result (λ u. (state S.Store conn).in_transaction ≡ true → (u.refusal ≡ Refusal.Store) × (u.conn ≡ conn)) }
+    ensures outside { IfErr result (λ u. StaysOutside (state S.Store conn) (state S.Store u.conn)) }
     ensures undone { IfErr result (λ u. HasCleanDisk (state S.Store u.conn) → u.refusal ≢ Refusal.Store → HoldsAsBefore (state S.Store conn) (state S.Store u.conn)) }
     ensures moved { IfOk result (λ o. HasCleanDisk (state S.Store o.conn) → MigratesDurably (state S.Store conn) (state S.Store o.conn) o.facts) }
     ensures clean { MatchResult result (λ o. ForgetsNoFault (state S.Store conn) (state S.Store o.conn)) (λ u. ForgetsNoFault (state S.Store conn) (state S.Store u.conn)) }

@@ -5,7 +5,7 @@ ghost use Rattle.sqlite.specs.Held.{state};
 ghost use Rattle.role_tables.specs.TableContents.{contents_of};
 ghost use Rattle.role_tables.specs.OpeningChecks.{is_opening_refusal, IsMemoryOrStore, ReadsState, RefusesContents};
 ghost use Rattle.role_tables.specs.Runs.{IsInRun};
-ghost use Rattle.role_tables.specs.Durability.{HoldsAsBefore, LeavesOnly, IsDurable, WhateverIsDurable};
+ghost use Rattle.role_tables.specs.Durability.{HoldsAsBefore, LeavesOnly, IsDurable, StaysOutside, WhateverIsDurable};
 
 use crate::content_checks::read_state;
 use crate::office::Office;
@@ -42,6 +42,7 @@ pub fn open<S: Alter>(alloc: Global, conn: Connection<S>) -> Result<Office<S>, U
     ensures refusal { IfErr result (λ u. IsTrue (is_opening_refusal u.refusal)) }
     ensures err { IfErr result (λ u. HasCleanDisk (state S.Store u.conn) → (u.refusal ≡ Refusal.Store) ⊎ RefusesContents (contents_of (state S.Store conn).now) u.refusal) }
     ensures inside { IfErr result (λ u. (state S.Store conn).in_transaction ≡ true → (u.refusal ≡ Refusal.Store) × (u.conn ≡ conn)) }
+    ensures outside { IfErr result (λ u. StaysOutside (state S.Store conn) (state S.Store u.conn)) }
     ensures undone { IfErr result (λ u. HasCleanDisk (state S.Store u.conn) → HoldsAsBefore (state S.Store conn) (state S.Store u.conn)) }
     ensures survives { MatchResult result (λ o. Survives (state S.Store conn) (state S.Store o.conn) (λ _. ⊥)) (λ u. Survives (state S.Store conn) (state S.Store u.conn) (λ _. ⊥)) }
     ensures again { IfOk result (λ o. HasCleanDisk (state S.Store o.conn) → WhateverIsDurable (state S.Store conn) (λ before. (o.facts ≡ before) × IsDurable (state S.Store o.conn) before)) }

@@ -1,4 +1,4 @@
-use Rattle.std.proofs.Common.{inl, inr, refl, arith, ◌∙◌}
+use Rattle.std.proofs.Common.{inr, refl, arith, ◌∙◌}
 use Rattle.role_cli.proofs.Beginning.{store_fails}
 use Rattle.role_cli.proofs.FileWork.{fails_on, works_on}
 use Rattle.role_cli.proofs.PathChanges.{closed_left, risen_later, unopened_left}
@@ -14,7 +14,7 @@ pub returns-in-Err-clause-some_failed : goal.returns-in-Err-clause-some_failed
 returns-in-Err-clause-some_failed g c = inr (c.in-Err.ensures.refusal, (refl, refl, refl))
 
 pub returns-in-Err-clause-left : goal.returns-in-Err-clause-left
-returns-in-Err-clause-left g c = inl c.in-Err.ensures.same
+returns-in-Err-clause-left g c = c.in-Err.ensures.same
 
 -- ---- the work was done over the connection, and so over the files, by what became of them
 
@@ -46,13 +46,13 @@ returns-in-Ok-run_on_path-clause-left g c =
 pub returns-in-Err-run_on_path-clause-failed : goal.returns-in-Err-run_on_path-clause-failed
 returns-in-Err-run_on_path-clause-failed g c =
     let why = c.in-Err-run_on_path.ensures.unopened in
-    (why.1, inr (inr (inr why.0, risen_later _ _ _ c.in-Ok.ensures.count why.2)))
+    (why.0, (refl, risen_later _ _ _ c.in-Ok.ensures.count why.1))
 
 pub returns-in-Err-run_on_path-clause-some_failed : goal.returns-in-Err-run_on_path-clause-some_failed
 returns-in-Err-run_on_path-clause-some_failed g c =
     let why = c.in-Err-run_on_path.ensures.unopened in
-    inr (store_fails c.args.choice.now _ why.0, why.1)
+    inr (store_fails c.args.choice.now _ refl, why.0)
 
 pub returns-in-Err-run_on_path-clause-left : goal.returns-in-Err-run_on_path-clause-left
 returns-in-Err-run_on_path-clause-left g c =
-    inr (c.in-Ok.before, c.in-Ok.ensures.before, unopened_left c.in-Ok.before c.args.path.now _ _ _ _ _ _ c.in-Ok.ensures.same c.in-Ok.ensures.count c.in-Err-run_on_path.ensures.restored)
+    (c.in-Ok.before, c.in-Ok.ensures.before, unopened_left c.in-Err-run_on_path.opened c.in-Ok.before c.args.path.now _ _ _ _ _ _ c.in-Ok.ensures.same c.in-Ok.ensures.count c.in-Err-run_on_path.ensures.restored)

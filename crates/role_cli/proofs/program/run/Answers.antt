@@ -1,8 +1,9 @@
-use Rattle.std.proofs.Common.{inl, inr, subst}
+use Rattle.std.proofs.Common.{ℕ, ◌≡◌, inl, inr, subst}
 use Rattle.std.specs.Prelude.{None}
 use Rattle.rbac_sets.specs.Stream.{HasRisen}
+use Rattle.role_cli.specs.Around.{IsUntouched}
 use Rattle.role_cli.specs.Hosts.{failed_in_folder}
-use Rattle.role_cli.specs.Leftovers.{CannotBegin}
+use Rattle.role_cli.specs.Leftovers.{NeverBegins}
 use Rattle.role_cli.specs.ProgramOutcome.{FailsSomehow, IsDoneSomehow, path_of}
 use Rattle.role_cli.proofs.Beginning.{fails_less}
 use Rattle.role_cli.proofs.Machines.{on_machine}
@@ -43,8 +44,8 @@ returns-clause-stopped g c one =
           on_machine g.R.Source g.W.Sink (FailsSomehow _ _ choice failure _ _) c.args.source.now c.run_with-status.new.source c.args.out.now c.run_with-status.new.out machine now c.new-machine.ensures.clients c.new-machine.ensures.failed (
             _,
             c.run_with-status.result.1,
-            fails_less _ _ _ choice failure _ _ _ _ _ _ c.run_with-status.result.1 (λ kept. (kept.0, kept.1))
-                (λ cannot. (calls, subst (λ n. CannotBegin choice (path_of choice) failure None (HasRisen n calls)) c.new-folder.ensures cannot)) fails,
+            fails_less _ _ _ choice failure _ ((c.run_with-status.new.source ≡ c.args.source.now) × (c.run_with-status.new.out ≡ c.args.out.now)) _ ((n : ℕ) × NeverBegins choice (path_of choice) failure None (HasRisen 0 n) c.run_with-status.result.1) _ _ c.run_with-status.result.1 (λ (kept : IsUntouched c.args.source.now c.run_with-status.new.source c.args.out.now c.run_with-status.new.out machine now). (kept.0, kept.1))
+                (λ cannot. (calls, subst (λ n. NeverBegins choice (path_of choice) failure None (HasRisen n calls) c.run_with-status.result.1) c.new-folder.ensures cannot)) fails,
           ),
         ),
       )

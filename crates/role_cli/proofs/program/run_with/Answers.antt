@@ -31,10 +31,7 @@ returns-in-Ok-clause-left g c =
     let paths = g.F.Folder.paths c.args.folder.now in
     let now = g.F.Folder.paths c.run_choice-done.new.folder in
     let call_failed = HasRisen (g.F.Folder.failed_calls c.args.folder.now) (g.F.Folder.failed_calls c.run_choice-done.new.folder) in
-    elim c.run_choice-done.ensures.left [
-      | inl same ↦ inl same
-      | inr leaves ↦ inr (chosen, c.in-Ok.ensures.ok, subst (λ b. LeavesPaths chosen (path_of chosen) b c.run_choice-done.result.1 call_failed paths now) (sym c.status_of.ensures.failed) leaves)
-    ]
+    inr (chosen, c.in-Ok.ensures.ok, subst (λ b. LeavesPaths chosen (path_of chosen) b c.run_choice-done.result.1 call_failed paths now) (sym c.status_of.ensures.failed) c.run_choice-done.ensures.left)
 
 -- An allocation failed before anything was chosen.
 pub returns-in-Err-Memory-clause-stopped : goal.returns-in-Err-Memory-clause-stopped

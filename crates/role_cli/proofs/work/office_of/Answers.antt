@@ -3,7 +3,7 @@ use Rattle.sqlite.specs.Held.{state}
 use Rattle.role_wire.proofs.Results.{if_err-then}
 use Rattle.role_cli.specs.declared.failure.Failure.TheVariants.{Refused}
 use Rattle.role_cli.proofs.Beginning.{begins_open, refusal_fails, starts_open, unopened_open}
-use Rattle.role_cli.proofs.Results.{if_err-three, if_ok-join, if_ok-three}
+use Rattle.role_cli.proofs.Results.{if_err-four, if_ok-join, if_ok-three}
 use Rattle.role_cli.proofs.work.office_of.Goals as goal
 
 -- ---- an office is created
@@ -14,7 +14,8 @@ returns-in-Init-clause-begins g c =
 
 pub returns-in-Init-clause-unopened : goal.returns-in-Init-clause-unopened
 returns-in-Init-clause-unopened g c =
-    rw c.in-Init.is (if_err-three c.create.result _ _ _ _ c.create.ensures.err c.create.ensures.undone c.create.ensures.crash (λ u why held left clean. (why, held clean, left clean)))
+    rw c.in-Init.is (if_err-four c.create.result _ _ _ _ _ c.create.ensures.err c.create.ensures.undone c.create.ensures.crash c.create.ensures.outside
+    (λ u why held left outside clean. (why, held clean, left clean, outside)))
 
 pub returns-in-Init-clause-refusal : goal.returns-in-Init-clause-refusal
 returns-in-Init-clause-refusal g c = rw c.in-Init.is (if_err-then c.create.result _ _ c.create.ensures.err (λ u is. ap Refused is))
@@ -28,7 +29,8 @@ returns-in-Migrate-clause-begins g c =
 
 pub returns-in-Migrate-clause-unopened : goal.returns-in-Migrate-clause-unopened
 returns-in-Migrate-clause-unopened g c =
-    rw c.in-Migrate.is (if_err-three c.migrate.result _ _ _ _ c.migrate.ensures.err c.migrate.ensures.unmoved c.migrate.ensures.crash (λ u why stays left clean. (why clean, stays clean, left clean)))
+    rw c.in-Migrate.is (if_err-four c.migrate.result _ _ _ _ _ c.migrate.ensures.err c.migrate.ensures.unmoved c.migrate.ensures.crash c.migrate.ensures.outside
+    (λ u why stays left outside clean. (why clean, stays clean, left clean, outside)))
 
 pub returns-in-Migrate-clause-refusal : goal.returns-in-Migrate-clause-refusal
 returns-in-Migrate-clause-refusal g c = rw c.in-Migrate.is (if_err-then c.migrate.result _ _ c.migrate.ensures.refusal (λ u is. (u.refusal, refl, is)))
@@ -46,8 +48,8 @@ returns-in_default-clause-begins g c =
 
 pub returns-in_default-clause-unopened : goal.returns-in_default-clause-unopened
 returns-in_default-clause-unopened g c =
-    if_err-three c.open.result _ _ _ _ c.open.ensures.err c.open.ensures.undone c.open.ensures.refused
-    (λ u why held left clean. unopened_open c.args.choice.now c.in_default.not-Init c.in_default.not-Migrate (state g.S.Store) (state g.S.Store c.args.conn) u.refusal (state g.S.Store u.conn) (why clean) (held clean) (left clean))
+    if_err-four c.open.result _ _ _ _ _ c.open.ensures.err c.open.ensures.undone c.open.ensures.refused c.open.ensures.outside
+    (λ u why held left outside clean. unopened_open c.args.choice.now c.in_default.not-Init c.in_default.not-Migrate (state g.S.Store c.args.conn) u.refusal (state g.S.Store u.conn) (why clean) (held clean) (left clean) outside)
 
 pub returns-in_default-clause-refusal : goal.returns-in_default-clause-refusal
 returns-in_default-clause-refusal g c = if_err-then c.open.result _ _ c.open.ensures.refusal (λ u is. refusal_fails c.args.choice.now u.refusal c.in_default.not-Init is)
