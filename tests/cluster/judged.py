@@ -1,5 +1,6 @@
 """Clients ask all nodes at once while machines fail, and all that was answered is judged."""
 
+import re
 import shutil
 import signal
 import threading
@@ -100,8 +101,8 @@ def judge_faults(bench, folder, node, count, between, seed):
         for what, times in sorted(faults.counts.items()):
             print(f"{times:9,}  {what}")
         bench.judge(f"nothing answered wrongly (seed {seed})", (faults.faults + trial.judge())[:20])
-        kills = sum(times for what, times in faults.counts.items() if "killed" in what or "paused" in what)
-        bench.judge("as many kills and pauses as wanted", [] if kills >= 0.75 * count else [f"only {kills}"])
+        kills = sum(times for what, times in faults.counts.items() if re.search("killed|paused|ended", what))
+        bench.judge("as many kills, ends and pauses as wanted", [] if kills >= 0.75 * count else [f"only {kills}"])
 
 
 # By its fault: what reveals it.

@@ -12,7 +12,8 @@ OK, REFUSED = b'{"ok":true}', b'{"code":1,"error":"UserExists"}'
 
 def asked(number, node, status, answer=b"", revision=0):
     """A request of the client of this number."""
-    return Asked(COMMAND, node, LINE, float(number), number + 0.5, status, answer, revision, 0, 0.0, f"token:client{number}", f"{number}-1")
+    who = {"caller": f"token:client{number}", "reason": f"{number}-1"}
+    return Asked(COMMAND, node, LINE, float(number), number + 0.5, status, answer, revision, **who)
 
 
 def entry_of(number, one, answer):

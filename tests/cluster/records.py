@@ -233,8 +233,9 @@ def judge_shown(bench, cluster):
     status, out, said = tool(cluster.node, "verify", "--data", data, "--head", head)
     says = f"entries 1 to {entries[-1].n}: the chain holds, and the program gives the same answers"
     bench.judge("verify", [] if status == 0 and says in out and "the newest snapshot has the rows" in out else [out + said])
+    cluster.until(lambda: "rbac_node_record_head{" in cluster.get(0, "/metrics", 8081)[1].decode(), "the head was logged")
     text = cluster.get(0, "/metrics", 8081)[1].decode()
-    bench.judge("metrics", [] if "rbac_node_record_head{" in text and "rbac_node_record_failing 0" in text else [text])
+    bench.judge("metrics", [] if "rbac_node_record_failing 0" in text else [text])
     cluster.nodes[0].stop(signal.SIGTERM)
     bench.same("the head is logged", f'"entry":{entries[-1].n},"chain":"{entries[-1].chain}"' in log_of(cluster, 0), True)
     cluster.nodes[0].start()

@@ -139,7 +139,7 @@ def check_limits(bench):
             ("a role with many users", ("roles", f"role {CROWDED:04}"), "", "Granted to this role itself: 1 to 100 of 1,2"),
             ("one object", ("objects", "object 0000"), "", "Operation read"),
             ("the sets", ("separation",), "", "There is no static set."),
-            ("the record", ("record",), "", "The record begins."),
+            ("the record", ("record",), "", "The record adopts the office as it is, by tests."),
             ("the report of one user", ("reports", "permissions"), "?user=user+00003", "user 00003"),
             ("the report of one set", ("reports", "near"), "?set=set+07&left=30", "set 07"),
         ]:

@@ -301,7 +301,7 @@ def check_record(bench):
         rows = page.text().split("\n")
         bench.judge("what is there", [f"{wanted} isn't in {rows}" for wanted in (
             "carol is assigned to cashier.\tGrüße, Ticket 4711", "refused carol can't become auditor: the set audit forbids it.\tGrüße, Ticket 4711",
-            "The record begins.") if wanted not in page.text()])  # fmt: skip
+            "The record adopts the office as it is, by tests.") if wanted not in page.text()])  # fmt: skip
         done = subprocess.run(
             [os.environ[PROGRAM], "record", "head", "--office", front.office], capture_output=True, text=True, check=True
         )
@@ -360,7 +360,7 @@ def check_overview(bench):
         page.open("")
         text = page.text()
         bench.judge("the overview", [f"{wanted} isn't in {text}" for wanted in (
-            "The office answers.", "The front is open: everybody", "Users\t7\t20,000\t19,993", "Roles\t5\t1,024\t1,019", "The record begins.")
+            "The office answers.", "The front is open: everybody", "Users\t7\t20,000\t19,993", "Roles\t5\t1,024\t1,019", "The record adopts the office as it is, by tests.")
             if wanted not in text])  # fmt: skip
         bench.same("the picture", page.run("return document.querySelector('.picture img')?.naturalWidth > 0"), True)
         bench.same("complaints", page.complaints(), [])

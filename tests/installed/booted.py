@@ -274,7 +274,7 @@ OFFICES = "".join(f"/var/lib/rbac/{name}/office\n" for name in ("alone", "main",
 SAID = {
     "earlier": f'{{"ok":true}} 200\nrbac.service rbac installed, {OLDER}\n',
     "installed": f"rbac.service rbac installed\n{NOTHING}",
-    "moved": f"{NOTHING}inactive\n",
+    "moved": f"the record begins over the office as it is, at entry 1\n{NOTHING}inactive\n",
     "office": """{"ok":true}
 healthy
 /etc/rbac root:rbac 750

@@ -115,7 +115,11 @@ func (f *Frozen) sessionsAfter(call *api.Call) (found []holding) {
 	name := call.Texts["session"]
 	switch call.Function {
 	case "createSession":
-		return []holding{{call.Texts["user"], digest(name), append([]string(nil), call.Roles...)}}
+		active := map[string]bool{}
+		for _, role := range call.Roles {
+			active[role] = true
+		}
+		return []holding{{call.Texts["user"], digest(name), Set{Roles: active}.members()}}
 	case "addActiveRole":
 		active := map[string]bool{call.Texts["role"]: true}
 		for _, one := range f.Sessions {
