@@ -48,10 +48,15 @@ func printed(text string) string {
 	if strings.IndexFunc(text, func(letter rune) bool { return !isShown(letter) }) < 0 {
 		return text
 	}
+	return escaped(text, isShown)
+}
+
+// escaped returns a text in which all letters but those that are kept are written as JSON escapes them.
+func escaped(text string, isKept func(rune) bool) string {
 	var out strings.Builder
 	for _, letter := range text {
 		switch {
-		case isShown(letter):
+		case isKept(letter):
 			out.WriteRune(letter)
 		case letter > 0xffff:
 			first, second := utf16.EncodeRune(letter)

@@ -10,7 +10,6 @@ import (
 	"strconv"
 	"strings"
 	"time"
-	"unicode/utf16"
 )
 
 const (
@@ -119,17 +118,5 @@ func messageOf(office string, e *entry) string {
 
 // inASCII returns a text of JSON in which all other letters are escaped.
 func inASCII(text string) string {
-	var out strings.Builder
-	for _, letter := range text {
-		switch {
-		case letter >= ' ' && letter < 0x7f:
-			out.WriteRune(letter)
-		case letter > 0xffff:
-			first, second := utf16.EncodeRune(letter)
-			fmt.Fprintf(&out, "\\u%04x\\u%04x", first, second)
-		default:
-			fmt.Fprintf(&out, "\\u%04x", letter)
-		}
-	}
-	return out.String()
+	return escaped(text, func(letter rune) bool { return letter >= ' ' && letter < 0x7f })
 }
