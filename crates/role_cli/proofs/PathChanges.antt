@@ -1,11 +1,12 @@
 -- What is at the path of an office before the work, and what is removed after it.
 use Rattle.std.proofs.Common.{◌≡◌, ◌∙◌, ◌≤◌, ℕ, Bool, true, false, List, [], ◌∷◌, ◌++◌, Option, Some, None, inl, inr, refl, sym, ap, subst, arith}
-use Rattle.std.specs.Prelude.{◌||◌, ◌⊎◌, IfSome, codes, if◌then◌else◌}
+use Rattle.std.specs.Prelude.{◌||◌, ◌⊎◌, ◌-◌, ◌^◌, IfSome, codes, nat_lt, if◌then◌else◌}
 use Rattle.std.specs.List.{list_any}
 use Rattle.std.specs.Str.{bytes_eq}
-use Rattle.std.proofs.lemmas.Bool.{true≢false}
+use Rattle.std.proofs.lemmas.Bool.{cases_Bool, ltb-false, true≢false}
 use Rattle.std.proofs.lemmas.List.Folds.{list_any-append}
-use Rattle.rbac_sets.specs.Stream.{HasRisen}
+use Rattle.rbac_sets.specs.Stream.{HasRisen, one_more}
+use Rattle.rbac_sets.proofs.Counting.{one_more-grows, one_more-most, risen_since}
 use Rattle.sqlite_disk.specs.declared.Disk.{Ghosts}
 use Rattle.sqlite_disk.specs.declared.Files.{Files}
 use Rattle.role_cli.specs.Leftovers.{IsBefore, IsBegun, IsLogWithoutPage, LeavesClosed, LeavesPaths, LeavesUnopened, RemovesEmpty, RemovesSiblings, Restores, leftovers, siblings, without_leftover, without_siblings}
@@ -20,15 +21,25 @@ use Rattle.role_cli.specs.declared.store_after.StoreAfter.TheVariants as after
 
 -- ---- counts of calls that failed
 
--- a count that rose later has risen
-pub risen_later : (a b c : ℕ) → a ≤ b → HasRisen b c → HasRisen a c
-risen_later a b c up (inl more) = inl (omega (arith, up, more))
-risen_later a b c up (inr full) = inr full
-
 -- a count that had risen has not fallen since
 pub risen_still : (a b c : ℕ) → b ≤ c → HasRisen a b → HasRisen a c
 risen_still a b c up (inl more) = inl (omega (arith, up, more))
 risen_still a b c up (inr full) = inr (omega (arith, up, full))
+
+-- one more call keeps the order of two counts, unless the greater one has saturated
+one_more-keeps : (a b : ℕ) → a ≤ b → (one_more a ≤ one_more b) ⊎ (2 ^ 64 - 1 ≤ b)
+one_more-keeps a b up = elim (cases_Bool (nat_lt b (2 ^ 64 - 1))) [
+  | inl below ↦ inl (rw below (omega (arith, up, one_more-most a)))
+  | inr most ↦ inr (ltb-false b (2 ^ 64 - 1) most)
+]
+
+-- a count that rose after one more call had failed
+pub risen_after_one : (a b c : ℕ) → a ≤ b → HasRisen (one_more b) c → HasRisen (one_more a) c
+risen_after_one a b c up (inr full) = inr full
+risen_after_one a b c up (inl more) = elim (one_more-keeps a b up) [
+  | inl still ↦ inl (omega (arith, still, more))
+  | inr full ↦ inr (omega (arith, full, one_more-grows b, more))
+]
 
 changes_later : (changed : List (List ℕ)) (wanted old : Paths) (f g : Type 0) (now : Option Paths) → (f → g) → Changes changed wanted f old now → Changes changed wanted g old now
 changes_later changed wanted old f g now step (new, is, same, inl done) = (new, is, same, inl done)
@@ -62,20 +73,22 @@ closed_later before path (after.Unopened opened) e f old now step none = none
 
 -- what was removed after an opening that failed, which itself had changed no path
 pub unopened_left : {F : Type 0} (opened : Option (Files F)) (before : PathState) (path : List ℕ) (first mid last : ℕ) (old then_paths now : Option Paths) → then_paths ≡ old → first ≤ mid
-    → LeavesUnopened before path opened (HasRisen mid last) then_paths now → LeavesUnopened before path opened (HasRisen first last) old now
+    → LeavesUnopened before path opened (HasRisen (one_more mid) last) then_paths now → LeavesUnopened before path opened (HasRisen (one_more first) last) old now
 unopened_left (Some files) before path first mid last old then_paths now same up restores =
-    restores_later before path (HasRisen mid last) (HasRisen first last) old now (risen_later first mid last up) (subst (λ p. Restores before path (HasRisen mid last) p now) same restores)
+    restores_later before path (HasRisen (one_more mid) last) (HasRisen (one_more first) last) old now (risen_after_one first mid last up)
+    (subst (λ p. Restores before path (HasRisen (one_more mid) last) p now) same restores)
 unopened_left None before path first mid last old then_paths now same up removes =
-    removes_empty_later before path (HasRisen mid last) (HasRisen first last) old now (risen_later first mid last up) (subst (λ p. RemovesEmpty before path (HasRisen mid last) p now) same removes)
+    removes_empty_later before path (HasRisen (one_more mid) last) (HasRisen (one_more first) last) old now (risen_after_one first mid last up)
+    (subst (λ p. RemovesEmpty before path (HasRisen (one_more mid) last) p now) same removes)
 
 -- what was removed after a close
 module _ {F : Type 0} {g : Ghosts F} (chosen : Choice) (path : List ℕ) (has_failed : Bool) (before restored : PathState) (first mid last : ℕ) (old then_paths now : Option Paths)
     (was : IfSome old (IsBefore chosen path before)) (is : restored ≡ (if has_failed then before else Bytes)) (same : then_paths ≡ old) (up : first ≤ mid) where
   closed_then : (became : StoreAfter F g) → LeavesClosed restored path became (HasRisen mid last) then_paths now → LeavesClosed (if has_failed then before else Bytes) path became (HasRisen first last) old now
-  closed_then became leaves = closed_later (if has_failed then before else Bytes) path became (HasRisen mid last) (HasRisen first last) old now (risen_later first mid last up)
+  closed_then became leaves = closed_later (if has_failed then before else Bytes) path became (HasRisen mid last) (HasRisen first last) old now (risen_since first mid last up)
       (subst (λ p. LeavesClosed (if has_failed then before else Bytes) path became (HasRisen mid last) p now) same (subst (λ r. LeavesClosed r path became (HasRisen mid last) then_paths now) is leaves))
 
-  pub closed_left : (became : StoreAfter F g) → LeavesClosed restored path became (HasRisen mid last) then_paths now → LeavesPaths chosen path has_failed became (HasRisen first last) old now
+  pub closed_left : (became : StoreAfter F g) → LeavesClosed restored path became (HasRisen mid last) then_paths now → LeavesPaths chosen path has_failed became first last old now
   closed_left after.Untouched leaves = absurd leaves
   closed_left (after.Unopened opened) leaves = absurd leaves
   closed_left (after.Closed files) leaves = (before, was, closed_then (after.Closed files) leaves)
@@ -209,10 +222,10 @@ module _ (path : List ℕ) (file log : Option ℕ) (first looked between last : 
   removed_first = subst (λ p. RemovesSiblings path (HasRisen looked between) p mid) same removed
 
   still : HasRisen looked between → HasRisen first last
-  still risen = risen_later first looked last up (risen_still looked between last up_last risen)
+  still risen = risen_since first looked last up (risen_still looked between last up_last risen)
 
   since : HasRisen between last → HasRisen first last
-  since risen = risen_later first between last (omega (arith, up, up_then)) risen
+  since risen = risen_since first between last (omega (arith, up, up_then)) risen
 
   pub file_restored : (before : PathState) → (before ≡ Nothing) × IsBegun file log → ChangesKnown (only path) (without path) (HasRisen between last) mid now → Restores before path (HasRisen first last) old now
   file_restored before (is, begun) gone = subst (λ b. Restores b path (HasRisen first last) old now) (sym is)

@@ -1,5 +1,6 @@
 -- What is at the path of an office before the work, and what is removed if no office could be opened or created.
 use Rattle.std.specs.Prelude.{⊤, ◌≡◌, ◌⊎◌, ◌≤◌, ◌<◌, ◌+◌, ℕ, Bool, false, List, [], ◌∷◌, Option, Some, None, IfSome, if◌then◌else◌}
+use Rattle.rbac_sets.specs.Stream.{HasRisen, one_more}
 use Rattle.rbac_sets.specs.declared.refusal.Refusal.TheVariants.{Memory, NotAnOffice, Store}
 use Rattle.sqlite_disk.specs.declared.Disk.{Ghosts}
 use Rattle.sqlite_disk.specs.declared.Files.{Files}
@@ -139,11 +140,13 @@ LeavesClosed before path (after.Closed files) call_failed paths now =
 LeavesClosed before path (after.Left store) call_failed paths now = Restores before path call_failed paths now
 LeavesClosed before path _ call_failed paths now = ⊥
 
--- What is at the paths after the work: nothing changed if the files were not opened. If the work was done, the file is an office's: it
--- is removed only if the work failed where nothing was.
-abbrev pub LeavesPaths : {F : Type 0} {g : Ghosts F} → Choice → List ℕ → (has_failed : Bool) → StoreAfter F g → (call_failed : Type 0) → Option Paths → Option Paths → Type 0
-LeavesPaths chosen path has_failed after.Untouched call_failed paths now = now ≡ paths
-LeavesPaths chosen path has_failed (after.Unopened opened) call_failed paths now =
-    (before : PathState) × IfSome paths (IsBefore chosen path before) × LeavesUnopened before path opened call_failed paths now
-LeavesPaths chosen path has_failed became call_failed paths now =
-    (before : PathState) × IfSome paths (IsBefore chosen path before) × LeavesClosed (if has_failed then before else Bytes) path became call_failed paths now
+-- What is at the paths after the work, by how many calls of the folder had failed before and after it: nothing changed if nothing was
+-- opened. What an opening that failed had begun is removed, unless another call failed too. If the work was done, the file is an office's:
+-- it is removed only if the work failed where nothing was.
+abbrev pub LeavesPaths : {F : Type 0} {g : Ghosts F} → Choice → List ℕ → (has_failed : Bool) → StoreAfter F g → (failed now_failed : ℕ) → Option Paths → Option Paths → Type 0
+LeavesPaths chosen path has_failed after.Untouched failed now_failed paths now = now ≡ paths
+LeavesPaths chosen path has_failed (after.Unopened opened) failed now_failed paths now =
+    (before : PathState) × IfSome paths (IsBefore chosen path before) × LeavesUnopened before path opened (HasRisen (one_more failed) now_failed) paths now
+LeavesPaths chosen path has_failed became failed now_failed paths now =
+    (before : PathState) × IfSome paths (IsBefore chosen path before)
+    × LeavesClosed (if has_failed then before else Bytes) path became (HasRisen failed now_failed) paths now

@@ -5,7 +5,7 @@ ghost use Rattle.sqlite.specs.Held.{state};
 ghost use Rattle.sqlite.specs.Start.{FindsIn};
 ghost use Rattle.sqlite.specs.State.{HasCleanDisk};
 ghost use Rattle.sqlite.specs.WalFiles.{image_at};
-ghost use Rattle.rbac_sets.specs.Stream.{HasRisen};
+ghost use Rattle.rbac_sets.specs.Stream.{HasRisen, one_more};
 ghost use Rattle.role_wire.specs.Replay.{most_reads};
 ghost use Rattle.role_cli.specs.Around.{IsUntouched, around};
 ghost use Rattle.role_cli.specs.FileWork.{ClosesConnection, DoesOnStore, FailsOnStore, HoldsCommit, WorksOnFiles};
@@ -71,7 +71,7 @@ pub fn run_on_path<D: Start, F: Folder, H: Accept + CsvFiles, R: Source, W: Sink
     ensures unopened { OnErr result ((IsUntouched source.old source.new out.old out.new host.old host.new)
         × HasRisen (F.failed_calls folder.old) (F.failed_calls folder.new)) }
     ensures kept { OnOk result (F.paths folder.new ≡ F.paths folder.old) }
-    ensures restored { IfErr result (λ opened. LeavesUnopened before path.now opened (HasRisen (F.failed_calls folder.old) (F.failed_calls folder.new))
+    ensures restored { IfErr result (λ opened. LeavesUnopened before path.now opened (HasRisen (one_more (F.failed_calls folder.old)) (F.failed_calls folder.new))
         (F.paths folder.old) (F.paths folder.new)) }
     ensures count { F.failed_calls folder.old ≤ F.failed_calls folder.new }
     ensures unread { reads_input choice.now ≡ false → source.new ≡ source.old }
@@ -126,7 +126,7 @@ pub fn run_in_file<D: Start, F: Folder, H: Accept + CsvFiles, R: Source, W: Sink
         (around R.Source W.Sink H.CsvFiles H.Accept source.old out.old host.old)
         (around R.Source W.Sink H.CsvFiles H.Accept source.new out.new host.new)) }
 
-    ensures left { LeavesPaths choice.now path.now (is_err result.0) result.1 (HasRisen (F.failed_calls folder.old) (F.failed_calls folder.new))
+    ensures left { LeavesPaths choice.now path.now (is_err result.0) result.1 (F.failed_calls folder.old) (F.failed_calls folder.new)
         (F.paths folder.old) (F.paths folder.new) }
     ensures unread { reads_input choice.now ≡ false → source.new ≡ source.old }
     ensures unasked { asks_host choice.now ≡ false → host.new ≡ host.old }
@@ -180,7 +180,7 @@ fn connect<D: Start, F: Folder>(
     ensures found { IfOk result (λ conn. HasCleanDisk (file_state conn) → FindsIn (image_at D.Start) (file_state conn)) }
     ensures kept { OnOk result (F.paths folder.new ≡ F.paths folder.old) }
     ensures failed { OnErr result (HasRisen (F.failed_calls folder.old) (F.failed_calls folder.new)) }
-    ensures restored { IfErr result (λ opened. LeavesUnopened before path.now opened (HasRisen (F.failed_calls folder.old) (F.failed_calls folder.new))
+    ensures restored { IfErr result (λ opened. LeavesUnopened before path.now opened (HasRisen (one_more (F.failed_calls folder.old)) (F.failed_calls folder.new))
         (F.paths folder.old) (F.paths folder.new)) }
     ensures count { F.failed_calls folder.old ≤ F.failed_calls folder.new }
 {

@@ -4,7 +4,7 @@ ghost use Rattle.sqlite.specs.Files.{IsOpened, file_state};
 ghost use Rattle.sqlite.specs.Start.{FindsIn};
 ghost use Rattle.sqlite.specs.State.{HasCleanDisk};
 ghost use Rattle.sqlite.specs.WalFiles.{image_at};
-ghost use Rattle.rbac_sets.specs.Stream.{HasRisen};
+ghost use Rattle.rbac_sets.specs.Stream.{HasRisen, failures_after, one_more};
 ghost use Rattle.role_cli.specs.Paths.{ChangesKnown, only, with_empty, without};
 
 use rbac_sets::Refusal;
@@ -77,8 +77,7 @@ pub trait Folder {
     ) -> Result<Connection<FileStore<FileFrom<D>>>, Option<Files<FileFrom<D>>>>
         ensures opened { IfOk result (λ conn. HasCleanDisk (file_state conn) → IsOpened conn) }
         ensures found { IfOk result (λ conn. HasCleanDisk (file_state conn) → FindsIn (image_at D.Start) (file_state conn)) }
-        ensures failed { OnErr result (HasRisen (failed_calls self.old) (failed_calls self.new)) }
-        ensures count { failed_calls self.old ≤ failed_calls self.new }
+        ensures count { failed_calls self.new ≡ failures_after (failed_calls self.old) result }
         ensures same { paths self.new ≡ paths self.old };
 }
 
@@ -101,8 +100,7 @@ impl<'a> MachineFolder<'a> {
 
     // One more call failed.
     fn fail(&mut self)
-        ensures risen { HasRisen self.old.failed self.new.failed }
-        ensures count { self.old.failed ≤ self.new.failed }
+        ensures { self.new.failed ≡ one_more self.old.failed }
     {
         self.failed = self.failed.saturating_add(1);
     }

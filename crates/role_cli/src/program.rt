@@ -141,7 +141,7 @@ pub fn run_with<D: Start, F: Folder, H: Accept + CsvFiles, R: Source, W: Sink, E
 
     // What is at the paths then: what the work made, and nothing is removed but leftovers and a log that was copied.
     ensures left { ((result.1 ≡ StoreAfter.Untouched) × (F.paths folder.new ≡ F.paths folder.old)) ⊎ ((choice : Choice) × Chooses (subcommand_of program (map (λ s. s.now) words.entry.now)) choice
-        × LeavesPaths choice (path_of choice) (result.0 == 1) result.1 (HasRisen (F.failed_calls folder.old) (F.failed_calls folder.new))
+        × LeavesPaths choice (path_of choice) (result.0 == 1) result.1 (F.failed_calls folder.old) (F.failed_calls folder.new)
         (F.paths folder.old) (F.paths folder.new)) }
     ensures silent { result.0 ≡ 0 → err.new ≡ err.old }
     ensures reads { R.reads source.new ≤ R.reads source.old + most_reads }
@@ -182,8 +182,8 @@ fn run_choice<D: Start, F: Folder, H: Accept + CsvFiles, R: Source, W: Sink>(
         (NeverBegins choice.now (path_of choice.now) failure (F.paths folder.old) (HasRisen (F.failed_calls folder.old) (F.failed_calls folder.new)) result.1)
         (around R.Source W.Sink H.CsvFiles H.Accept source.old out.old host.old)
         (around R.Source W.Sink H.CsvFiles H.Accept source.new out.new host.new) result.1) }
-    ensures left { LeavesPaths choice.now (path_of choice.now) (is_err result.0) result.1
-        (HasRisen (F.failed_calls folder.old) (F.failed_calls folder.new)) (F.paths folder.old) (F.paths folder.new) }
+    ensures left { LeavesPaths choice.now (path_of choice.now) (is_err result.0) result.1 (F.failed_calls folder.old) (F.failed_calls folder.new)
+        (F.paths folder.old) (F.paths folder.new) }
     ensures unread { reads_input choice.now ≡ false → source.new ≡ source.old }
     ensures unasked { asks_host choice.now ≡ false → host.new ≡ host.old }
     ensures reads { R.reads source.new ≤ R.reads source.old + most_reads }

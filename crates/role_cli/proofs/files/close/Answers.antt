@@ -1,4 +1,5 @@
-use Rattle.role_cli.proofs.PathChanges.{restores_later, risen_later, risen_still, siblings_later}
+use Rattle.rbac_sets.proofs.Counting.{risen_since}
+use Rattle.role_cli.proofs.PathChanges.{restores_later, risen_still, siblings_later}
 use Rattle.role_cli.proofs.files.close.Goals as goal
 
 -- A leftover was removed, and then the log that was copied.
@@ -9,5 +10,5 @@ returns-in-Ok-clause-left g c =
     let now = g.F.Folder.paths c.remove_siblings.new.folder in (
       between,
       restores_later c.args.before c.args.path.now _ _ old between (risen_still _ _ _ c.remove_siblings.ensures.count) c.restore.ensures.restored,
-      siblings_later c.args.path.now _ _ between now (risen_later _ _ _ c.restore.ensures.count) c.remove_siblings.ensures.removed,
+      siblings_later c.args.path.now _ _ between now (risen_since _ _ _ c.restore.ensures.count) c.remove_siblings.ensures.removed,
     )

@@ -1,7 +1,8 @@
 use Rattle.std.proofs.Common.{inr, refl, arith, ◌∙◌}
 use Rattle.role_cli.proofs.Beginning.{store_fails}
 use Rattle.role_cli.proofs.FileWork.{fails_on, works_on}
-use Rattle.role_cli.proofs.PathChanges.{closed_left, risen_later, unopened_left}
+use Rattle.rbac_sets.proofs.Counting.{risen_since}
+use Rattle.role_cli.proofs.PathChanges.{closed_left, unopened_left}
 use Rattle.role_cli.proofs.Results.{if_err-given, on_ok-given}
 use Rattle.role_cli.proofs.files.run_in_file.Goals as goal
 
@@ -46,7 +47,7 @@ returns-in-Ok-run_on_path-clause-left g c =
 pub returns-in-Err-run_on_path-clause-failed : goal.returns-in-Err-run_on_path-clause-failed
 returns-in-Err-run_on_path-clause-failed g c =
     let why = c.in-Err-run_on_path.ensures.unopened in
-    (why.0, (refl, risen_later _ _ _ c.in-Ok.ensures.count why.1))
+    (why.0, (refl, risen_since _ _ _ c.in-Ok.ensures.count why.1))
 
 pub returns-in-Err-run_on_path-clause-some_failed : goal.returns-in-Err-run_on_path-clause-some_failed
 returns-in-Err-run_on_path-clause-some_failed g c =

@@ -25,8 +25,9 @@ pub returns-in-Some-clause-left : goal.returns-in-Some-clause-left
 returns-in-Some-clause-left g c =
     let paths = g.F.Folder.paths c.args.folder.now in
     let now = g.F.Folder.paths c.run_in_file.new.folder in
-    let call_failed = HasRisen (g.F.Folder.failed_calls c.args.folder.now) (g.F.Folder.failed_calls c.run_in_file.new.folder) in
-    subst (λ path. LeavesPaths c.args.choice.now path (is_err c.run_in_file.result.0) c.run_in_file.result.1 call_failed paths now) c.in-Some.ensures.some.1 c.run_in_file.ensures.left
+    let failed = g.F.Folder.failed_calls c.args.folder.now in
+    let now_failed = g.F.Folder.failed_calls c.run_in_file.new.folder in
+    subst (λ path. LeavesPaths c.args.choice.now path (is_err c.run_in_file.result.0) c.run_in_file.result.1 failed now_failed paths now) c.in-Some.ensures.some.1 c.run_in_file.ensures.left
 
 -- ---- a replay in memory
 

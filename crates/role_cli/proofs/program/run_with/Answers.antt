@@ -1,5 +1,4 @@
 use Rattle.std.proofs.Common.{inl, inr, refl, subst, sym}
-use Rattle.rbac_sets.specs.Stream.{HasRisen}
 use Rattle.rbac_sets.specs.declared.refusal.Refusal.TheVariants.{Memory}
 use Rattle.role_cli.specs.ErrorOutput.{no_memory_line}
 use Rattle.role_cli.specs.Leftovers.{LeavesPaths}
@@ -30,8 +29,9 @@ returns-in-Ok-clause-left g c =
     let chosen = c.in-Ok.choice in
     let paths = g.F.Folder.paths c.args.folder.now in
     let now = g.F.Folder.paths c.run_choice-done.new.folder in
-    let call_failed = HasRisen (g.F.Folder.failed_calls c.args.folder.now) (g.F.Folder.failed_calls c.run_choice-done.new.folder) in
-    inr (chosen, c.in-Ok.ensures.ok, subst (λ b. LeavesPaths chosen (path_of chosen) b c.run_choice-done.result.1 call_failed paths now) (sym c.status_of.ensures.failed) c.run_choice-done.ensures.left)
+    let failed = g.F.Folder.failed_calls c.args.folder.now in
+    let now_failed = g.F.Folder.failed_calls c.run_choice-done.new.folder in
+    inr (chosen, c.in-Ok.ensures.ok, subst (λ b. LeavesPaths chosen (path_of chosen) b c.run_choice-done.result.1 failed now_failed paths now) (sym c.status_of.ensures.failed) c.run_choice-done.ensures.left)
 
 -- An allocation failed before anything was chosen.
 pub returns-in-Err-Memory-clause-stopped : goal.returns-in-Err-Memory-clause-stopped
