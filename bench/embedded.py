@@ -20,7 +20,7 @@ from functools import partial
 from pathlib import Path
 from typing import Callable
 
-from embedded import others
+from embedded import others, users
 from embedded.policy import Policy
 
 TOP = Path(__file__).resolve().parent.parent
@@ -65,11 +65,11 @@ def languages() -> dict[str, tuple[Policy, Measure]]:
     for it in SHAPES:
         users = f"{it.users:,} users" if it.prefix == "s" else f"{it.users:,} users, the worst names"
         found[f"C, {users}"] = it, [building.built() / "quick_c", it.users, it.objects, it.prefix]
-    if building.has_rust():
+    if building.is_there("Rust"):
         found["Rust"] = Policy(), [building.rust_program(HERE / "quick.rs", "quick_rust")]
-    if building.has_go():
+    if building.is_there("Go"):
         found["Go"] = Policy(), [building.go_program((HERE / "quick.go").read_text(encoding="utf-8"), "quick_go")]
-    if building.has_python():
+    if building.is_there("Python"):
         found["Python"] = Policy(), [sys.executable, HERE / "quick.py"]
     return {name: (policy, partial(of_language, command, policy)) for name, (policy, command) in found.items()}
 
@@ -146,6 +146,34 @@ def print_sizes() -> None:
         print(f"| {name} | {lines.count(10):,} | {rows:,.0f} | {memory * 1024 / 1e6:,.1f} | {times} |", flush=True)
 
 
+def program_in_c(name: str) -> Path:
+    """Builds a program of bench/embedded over the library, and returns it."""
+    command = ["cc", "-std=gnu99", "-O2", f"-I{TOP}/library", HERE / f"{name}.c", building.built() / "librbac.a", "-pthread"]
+    building.run([*command, "-o", building.built() / name])
+    return building.built() / name
+
+
+def print_threads() -> None:
+    """Prints the table of decisions that threads make at once."""
+    policy = Policy()
+    said = others.run([program_in_c("threads"), policy.users, policy.objects], policy.lines()).decode()
+    print("\nMillions of decisions in a second, from C:\n")
+    print("| Threads | A mutex | A read-write lock | The same, for 64 questions | About users, for 64 questions |\n|---|---|---|---|---|")
+    for line in said.splitlines():
+        print(f"| {' | '.join(line.split())} |", flush=True)
+
+
+def print_users() -> None:
+    """Prints the table of what a decision about a user takes."""
+    program = program_in_c("user")
+    print("\n| Office | A decision about a user, microseconds |\n|---|---|")
+    for name, (commands, names, wanted) in users.OFFICES.items():
+        took, decision = others.run([program, *names], users.lines_of(commands())).decode().split()
+        if int(decision) != wanted:
+            sys.exit(f"{name}: the decision is {decision} and not {wanted}")
+        print(f"| {name} | {shown(float(took))} |", flush=True)
+
+
 def machine() -> str:
     """Returns what the figures depend on."""
     (processor,) = set(re.findall(r"^model name\s*: (.*)$", Path("/proc/cpuinfo").read_text(encoding="ascii"), re.M))
@@ -160,6 +188,8 @@ def main() -> int:
     with tempfile.TemporaryDirectory() as folder:
         os.environ["RBAC_BUILT"] = folder
         print_times(Path(folder))
+        print_threads()
+        print_users()
         print_sizes()
     print(f"\n{machine()}")
     return 0

@@ -1,12 +1,14 @@
-/* Refuses null pointers, and calls the proved functions of crates/rbac_c. This file is tested, and nothing proves it. */
+/* Refuses null pointers, and calls the proved functions of crates/rbac_c; it gives those that read an office in its place the pointer
+ * that the handle has. This file is tested, and nothing proves it. */
 #include "rbac.h"
+#include <stdbool.h>
 
 uint32_t rbac_office_open(rbac_office *);
 void rbac_office_close(rbac_office *);
 uint32_t rbac_office_answer(rbac_office *, const void *, size_t, void *, size_t, size_t *);
 uint32_t rbac_office_kept_answer(rbac_office *, void *, size_t, size_t *);
-int32_t rbac_office_check(rbac_office *, const void *, size_t, const void *, size_t, const void *, size_t);
-uint32_t rbac_office_revision(rbac_office *, uint64_t *);
+int32_t rbac_office_check(const void *, bool, const void *, size_t, const void *, size_t, const void *, size_t);
+uint64_t rbac_office_revision(const void *);
 uint32_t rbac_office_row(rbac_office *, uint32_t, size_t, void *, size_t, rbac_row *);
 uint32_t rbac_office_add_row(rbac_office *, uint32_t, const void *, size_t, const void *, size_t, const void *, size_t, uint32_t);
 uint32_t rbac_office_load(rbac_office *, uint64_t);
@@ -52,17 +54,36 @@ uint32_t rbac_kept_answer(rbac_office *office, void *out, size_t out_length, siz
     return rbac_office_kept_answer(office, out != NULL ? out : &empty, out_length, length);
 }
 
-int32_t rbac_check(rbac_office *office, const void *session, size_t session_length, const void *operation,
+/* Decides about a holder, which is a user or a session. */
+static int32_t decide(const rbac_office *office, bool of_user, const void *holder, size_t holder_length, const void *operation,
     size_t operation_length, const void *object, size_t object_length)
 {
-    if (office == NULL || lacks(session, session_length) || lacks(operation, operation_length) || lacks(object, object_length))
+    if (office == NULL || lacks(holder, holder_length) || lacks(operation, operation_length) || lacks(object, object_length))
         return -RBAC_NULL;
-    return rbac_office_check(office, at(session), session_length, at(operation), operation_length, at(object), object_length);
+    if (office->at == NULL)
+        return -RBAC_CLOSED;
+    return rbac_office_check(office->at, of_user, at(holder), holder_length, at(operation), operation_length, at(object),
+        object_length);
 }
 
-uint32_t rbac_revision(rbac_office *office, uint64_t *revision)
+int32_t rbac_check(const rbac_office *office, const void *session, size_t session_length, const void *operation,
+    size_t operation_length, const void *object, size_t object_length)
 {
-    return office != NULL && revision != NULL ? rbac_office_revision(office, revision) : RBAC_NULL;
+    return decide(office, false, session, session_length, operation, operation_length, object, object_length);
+}
+
+int32_t rbac_check_user(const rbac_office *office, const void *user, size_t user_length, const void *operation,
+    size_t operation_length, const void *object, size_t object_length)
+{
+    return decide(office, true, user, user_length, operation, operation_length, object, object_length);
+}
+
+uint32_t rbac_revision(const rbac_office *office, uint64_t *revision)
+{
+    if (office == NULL || revision == NULL)
+        return RBAC_NULL;
+    *revision = office->at != NULL ? rbac_office_revision(office->at) : 0;
+    return office->at != NULL ? RBAC_DONE : RBAC_CLOSED;
 }
 
 uint32_t rbac_row_at(rbac_office *office, uint32_t table, size_t index, void *out, size_t out_length, rbac_row *row)

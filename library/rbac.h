@@ -9,10 +9,12 @@
  * What a caller has to guarantee, since nothing checks it:
  *
  * - A handle is RBAC_OFFICE_NONE, or what the library has left in it. It isn't copied, and only the library writes it.
- * - A handle is given to one call at a time. It may go to another thread, ordered by a lock or by the start or the end of
- *   a thread.
+ * - The questions rbac_check, rbac_check_user and rbac_revision may be given the same handle at once, by any number of threads. Each
+ *   other call has the handle alone: while it runs, no other call is given it. A read-write lock does this, with the read lock for
+ *   the questions and the write lock for the rest. Without other threads no lock is needed.
  * - A pointer and its length are those of one array. Arrays of one call don't overlap, unless both are only read.
- * - No call comes from a signal handler, or from the forked child of a process with several threads.
+ * - No call comes from a signal handler. One comes from the forked child of a process with several threads only if no thread was in a
+ *   call at the fork, and if malloc may be used in the child, as that of glibc may.
  * - malloc, realloc and free are of one allocator, and align blocks as C demands, to 16 bytes at most.
  * - The thread has 128 KiB of stack left.
  *
@@ -78,14 +80,24 @@ uint32_t rbac_kept_answer(rbac_office *office, void *out, size_t out_length, siz
  * 1: it may. 0: it may not. Otherwise there is no decision, and the result is minus the code of the first of these reasons
  * that applies: -RBAC_NULL, -RBAC_CLOSED, -RBAC_BAD_NAME (one of the three isn't a name), -26 (there is no such session),
  * -6 (no such object), -33 (no such operation). Only 1 allows the access. It doesn't allocate. */
-int32_t rbac_check(rbac_office *office, const void *session, size_t session_length, const void *operation,
+int32_t rbac_check(const rbac_office *office, const void *session, size_t session_length, const void *operation,
+    size_t operation_length, const void *object, size_t object_length);
+
+/* Decides whether the user could do the operation on the object in some session. The office stays the same.
+ *
+ * 1: with some roles and any new name the user may create a session for which rbac_check returns 1, as long as there may be one more
+ * session. 0: the user may create none, and has none, for which it returns 1. So it is for a locked user. Otherwise there is no
+ * decision, and the result is minus the code of the first of these reasons that applies: -RBAC_NULL, -RBAC_CLOSED, -RBAC_BAD_NAME (one
+ * of the three isn't a name), -2 (there is no such user), -6 (no such object), -33 (no such operation). Only 1 allows the access. It
+ * doesn't allocate. */
+int32_t rbac_check_user(const rbac_office *office, const void *user, size_t user_length, const void *operation,
     size_t operation_length, const void *object, size_t object_length);
 
 /* Writes to `*revision` how many commands the office has accepted. A decision that was made at a revision holds as long as
  * the revision stays the same.
  *
  * RBAC_DONE, or RBAC_CLOSED with 0 in `*revision`. */
-uint32_t rbac_revision(rbac_office *office, uint64_t *revision);
+uint32_t rbac_revision(const rbac_office *office, uint64_t *revision);
 
 /* ---- saving and loading
  *

@@ -9,6 +9,7 @@ import pytest
 from machine import limits
 from machine.commands import COMMANDS
 from machine.drawing import draw_script
+from machine.questions import check_user
 from machine.replaying import Replay
 from machine.requests import read_request
 from machine.state import Refused
@@ -46,6 +47,16 @@ def asks_access(line, answer):
     return b"?" + text if plain and json.loads(answer).get("code") != 34 else None
 
 
+def decision_about(state, names):
+    """Returns what rbac_check_user returns for a user, an operation and an object."""
+    if not all(0 < len(name.encode()) <= 64 for name in names):
+        return b"-1"
+    try:
+        return str(int(check_user(state, *names))).encode()
+    except Refused as refused:
+        return str(-refused.code).encode()
+
+
 def is_command(line):
     """Returns whether a line asks for a command."""
     try:
@@ -75,6 +86,14 @@ class Script:
         if decision is not None:
             self.add(decision, decision_of(answer))
 
+    def ask_for_user(self, state, draws):
+        """Adds a decision about a user, of whom, of whose object or of whose operation the state may know nothing."""
+        objects, operations = state.objects, {operation for _, operation in state.permissions}
+        names = [draws.choice([*sorted(known), "unknown"]) for known in (state.users, operations, objects)]
+        if draws.random() < 0.02:
+            names[draws.randrange(3)] = draws.choice(["", "x" * 65])
+        self.add(b"!" + "\t".join(names).encode(), decision_about(state, names))
+
     def save(self, state):
         """Adds that the office is saved and loaded, and its revision."""
         self.add(b"=", str(rows_of(state)).encode())
@@ -95,6 +114,7 @@ def random_script(seed):
         given = replay.answer(line)
         assert given == answer
         script.ask(line, answer)
+        script.ask_for_user(replay.state, draws)
         if draws.random() < 0.01:
             script.save(replay.state)
     script.save(replay.state)

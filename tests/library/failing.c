@@ -130,10 +130,11 @@ static long try_line(const char *line)
 }
 
 /* Decides while the next allocation would fail. A decision doesn't allocate, so it is made. */
-static long try_check(int32_t wanted)
+static long try_check(int32_t wanted, int32_t wanted_of_user)
 {
     left = 0;
     CHECK(rbac_check(&office, "s", 1, "p", 1, "o", 1) == wanted && left == 0);
+    CHECK(rbac_check_user(&office, "ann", 3, "p", 1, "o", 1) == wanted_of_user && left == 0);
     left = -1;
     return 1;
 }
@@ -197,9 +198,9 @@ int main(void)
     for (size_t at = 0; at < LINES; at++) {
         tries += try_line(lines[at]);
         if (at == 9)
-            tries += try_check(1) + try_load();
+            tries += try_check(1, 1) + try_load();
     }
-    tries += try_check(-26) + try_load();
+    tries += try_check(-26, 0) + try_load();
     rbac_close(&office);
     printf("%ld tries, %ld blocks left\n", tries, blocks);
     return blocks != 0;

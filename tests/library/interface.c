@@ -37,6 +37,10 @@ static void nulls(rbac_office *office)
     want("check of no session", rbac_check(office, NULL, 1, TEXT("p"), TEXT("o")), -RBAC_NULL);
     want("check of no operation", rbac_check(office, TEXT("s"), NULL, 1, TEXT("o")), -RBAC_NULL);
     want("check of no object", rbac_check(office, TEXT("s"), TEXT("p"), NULL, 1), -RBAC_NULL);
+    want("user by null", rbac_check_user(NULL, TEXT("u"), TEXT("p"), TEXT("o")), -RBAC_NULL);
+    want("no user", rbac_check_user(office, NULL, 1, TEXT("p"), TEXT("o")), -RBAC_NULL);
+    want("no operation of a user", rbac_check_user(office, TEXT("u"), NULL, 1, TEXT("o")), -RBAC_NULL);
+    want("no object of a user", rbac_check_user(office, TEXT("u"), TEXT("p"), NULL, 1), -RBAC_NULL);
     want("revision of null", rbac_revision(NULL, &revision), RBAC_NULL);
     want("revision to null", rbac_revision(office, NULL), RBAC_NULL);
     want("row of null", rbac_row_at(NULL, 0, 0, out, sizeof out, &row), RBAC_NULL);
@@ -61,6 +65,8 @@ static void closed(rbac_office *office)
     want("kept when closed", rbac_kept_answer(office, out, sizeof out, &length), RBAC_CLOSED);
     want("its length", length, 0);
     want("check when closed", rbac_check(office, TEXT("s"), TEXT("p"), TEXT("o")), -RBAC_CLOSED);
+    want("user when closed", rbac_check_user(office, TEXT("u"), TEXT("p"), TEXT("o")), -RBAC_CLOSED);
+    want("a null user when closed", rbac_check_user(office, NULL, 1, TEXT("p"), TEXT("o")), -RBAC_NULL);
     want("revision when closed", rbac_revision(office, &revision), RBAC_CLOSED);
     want("the revision", revision, 0);
     want("row when closed", rbac_row_at(office, 0, 0, out, sizeof out, &row), RBAC_CLOSED);
@@ -108,6 +114,11 @@ static void names(rbac_office *office)
     want("a zero", rbac_check(office, TEXT("s"), TEXT("p"), TEXT("o\0")), -RBAC_BAD_NAME);
     want("64 bytes", rbac_check(office, longest, 64, TEXT("p"), TEXT("o")), -26);
     want("65 bytes", rbac_check(office, longest, 65, TEXT("p"), TEXT("o")), -RBAC_BAD_NAME);
+    want("no such user", rbac_check_user(office, TEXT("u"), TEXT("p"), TEXT("o")), -2);
+    want("a user without a name", rbac_check_user(office, NULL, 0, TEXT("p"), TEXT("o")), -RBAC_BAD_NAME);
+    want("a user and an operation that is no name", rbac_check_user(office, TEXT("ann"), TEXT("\n"), TEXT("o")), -RBAC_BAD_NAME);
+    want("a user and an object that is no name", rbac_check_user(office, TEXT("u"), TEXT("p"), longest, 65), -RBAC_BAD_NAME);
+    want("a user and no such object", rbac_check_user(office, TEXT("ann"), TEXT("p"), TEXT("o")), -6);
     want("a row that isn't UTF-8", rbac_add_row(office, RBAC_USERS, TEXT("\xff"), NULL, 0, NULL, 0, 0), RBAC_BAD_NAME);
     want("a row without its second name", rbac_add_row(office, RBAC_ASSIGNMENTS, TEXT("u"), NULL, 0, NULL, 0, 0), RBAC_BAD_NAME);
     want("a row without its third name", rbac_add_row(office, RBAC_GRANTS, TEXT("u"), TEXT("u"), NULL, 0, 0), RBAC_BAD_NAME);

@@ -2,6 +2,7 @@
  *
  *   {..}       a line of docs/API.md: prints the answer
  *   ?A\tB\tC   a decision for the session A, the operation B and the object C: prints what rbac_check returns
+ *   !A\tB\tC   a decision for the user A, the operation B and the object C: prints what rbac_check_user returns
  *   #          prints the revision
  *   =          saves the office, loads the rows into another one, which is used from then on, and prints how many rows
  */
@@ -41,14 +42,16 @@ static void answer(const char *line, size_t length)
         free(out);
 }
 
+typedef int32_t decision_of(const rbac_office *, const void *, size_t, const void *, size_t, const void *, size_t);
+
 /* Prints the decision that three names ask for, between which there are tabs. */
-static void decide(const char *names, size_t length)
+static void decide(decision_of *decision_about, const char *names, size_t length)
 {
     const char *end = names + length, *operation = memchr(names, '\t', length), *object;
 
     if (operation == NULL || (object = memchr(operation + 1, '\t', end - operation - 1)) == NULL)
         exit(2);
-    printf("%" PRId32 "\n", rbac_check(&office, names, operation - names, operation + 1, object - operation - 1, object + 1, end - object - 1));
+    printf("%" PRId32 "\n", decision_about(&office, names, operation - names, operation + 1, object - operation - 1, object + 1, end - object - 1));
 }
 
 static void say_revision(void)
@@ -98,7 +101,9 @@ int main(void)
         if (length > 0 && line[length - 1] == '\n')
             length--;
         if (length > 0 && line[0] == '?')
-            decide(line + 1, length - 1);
+            decide(rbac_check, line + 1, length - 1);
+        else if (length > 0 && line[0] == '!')
+            decide(rbac_check_user, line + 1, length - 1);
         else if (length == 1 && line[0] == '#')
             say_revision();
         else if (length == 1 && line[0] == '=')

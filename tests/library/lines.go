@@ -13,10 +13,10 @@ import (
 	"rbac/clients/go/rbacoffice"
 )
 
-// decide returns what rbac_check returns for three names, between which there are tabs.
-func decide(office *rbacoffice.Office, line string) (int, error) {
+// decide returns what rbac_check or rbac_check_user returns for three names, between which there are tabs.
+func decide(decisionAbout func(holder, operation, object string) (bool, error), line string) (int, error) {
 	names := strings.Split(line, "\t")
-	allowed, err := office.Check(names[0], names[1], names[2])
+	allowed, err := decisionAbout(names[0], names[1], names[2])
 	var refused *rbacoffice.RefusedError
 	switch {
 	case errors.As(err, &refused):
@@ -64,7 +64,9 @@ func run(in *bufio.Reader, out *bufio.Writer) error {
 		var said interface{}
 		switch {
 		case strings.HasPrefix(text, "?"):
-			said, err = decide(office, text[1:])
+			said, err = decide(office.Check, text[1:])
+		case strings.HasPrefix(text, "!"):
+			said, err = decide(office.CheckUser, text[1:])
 		case text == "#":
 			said, err = office.Revision()
 		case text == "=":

@@ -5,11 +5,10 @@ import sys
 from rbac_office import Office, Refused
 
 
-def decide(office, line):
-    """Returns what rbac_check returns for three names, between which there are tabs."""
-    session, operation, object = line.decode(errors="surrogateescape").split("\t")
+def decide(decision_about, line):
+    """Returns what rbac_check or rbac_check_user returns for three names, between which there are tabs."""
     try:
-        return int(office.check(session, operation, object))
+        return int(decision_about(*line.decode(errors="surrogateescape").split("\t")))
     except Refused as refused:
         return -refused.code
     except UnicodeEncodeError:
@@ -21,7 +20,9 @@ def main():
     for line in sys.stdin.buffer:
         line = line.removesuffix(b"\n")
         if line.startswith(b"?"):
-            said = str(decide(office, line[1:])).encode()
+            said = str(decide(office.check, line[1:])).encode()
+        elif line.startswith(b"!"):
+            said = str(decide(office.check_user, line[1:])).encode()
         elif line == b"#":
             said = str(office.revision).encode()
         elif line == b"=":

@@ -3,15 +3,15 @@
 use rbac_office::{Error, Office};
 use std::io::{self, BufRead, Write};
 
-/// What rbac_check returns for three names, between which there are tabs.
-fn decide(office: &Office, line: &[u8]) -> Result<i64, Error> {
+/// What rbac_check or rbac_check_user returns for three names, between which there are tabs.
+fn decide(decision_about: impl Fn(&str, &str, &str) -> Result<bool, Error>, line: &[u8]) -> Result<i64, Error> {
     // `let else` is younger than the compiler of Debian 12.
     let line = match std::str::from_utf8(line) {
         Ok(line) => line,
         Err(_) => return Ok(-1),
     };
     let names: Vec<&str> = line.split('\t').collect();
-    match office.check(names[0], names[1], names[2]) {
+    match decision_about(names[0], names[1], names[2]) {
         Ok(access) => Ok(access.into()),
         Err(Error::Refused { code, .. }) => Ok(-i64::from(code)),
         Err(error) => Err(error),
@@ -24,7 +24,8 @@ fn main() -> Result<(), Box<dyn std::error::Error>> {
     for line in io::stdin().lock().split(b'\n') {
         let line = line?;
         match line.as_slice() {
-            [b'?', names @ ..] => writeln!(out, "{}", decide(&office, names)?)?,
+            [b'?', names @ ..] => writeln!(out, "{}", decide(|a, b, c| office.check(a, b, c), names)?)?,
+            [b'!', names @ ..] => writeln!(out, "{}", decide(|a, b, c| office.check_user(a, b, c), names)?)?,
             b"#" => writeln!(out, "{}", office.revision()?)?,
             b"=" => {
                 let mut rows = office.rows()?;

@@ -27,8 +27,16 @@ def check_sanitized(bench):
         bench.same(f"sanitized, seed {seed}", (given, said, status), (script.wanted, b"", 0))
 
 
+def check_unwritten(bench):
+    """Questions write nothing to the office or to its handle: both may only be read while they are asked."""
+    program = compile_c("unwritten.c", "unwritten", parts=["rbac.c"])
+    done = subprocess.run([program], capture_output=True, text=True, check=False, timeout=60)
+    bench.judge("questions", [f"status {done.returncode}: {done.stdout}{done.stderr}"] if done.returncode else [])
+    return {"questions over memory that may only be read": int(done.stdout)} if not done.returncode else {}
+
+
 def check_threads(bench):
-    """Threads share an office under a lock, and the thread sanitizer finds nothing."""
+    """Threads share an office under a read-write lock, and the thread sanitizer finds nothing."""
     program = compile_c("threads.c", "threads", "-g", "-fsanitize=thread", parts=["rbac.c", "heap.c"])
     done = subprocess.run([program], capture_output=True, text=True, check=False, timeout=300)
     bench.same("threads", (done.stdout, done.stderr, done.returncode), ("", "", 0))

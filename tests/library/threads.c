@@ -1,31 +1,50 @@
-/* Four threads share an office under a lock: for tests/library/memory.py. */
+/* Four threads share an office under a read-write lock: for tests/library/memory.py. */
 #include "rbac.h"
 #include <pthread.h>
 #include <stdio.h>
 #include <stdlib.h>
 #include <string.h>
 
-enum { THREADS = 4, LINES = 250 };
+enum { THREADS = 4, LINES = 250, QUESTIONS = 20 };
 
 static rbac_office office = RBAC_OFFICE_NONE;
-static pthread_mutex_t lock = PTHREAD_MUTEX_INITIALIZER;
+static pthread_rwlock_t lock = PTHREAD_RWLOCK_INITIALIZER;
 
-static void *add_users(void *number)
+static void need(int holds)
 {
-    char line[128], out[64];
+    if (!holds)
+        exit(1);
+}
+
+/* Asks about a user who was added when the office had accepted `least` commands. */
+static void ask(const char *user, uint64_t least)
+{
+    uint64_t revision;
+
+    pthread_rwlock_rdlock(&lock);
+    need(rbac_check(&office, "s", 1, "p", 1, "o", 1) == -26);
+    need(rbac_check_user(&office, user, strlen(user), "p", 1, "o", 1) == -6);
+    need(rbac_check_user(&office, "nobody", 6, "p", 1, "o", 1) == -2);
+    need(rbac_revision(&office, &revision) == RBAC_DONE && revision >= least);
+    pthread_rwlock_unlock(&lock);
+}
+
+static void *work(void *number)
+{
+    char user[32], line[128], out[64];
     size_t length;
 
     for (int at = 0; at < LINES; at++) {
-        uint32_t code;
-        int32_t decision;
+        uint64_t revision;
 
-        snprintf(line, sizeof line, "{\"fn\":\"addUser\",\"user\":\"t%ld-%d\"}", (long)number, at);
-        pthread_mutex_lock(&lock);
-        code = rbac_answer(&office, line, strlen(line), out, sizeof out, &length);
-        decision = rbac_check(&office, "s", 1, "p", 1, "o", 1);
-        pthread_mutex_unlock(&lock);
-        if (code != RBAC_DONE || length != 11 || decision != -26)
-            exit(1);
+        snprintf(user, sizeof user, "t%ld-%d", (long)number, at);
+        snprintf(line, sizeof line, "{\"fn\":\"addUser\",\"user\":\"%s\"}", user);
+        pthread_rwlock_wrlock(&lock);
+        need(rbac_answer(&office, line, strlen(line), out, sizeof out, &length) == RBAC_DONE && length == 11);
+        need(rbac_revision(&office, &revision) == RBAC_DONE);
+        pthread_rwlock_unlock(&lock);
+        for (int asked = 0; asked < QUESTIONS; asked++)
+            ask(user, revision);
     }
     return NULL;
 }
@@ -35,14 +54,12 @@ int main(void)
     pthread_t threads[THREADS];
     uint64_t revision;
 
-    if (rbac_open(&office) != RBAC_DONE)
-        return 1;
+    need(rbac_open(&office) == RBAC_DONE);
     for (long at = 0; at < THREADS; at++)
-        pthread_create(&threads[at], NULL, add_users, (void *)at);
+        pthread_create(&threads[at], NULL, work, (void *)at);
     for (int at = 0; at < THREADS; at++)
         pthread_join(threads[at], NULL);
-    if (rbac_revision(&office, &revision) != RBAC_DONE || revision != THREADS * LINES)
-        return 1;
+    need(rbac_revision(&office, &revision) == RBAC_DONE && revision == THREADS * LINES);
     rbac_close(&office);
     return 0;
 }

@@ -4,14 +4,19 @@ An answer is a set of names or of permissions, a number or a truth value.
 """
 
 from . import state as facts
-from .commands import need_object, need_permission, need_role, need_session, need_set, need_user
-from .state import refuse_if
+from .commands import create_session, need_object, need_permission, need_role, need_session, need_set, need_user
+from .state import Refused, refuse_if
+
+
+def need_operation(state, op):
+    """Refuses unless some permission, of any object, has the operation."""
+    refuse_if(all(known != op for _, known in state.permissions), 33)
 
 
 def check_access(state, session, op, ob):
     need_session(state, session)
     need_object(state, ob)
-    refuse_if(all(known != op for _, known in state.permissions), 33)
+    need_operation(state, op)
     return (ob, op) in facts.granted_permissions(state, facts.session_roles(state, session))
 
 
@@ -129,3 +134,22 @@ def ask(state, function, arguments):
     """Returns the answer to a question."""
     tells, _, _ = QUESTIONS[function]
     return tells(state, *arguments)
+
+
+def check_user(state, user, op, ob):
+    """Whether the user may create a session that has access. Only the library answers this: no line asks it.
+
+    Of the sessions with one role: no further role helps. There are no other sessions, so that their number doesn't refuse one.
+    """
+    need_user(state, user)
+    need_object(state, ob)
+    need_operation(state, op)
+    alone = state.but(sessions={})
+    for role in facts.authorized_roles(state, user):
+        try:
+            after = create_session(alone, user, [role], "session")
+        except Refused:
+            continue
+        if check_access(after, "session", op, ob):
+            return True
+    return False

@@ -156,7 +156,7 @@ def check_crates(bench):
         named = re.findall(r"`(?:\w+::)?(\w+)`", contracts)
         paths = [ROOT / "crates" / crate / "src" / f"{name}.rt" for name in files.split(", ") if name]
         text = "".join(path.read_text(encoding="utf-8") for path in paths)
-        missing = [name for name in named if not re.search(rf"^ *pub (?:extern \"C\" )?fn {name}\b", text, re.M)]
+        missing = [name for name in named if not re.search(rf"^ *pub (?:unsafe )?(?:extern \"C\" )?fn {name}\b", text, re.M)]
         bench.same(f"contracts of {crate} that do not exist", missing, [])
         bench.same(f"whether {crate} has contracts", bool(named), crate not in UNPROVED)
 

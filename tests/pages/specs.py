@@ -25,8 +25,8 @@ USES = re.compile(r"\buse Rattle\.(\w+)\.specs\.([\w.]+?)(?:\.\{([^}]*)\}| as (\
 
 # How an item of a source begins, and a function in it.
 SORTS = r"(?P<sort>fn|trait|impl|struct|enum)\b(?:<.*?>+)? (?P<name>\w*)"
-ITEM = re.compile(r"(?P<pub>pub )?(?:pub\(\w+\) )?(?:ghost |const |extern \"C\" )*" + SORTS)
-FUNCTION = re.compile(r" *(?P<pub>pub )?(?:pub\(\w+\) )?(?:ghost |const |extern \"C\" )*fn \w")
+ITEM = re.compile(r"(?P<pub>pub )?(?:pub\(\w+\) )?(?:ghost |const |unsafe |extern \"C\" )*" + SORTS)
+FUNCTION = re.compile(r" *(?P<pub>pub )?(?:pub\(\w+\) )?(?:ghost |const |unsafe |extern \"C\" )*fn \w")
 
 # What a source exports to other crates: modules, and names out of modules.
 OPENS = re.compile(r"^pub mod (\w+);", re.M)

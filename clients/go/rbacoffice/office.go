@@ -19,9 +19,9 @@ package rbacoffice
 //     char out[ROOM];
 // } room;
 //
-// static int32_t check(uintptr_t at, _GoString_ session, _GoString_ operation, _GoString_ object) {
-//     return rbac_check(&((room *)at)->office, _GoStringPtr(session), _GoStringLen(session), _GoStringPtr(operation),
-//         _GoStringLen(operation), _GoStringPtr(object), _GoStringLen(object));
+// static int32_t decide(uintptr_t at, int of_user, _GoString_ holder, _GoString_ operation, _GoString_ object) {
+//     return (of_user ? rbac_check_user : rbac_check)(&((const room *)at)->office, _GoStringPtr(holder), _GoStringLen(holder),
+//         _GoStringPtr(operation), _GoStringLen(operation), _GoStringPtr(object), _GoStringLen(object));
 // }
 //
 // static uint32_t answer(uintptr_t at, const void *line, size_t length) {
@@ -74,9 +74,10 @@ func (e *RefusedError) Error() string {
 	return fmt.Sprintf("rbacoffice: refused: %d %s", e.Code, e.Name)
 }
 
-// Office is an office in memory. Its methods may be called by several goroutines: each waits for the one before it.
+// Office is an office in memory. Its methods may be called by several goroutines. Check, CheckUser and Revision run side by side;
+// each other method waits for the calls before it, and runs alone.
 type Office struct {
-	mu   sync.Mutex
+	mu   sync.RWMutex
 	room *C.room // nil once the office is closed
 }
 
@@ -108,7 +109,7 @@ func (o *Office) Close() {
 	o.room = nil
 }
 
-// at returns the address of the room. The caller holds the lock, and the unlocking afterwards keeps o from the finalizer.
+// at returns the address of the room. The caller holds the lock, at least for reading, and the unlocking afterwards keeps o from the finalizer.
 func (o *Office) at() C.uintptr_t {
 	return C.uintptr_t(uintptr(unsafe.Pointer(o.room)))
 }
@@ -198,13 +199,24 @@ func refusal(text []byte, code int, name string) error {
 
 // Check decides whether the session may do the operation on the object. With an error the access has to be denied.
 func (o *Office) Check(session, operation, object string) (bool, error) {
-	o.mu.Lock()
+	return o.decide(0, session, operation, object)
+}
+
+// CheckUser decides whether the user could do the operation on the object in some session: whether the user may create a session
+// for which Check returns true, as long as there may be one more. With an error the access has to be denied.
+func (o *Office) CheckUser(user, operation, object string) (bool, error) {
+	return o.decide(1, user, operation, object)
+}
+
+// decide returns what the library decides about the holder, which is a user if ofUser is 1, and a session if it is 0.
+func (o *Office) decide(ofUser C.int, holder, operation, object string) (bool, error) {
+	o.mu.RLock()
 	if o.room == nil {
-		o.mu.Unlock()
+		o.mu.RUnlock()
 		return false, ErrClosed
 	}
-	decision := C.check(o.at(), session, operation, object)
-	o.mu.Unlock()
+	decision := C.decide(o.at(), ofUser, holder, operation, object)
+	o.mu.RUnlock()
 	switch decision {
 	case 1:
 		return true, nil
@@ -217,8 +229,8 @@ func (o *Office) Check(session, operation, object string) (bool, error) {
 
 // Revision returns how many commands the office has accepted. A decision holds as long as this stays the same.
 func (o *Office) Revision() (uint64, error) {
-	o.mu.Lock()
-	defer o.mu.Unlock()
+	o.mu.RLock()
+	defer o.mu.RUnlock()
 	if o.room == nil {
 		return 0, ErrClosed
 	}
@@ -231,7 +243,7 @@ func (o *Office) Revision() (uint64, error) {
 
 // refusals has the names of the refusals of decisions and of rows.
 var refusals = map[C.uint32_t]string{
-	C.RBAC_BAD_NAME: "BadName", 6: "NoObject", 26: "NoSession", 32: "TooMany", 33: "NoOperation", 52: "Damaged",
+	C.RBAC_BAD_NAME: "BadName", 2: "NoUser", 6: "NoObject", 26: "NoSession", 32: "TooMany", 33: "NoOperation", 52: "Damaged",
 }
 
 // errorOf returns the error for a code of the library, which isn't RBAC_DONE.

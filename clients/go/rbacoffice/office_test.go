@@ -54,6 +54,69 @@ func TestCheckRefusals(t *testing.T) {
 	}
 }
 
+// teller returns an office in which ann is a teller, who may open the safe, and bob has no role.
+func teller(t *testing.T) *Office {
+	t.Helper()
+	office, err := Load([]Row{
+		{Table: Users, Names: [3]string{"ann"}}, {Table: Users, Names: [3]string{"bob"}}, {Table: Roles, Names: [3]string{"teller"}},
+		{Table: Objects, Names: [3]string{"safe"}}, {Table: Permissions, Names: [3]string{"safe", "open"}},
+		{Table: Assignments, Names: [3]string{"ann", "teller"}}, {Table: Grants, Names: [3]string{"safe", "open", "teller"}},
+	}, 0)
+	if err != nil {
+		t.Fatal(err)
+	}
+	t.Cleanup(office.Close)
+	return office
+}
+
+func TestCheckUser(t *testing.T) {
+	office := teller(t)
+	tests := []struct {
+		name                    string
+		user, operation, object string
+		allowed                 bool
+		code                    int
+	}{
+		{"a teller", "ann", "open", "safe", true, 0},
+		{"a user without roles", "bob", "open", "safe", false, 0},
+		{"no user", "eve", "burn", "vault", false, 2},
+		{"no object", "ann", "burn", "vault", false, 6},
+		{"no operation", "ann", "burn", "safe", false, 33},
+		{"empty user", "", "burn", "vault", false, 1},
+		{"object that is not UTF-8", "eve", "open", "\xff", false, 1},
+	}
+	for _, test := range tests {
+		t.Run(test.name, func(t *testing.T) {
+			allowed, err := office.CheckUser(test.user, test.operation, test.object)
+			if allowed != test.allowed || codeOf(err) != test.code || (err != nil) != (test.code != 0) {
+				t.Errorf("got %t, %v; want %t and code %d", allowed, err, test.allowed, test.code)
+			}
+		})
+	}
+}
+
+// TestDecisionsRunSideBySide decides while the office is locked for reading, as by another goroutine that decides.
+func TestDecisionsRunSideBySide(t *testing.T) {
+	office := teller(t)
+	office.mu.RLock()
+	defer office.mu.RUnlock()
+	decided := make(chan bool)
+	go func() {
+		allowed, err := office.CheckUser("ann", "open", "safe")
+		_, none := office.Check("s", "open", "safe")
+		_, failed := office.Revision()
+		decided <- allowed && err == nil && codeOf(none) == 26 && failed == nil
+	}()
+	select {
+	case right := <-decided:
+		if !right {
+			t.Error("the decisions are wrong")
+		}
+	case <-time.After(time.Minute):
+		t.Fatal("no decision was made in a minute")
+	}
+}
+
 func TestCall(t *testing.T) {
 	office := open(t)
 	ann := map[string]interface{}{"user": "ann"}
@@ -201,6 +264,9 @@ func TestClosed(t *testing.T) {
 	if _, err := office.Check("s", "p", "o"); !errors.Is(err, ErrClosed) {
 		t.Errorf("Check: %v", err)
 	}
+	if _, err := office.CheckUser("u", "p", "o"); !errors.Is(err, ErrClosed) {
+		t.Errorf("CheckUser: %v", err)
+	}
 	if _, err := office.Rows(); !errors.Is(err, ErrClosed) {
 		t.Errorf("Rows: %v", err)
 	}
@@ -222,6 +288,9 @@ func TestConcurrentCalls(t *testing.T) {
 					t.Error(err)
 				}
 				if _, err := office.Check("s", "p", "o"); codeOf(err) != 26 {
+					t.Error(err)
+				}
+				if _, err := office.CheckUser("u", "p", "o"); codeOf(err) != 2 {
 					t.Error(err)
 				}
 			}

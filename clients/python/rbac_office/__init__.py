@@ -6,15 +6,17 @@
     if office.check("s1", "open", "safe"):
 
 It is the library librbac, and no server is needed. docs/API.md describes the functions, docs/EMBEDDING.md when to use this
-and what is proved. An office may be used by several threads: each call waits for the one before it.
+and what is proved. An office may be used by several threads: each call waits for the one before it. os.fork waits until no thread
+is in a call, and the child has an office of its own then.
 """
 
 from __future__ import annotations
 
 import json
+import os
 from typing import Any, Iterable, Iterator, NamedTuple
 
-from ._library import Library, set_on_refusal
+from ._library import Library, after_fork_in_child, after_fork_in_parent, before_fork, set_on_refusal
 
 __all__ = ["Office", "Refused", "Row", "TABLES"]
 
@@ -38,7 +40,7 @@ TABLES = {
 }
 _NUMBERS = {name: number for number, name in enumerate(TABLES)}
 # The refusals of a decision and of a load, by their codes.
-_NAMES = {1: "BadName", 6: "NoObject", 26: "NoSession", 32: "TooMany", 33: "NoOperation", 52: "Damaged"}
+_NAMES = {1: "BadName", 2: "NoUser", 6: "NoObject", 26: "NoSession", 32: "TooMany", 33: "NoOperation", 52: "Damaged"}
 
 
 class Refused(Exception):
@@ -63,12 +65,13 @@ def _refuse(code: int) -> None:
 
 
 set_on_refusal(_refuse)
+os.register_at_fork(before=before_fork, after_in_parent=after_fork_in_parent, after_in_child=after_fork_in_child)
 
 
 class Office(Library):
     """An office in memory. It is empty, or has the rows that `Office.load` is given.
 
-    `answer`, `check` and `close` are in C. A method raises `Refused` if the office refuses, `MemoryError` if an allocation
+    `answer`, `check`, `check_user` and `close` are in C. A method raises `Refused` if the office refuses, `MemoryError` if an allocation
     failed, and `ValueError` if the office is closed.
     """
 

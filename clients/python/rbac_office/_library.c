@@ -1,34 +1,51 @@
-/* The functions of librbac for Python. Each office has a lock, and lines are answered without the interpreter's lock. */
+/* The functions of librbac for Python. Each office has a read-write lock, and lines are answered without the interpreter's lock.
+ * A fork waits until no thread is in a call of an office, so the child has each office whole, with its lock free. */
 #define PY_SSIZE_T_CLEAN
 #include <Python.h>
 #include <pthread.h>
+#include <sched.h>
 #include "rbac.h"
 
 /* Answers of this length need no allocation. */
 #define ROOM 4096
 
-typedef struct {
+typedef struct library {
     PyObject_HEAD
-    pthread_mutex_t lock;
+    pthread_rwlock_t lock;
     rbac_office office;
+    struct library *before, *after; /* the other offices of the process */
+    int is_forking;                 /* whether the thread that forks has the lock */
 } Library;
+
+/* The first of the offices of the process. The interpreter's lock guards the list. */
+static Library *first;
 
 /* What is called with the code of a decision that was refused, and raises the exception. */
 static PyObject *on_refusal;
 
-/* Waits for the office, without the interpreter's lock if another thread has it. */
+/* Waits until this thread has the office alone, without the interpreter's lock if another thread has it. */
 static void enter(Library *self)
 {
-    if (pthread_mutex_trylock(&self->lock) == 0)
+    if (pthread_rwlock_trywrlock(&self->lock) == 0)
         return;
     Py_BEGIN_ALLOW_THREADS
-    pthread_mutex_lock(&self->lock);
+    pthread_rwlock_wrlock(&self->lock);
+    Py_END_ALLOW_THREADS
+}
+
+/* The same for a question, beside which other threads may ask others. */
+static void enter_to_ask(Library *self)
+{
+    if (pthread_rwlock_tryrdlock(&self->lock) == 0)
+        return;
+    Py_BEGIN_ALLOW_THREADS
+    pthread_rwlock_rdlock(&self->lock);
     Py_END_ALLOW_THREADS
 }
 
 static void leave(Library *self)
 {
-    pthread_mutex_unlock(&self->lock);
+    pthread_rwlock_unlock(&self->lock);
 }
 
 /* Sets the exception for a code and returns NULL. */
@@ -55,7 +72,11 @@ static PyObject *library_new(PyTypeObject *type, PyObject *args, PyObject *keywo
     self = (Library *)type->tp_alloc(type, 0);
     if (self == NULL)
         return NULL;
-    pthread_mutex_init(&self->lock, NULL);
+    pthread_rwlock_init(&self->lock, NULL);
+    self->after = first;
+    if (first != NULL)
+        first->before = self;
+    first = self;
     code = rbac_open(&self->office);
     if (code != RBAC_DONE) {
         Py_DECREF(self);
@@ -66,8 +87,14 @@ static PyObject *library_new(PyTypeObject *type, PyObject *args, PyObject *keywo
 
 static void library_dealloc(Library *self)
 {
+    if (self->before != NULL)
+        self->before->after = self->after;
+    else
+        first = self->after;
+    if (self->after != NULL)
+        self->after->before = self->before;
     rbac_close(&self->office);
-    pthread_mutex_destroy(&self->lock);
+    pthread_rwlock_destroy(&self->lock);
     Py_TYPE(self)->tp_free((PyObject *)self);
 }
 
@@ -105,7 +132,7 @@ static PyObject *library_answer(Library *self, PyObject *line)
     if (PyObject_GetBuffer(line, &view, PyBUF_SIMPLE) < 0)
         return NULL;
     Py_BEGIN_ALLOW_THREADS
-    pthread_mutex_lock(&self->lock);
+    pthread_rwlock_wrlock(&self->lock);
     code = rbac_answer(&self->office, view.buf, (size_t)view.len, room, sizeof room, &length);
     Py_END_ALLOW_THREADS
     PyBuffer_Release(&view);
@@ -129,21 +156,24 @@ static int is_text(PyObject *argument, const char **text, size_t *length)
     return *text != NULL;
 }
 
-static PyObject *library_check(Library *self, PyObject *const *args, Py_ssize_t count)
+typedef int32_t decision_of(const rbac_office *, const void *, size_t, const void *, size_t, const void *, size_t);
+
+/* Returns what a function of the library decides about a holder, which is a session or a user. */
+static PyObject *decide(Library *self, PyObject *const *args, Py_ssize_t count, decision_of *decision_about, const char *wanted)
 {
-    const char *session, *operation, *object;
-    size_t session_length, operation_length, object_length;
+    const char *holder, *operation, *object;
+    size_t holder_length, operation_length, object_length;
     int32_t decision;
 
     if (count != 3) {
-        PyErr_SetString(PyExc_TypeError, "check takes a session, an operation and an object");
+        PyErr_SetString(PyExc_TypeError, wanted);
         return NULL;
     }
-    if (!is_text(args[0], &session, &session_length) || !is_text(args[1], &operation, &operation_length)
+    if (!is_text(args[0], &holder, &holder_length) || !is_text(args[1], &operation, &operation_length)
         || !is_text(args[2], &object, &object_length))
         return NULL;
-    enter(self);
-    decision = rbac_check(&self->office, session, session_length, operation, operation_length, object, object_length);
+    enter_to_ask(self);
+    decision = decision_about(&self->office, holder, holder_length, operation, operation_length, object, object_length);
     leave(self);
     if (decision == 1)
         Py_RETURN_TRUE;
@@ -154,12 +184,22 @@ static PyObject *library_check(Library *self, PyObject *const *args, Py_ssize_t 
     return PyObject_CallFunction(on_refusal, "i", (int)-decision);
 }
 
+static PyObject *library_check(Library *self, PyObject *const *args, Py_ssize_t count)
+{
+    return decide(self, args, count, rbac_check, "check takes a session, an operation and an object");
+}
+
+static PyObject *library_check_user(Library *self, PyObject *const *args, Py_ssize_t count)
+{
+    return decide(self, args, count, rbac_check_user, "check_user takes a user, an operation and an object");
+}
+
 static PyObject *library_revision(Library *self, PyObject *Py_UNUSED(ignored))
 {
     uint64_t revision = 0;
     uint32_t code;
 
-    enter(self);
+    enter_to_ask(self);
     code = rbac_revision(&self->office, &revision);
     leave(self);
     return code == RBAC_DONE ? PyLong_FromUnsignedLongLong(revision) : raise(code);
@@ -213,13 +253,60 @@ static PyObject *library_load(Library *self, PyObject *argument)
     if (revision == (unsigned long long)-1 && PyErr_Occurred())
         return NULL;
     Py_BEGIN_ALLOW_THREADS
-    pthread_mutex_lock(&self->lock);
+    pthread_rwlock_wrlock(&self->lock);
     code = rbac_load(&self->office, revision);
-    pthread_mutex_unlock(&self->lock);
+    pthread_rwlock_unlock(&self->lock);
     Py_END_ALLOW_THREADS
     if (code == RBAC_MEMORY || code == RBAC_CLOSED)
         return raise(code);
     return PyLong_FromUnsignedLong(code);
+}
+
+/* Lets other threads call the offices that this one has since before_fork. */
+static void let_call(void)
+{
+    for (Library *self = first; self != NULL; self = self->after)
+        if (self->is_forking) {
+            self->is_forking = 0;
+            leave(self);
+        }
+}
+
+/* Waits until no thread is in a call of an office, and keeps others from calling until one of the two functions below. */
+static PyObject *before_fork(PyObject *Py_UNUSED(module), PyObject *Py_UNUSED(ignored))
+{
+    Library *self = first;
+
+    while (self != NULL) {
+        if (pthread_rwlock_trywrlock(&self->lock) == 0) {
+            self->is_forking = 1;
+            self = self->after;
+            continue;
+        }
+        /* The call may need the interpreter's lock to end, and then the list may change. So begin again. */
+        let_call();
+        Py_BEGIN_ALLOW_THREADS
+        sched_yield();
+        Py_END_ALLOW_THREADS
+        self = first;
+    }
+    Py_RETURN_NONE;
+}
+
+static PyObject *after_fork_in_parent(PyObject *Py_UNUSED(module), PyObject *Py_UNUSED(ignored))
+{
+    let_call();
+    Py_RETURN_NONE;
+}
+
+/* A lock knows which thread has it by its number, and that is another one in the child. */
+static PyObject *after_fork_in_child(PyObject *Py_UNUSED(module), PyObject *Py_UNUSED(ignored))
+{
+    for (Library *self = first; self != NULL; self = self->after) {
+        self->is_forking = 0;
+        pthread_rwlock_init(&self->lock, NULL);
+    }
+    Py_RETURN_NONE;
 }
 
 /* Sets what raises the exception for the code of a decision that was refused. */
@@ -236,11 +323,15 @@ PyDoc_STRVAR(answer_doc, "answer($self, line, /)\n--\n\n"
     "Raises MemoryError if an allocation failed: the line was done, or nothing was, and `revision` shows which.");
 PyDoc_STRVAR(check_doc, "check($self, session, operation, object, /)\n--\n\n"
     "Whether the session may do the operation on the object.");
+PyDoc_STRVAR(check_user_doc, "check_user($self, user, operation, object, /)\n--\n\n"
+    "Whether the user could do the operation on the object in some session: whether the user may create a session for which\n"
+    "`check` returns True, as long as there may be one more.");
 PyDoc_STRVAR(close_doc, "close($self, /)\n--\n\nFrees the office. Its methods raise ValueError then.");
 
 static PyMethodDef methods[] = {
     {"answer", (PyCFunction)library_answer, METH_O, answer_doc},
     {"check", (PyCFunction)(void (*)(void))library_check, METH_FASTCALL, check_doc},
+    {"check_user", (PyCFunction)(void (*)(void))library_check_user, METH_FASTCALL, check_user_doc},
     {"close", (PyCFunction)library_close, METH_NOARGS, close_doc},
     {"_revision", (PyCFunction)library_revision, METH_NOARGS, "How many commands were accepted."},
     {"_row", (PyCFunction)library_row, METH_VARARGS, "The row at a place of a table, or None."},
@@ -250,6 +341,9 @@ static PyMethodDef methods[] = {
 };
 
 static PyMethodDef functions[] = {
+    {"before_fork", before_fork, METH_NOARGS, "Waits until no thread is in a call of an office, and keeps others from calling."},
+    {"after_fork_in_parent", after_fork_in_parent, METH_NOARGS, "Lets threads call again."},
+    {"after_fork_in_child", after_fork_in_child, METH_NOARGS, "Lets the thread of the child call."},
     {"set_on_refusal", set_on_refusal, METH_O, "Sets what raises the exception for the code of a decision that was refused."},
     {NULL, NULL, 0, NULL},
 };

@@ -9,5 +9,6 @@ pub mod RoleLaws
 pub mod SeparationLaws
 pub mod SessionCommandLaws
 pub mod TouchLaws
+pub mod UserAccessLaws
 pub mod VerdictLaws
 pub mod ViolationLaws

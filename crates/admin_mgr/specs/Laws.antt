@@ -1,19 +1,22 @@
 -- What holds of the sets and relations, however they are stored.
-use Rattle.std.specs.Prelude.{◌≡◌, ◌+◌, ◌≤◌, ◌↔◌, ◌⊎◌, IsTrue, ℕ, List, [], ◌∷◌, None}
+use Rattle.std.specs.Prelude.{◌≡◌, ◌+◌, ◌≤◌, ◌↔◌, ◌⊎◌, IsTrue, false, ℕ, List, [], ◌∷◌, None}
 use Rattle.std.specs.declared.alloc.Global.{Global}
 use Rattle.std.specs.declared.vec.Vec.{Vec}
 use Rattle.rbac_sets.specs.Refusal.{code_of}
 use Rattle.rbac_sets.specs.declared.command.Command.{Command}
-use Rattle.rbac_sets.specs.declared.command.Command.TheVariants.{ImportAssignments}
-use Rattle.rbac_sets.specs.declared.kind.Kind.TheVariants.{Assignment}
+use Rattle.rbac_sets.specs.declared.command.Command.TheVariants.{CreateSession, ImportAssignments}
+use Rattle.rbac_sets.specs.declared.kind.Kind.TheVariants.{Assignment, Session}
 use Rattle.rbac_sets.specs.declared.refusal.Refusal.TheVariants.{StaticSeparation, TooMany}
+use Rattle.rbac_sets.specs.Kind.{limit_of}
 use Rattle.rbac_sets.specs.Sets.{Bytes, Names, Pair, contains, len}
+use Rattle.rbac_sets.specs.SortedSet.{Stored}
 use Rattle.rbac_sets.specs.declared.row.Row.{Row}
-use Rattle.admin_mgr.specs.RbacState.{RbacState, members_of}
+use Rattle.admin_mgr.specs.RbacState.{RbacState, has_session, members_of}
 use Rattle.admin_mgr.specs.Rows.{has_row}
-use Rattle.admin_mgr.specs.Authorization.{authorized_roles, is_authorized, session_roles, is_session_role}
+use Rattle.admin_mgr.specs.Authorization.{authorized_roles, has_access, is_authorized, session_roles, is_session_role}
 use Rattle.admin_mgr.specs.Separation.{static_violation, dynamic_violation}
 use Rattle.admin_mgr.specs.After.{after}
+use Rattle.admin_mgr.specs.UserAccess.{could_have_access}
 use Rattle.admin_mgr.specs.Verdict.{verdict}
 use Rattle.admin_mgr.specs.Run.{tally}
 use Rattle.admin_mgr.specs.Good.{IsGood, IsWellFormed, IsStaticallySeparated, IsDynamicallySeparated}
@@ -89,3 +92,25 @@ pub record IsIdleAgain (S T : RbacState) (pairs : Vec Pair Global) : Type 0 wher
 abbrev pub ImportTwice : Type 0
 ImportTwice = (S : RbacState) (pairs : Vec Pair Global) → verdict S (ImportAssignments pairs) ≡ None →
     IsIdleAgain S (after S (ImportAssignments pairs)) pairs
+
+-- ---- decisions about users
+
+-- the user may create the session with these roles, and it has access then
+abbrev pub CreatesAccess : RbacState → Bytes → Bytes → Bytes → Stored Bytes → Bytes → Type 0
+CreatesAccess S user operation object roles session =
+    (verdict S (CreateSession user roles session) ≡ None) × IsTrue (has_access (after S (CreateSession user roles session)) session operation object)
+
+-- A user could have access exactly if some session has it that the user may create: each session of a new name with some roles, as
+-- long as there may be one more session; and no session that the user may create has access otherwise.
+pub record IsByCreation (S : RbacState) (user operation object : Bytes) : Type 0 where
+  pub some : IsTrue (could_have_access S user operation object) → (session : Bytes) → has_session S session ≡ false → len S.sessions + 1 ≤ limit_of Session S.version
+      → (roles : Stored Bytes) × CreatesAccess S user operation object roles session
+  pub none : (roles : Stored Bytes) (session : Bytes) → CreatesAccess S user operation object roles session → IsTrue (could_have_access S user operation object)
+
+abbrev pub UserAccessIsBySessions : Type 0
+UserAccessIsBySessions = (S : RbacState) → IsGood S → (user operation object : Bytes) → IsByCreation S user operation object
+
+-- no session that is there, whatever its user activated in it since, has access that its user couldn't have
+abbrev pub SessionsGiveUserAccess : Type 0
+SessionsGiveUserAccess = (S : RbacState) → IsGood S → (session user operation object : Bytes) →
+    IsTrue (contains S.sessions (session, user)) → IsTrue (has_access S session operation object) → IsTrue (could_have_access S user operation object)

@@ -21,6 +21,7 @@ pub mod StateNames
 pub mod StateWithRoom
 pub mod StoredSets
 pub mod StoredSetsView
+pub mod UserAccess
 pub mod Verdict
 pub mod View
 pub mod private

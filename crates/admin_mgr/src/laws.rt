@@ -1,5 +1,5 @@
 //! What holds of the sets and relations, however they are stored.
-ghost use Rattle.admin_mgr.specs.Laws.{SubsetForm, RowsDetermine, AcceptedIsGood, StaticTest, DynamicTest, AuthorizedRolesAreThere, SessionRolesAreThere, ImportTwice};
+ghost use Rattle.admin_mgr.specs.Laws.{SubsetForm, RowsDetermine, AcceptedIsGood, StaticTest, DynamicTest, AuthorizedRolesAreThere, SessionRolesAreThere, SessionsGiveUserAccess, UserAccessIsBySessions, ImportTwice};
 ghost use Rattle.admin_mgr.specs.CommandContent.{CommandsDependOnContent};
 ghost use Rattle.admin_mgr.specs.RowChecks.{GoodRowsAreRead};
 ghost use Rattle.admin_mgr.specs.CommandLaws.{VerdictsRefuseCommands, AssignedByCommand, GrantedByCommand, VersionStays};
@@ -43,6 +43,14 @@ pub fn dynamic_test()
 pub fn reached_roles_are_there()
     ensures authorized { AuthorizedRolesAreThere }
     ensures session { SessionRolesAreThere }
+{}
+
+/// The decision about a user is exact: it is yes exactly if the user may create a session that has access, as
+/// long as there may be one more session, and no session has access that its user couldn't have.
+#[tactic(auto, using(crate::proofs::Verdicts::UserAccessLaws::user_access_by_sessions, crate::proofs::Verdicts::UserAccessLaws::access_of_session))]
+pub fn user_access()
+    ensures created { UserAccessIsBySessions }
+    ensures there { SessionsGiveUserAccess }
 {}
 
 /// An import of assignments that is repeated changes nothing, whatever the state was: it assigns no record,

@@ -31,7 +31,7 @@
 #![tactic(auto)]
 
 pub use plan::{Plan, Report};
-pub use separation_of_duty::by_name::is_reached;
+pub use separation_of_duty::by_name::{is_reached, stands_alone};
 pub use state::State;
 
 mod checking;

@@ -1,12 +1,12 @@
 -- What a call from C returns and leaves.
-use Rattle.std.specs.Prelude.{◌≡◌, ◌⊎◌, ◌<◌, ◌≤◌, ◌-ℤ◌, ℤ, pos, true, false, ℕ, List, length, take, Option, Some, None}
+use Rattle.std.specs.Prelude.{◌≡◌, ◌⊎◌, ◌<◌, ◌≤◌, ◌-ℤ◌, ℤ, pos, Bool, true, false, ℕ, List, length, take, Option, Some, None}
 use Rattle.rbac_sets.specs.Refusal.{code_of}
 use Rattle.rbac_sets.specs.Table.{number_of}
 use Rattle.rbac_sets.specs.declared.refusal.Refusal.{Refusal}
 use Rattle.rbac_sets.specs.declared.table.Table.{Table}
 use Rattle.rbac_sets.specs.declared.table.TheConstants.Table.{COUNT}
 use Rattle.admin_mgr.specs.RowChecks.{IsStateOf, RefusesRows}
-use Rattle.role_lines.specs.Decision.{Decides, Refuses}
+use Rattle.role_lines.specs.Decision.{Decides, DecidesUser, Refuses, RefusesUser}
 use Rattle.role_lines.specs.LineAnswer.{StopsAt}
 use Rattle.role_lines.specs.OfficeInMemory.{OfficeInMemory, after, starting, with_row, without_rows}
 use Rattle.role_lines.specs.StoredRow.{HasNames, IsRowAt, Parts, names_in, row_with}
@@ -38,18 +38,22 @@ abbrev pub CopiesKept : Option OfficeInMemory → List ℕ → ℕ → ℕ → T
 CopiesKept None out count code = (count ≡ 0) × (code ≡ CLOSED)
 CopiesKept (Some office) out count code = Copies office.kept out count code
 
--- this is the revision of the office
-abbrev pub TellsRevision : Option OfficeInMemory → ℕ → ℕ → Type 0
-TellsRevision None revision code = (revision ≡ 0) × (code ≡ CLOSED)
-TellsRevision (Some office) revision code = (revision ≡ office.revision) × (code ≡ DONE)
+-- the decision about a holder, which is a user or a session
+abbrev pub IsDecided : OfficeInMemory → (of_user : Bool) → List ℕ → List ℕ → List ℕ → Bool → Type 0
+IsDecided office true user operation object access = DecidesUser office.facts user operation object access
+IsDecided office false session operation object access = Decides office.facts session operation object access
 
--- The number that stands for a decision: 1 or 0, or minus the code of the refusal. Without an office it is that of `Closed`.
-abbrev pub Decided : Option OfficeInMemory → List ℕ → List ℕ → List ℕ → ℤ → Type 0
-Decided None session operation object code = code ≡ pos 0 -ℤ pos CLOSED
-Decided (Some office) session operation object code =
-    (Decides office.facts session operation object true × (code ≡ pos 1))
-    ⊎ ((Decides office.facts session operation object false × (code ≡ pos 0))
-    ⊎ ((refusal : Refusal) × (Refuses office.facts session operation object refusal × (code ≡ pos 0 -ℤ pos (code_of refusal)))))
+-- there is no decision about the holder, for this reason
+abbrev pub IsRefused : OfficeInMemory → (of_user : Bool) → List ℕ → List ℕ → List ℕ → Refusal → Type 0
+IsRefused office true user operation object refusal = RefusesUser office.facts user operation object refusal
+IsRefused office false session operation object refusal = Refuses office.facts session operation object refusal
+
+-- the number that stands for a decision about a holder: 1 or 0, or minus the code of the refusal
+abbrev pub Decided : OfficeInMemory → (of_user : Bool) → List ℕ → List ℕ → List ℕ → ℤ → Type 0
+Decided office of_user holder operation object number =
+    (IsDecided office of_user holder operation object true × (number ≡ pos 1))
+    ⊎ ((IsDecided office of_user holder operation object false × (number ≡ pos 0))
+    ⊎ ((refusal : Refusal) × (IsRefused office of_user holder operation object refusal × (number ≡ pos 0 -ℤ pos (code_of refusal)))))
 
 -- ---- rows
 

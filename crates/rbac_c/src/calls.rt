@@ -1,13 +1,18 @@
 //! The functions that C calls. library/rbac.h says in words what each does.
-ghost use Rattle.std.specs.Prelude.{◌≡◌, ◌⊎◌, ◌<◌, Some, None, length, take};
+ghost use base.Fml.{Lft, Share};
+ghost use types.Logic.{sem};
+ghost use Rattle.std.specs.Prelude.{◌≡◌, ◌⊎◌, ◌<◌, Some, None, IfOk, IfErr, length, take};
 ghost use Rattle.admin_mgr.specs.RbacState.{empty_state};
-ghost use Rattle.role_lines.specs.OfficeInMemory.{starting};
+ghost use Rattle.role_lines.specs.OfficeInMemory.{OfficeInMemory, starting};
+ghost use Rattle.role_lines.specs.contracts.office.MemoryOffice.{the_row};
 ghost use Rattle.role_lines.specs.RowParts.{parts_of};
 ghost use Rattle.role_lines.specs.StoredRow.{parts};
-ghost use Rattle.rbac_c.specs.Calls.{AddsRow, AnswersCall, Copies, CopiesKept, CopiesParts, CopiesRow, Decided, Loads, TellsRevision};
+ghost use Rattle.rbac_c.specs.Calls.{AddsRow, AnswersCall, Copies, CopiesKept, CopiesParts, CopiesRow, Decided, IsDecided, IsRefused, Loads};
+ghost use Rattle.rbac_c.specs.Held.{reads};
 
 use crate::handle::OfficeHandle;
-use role_lines::{MemoryOffice, RowParts, decide, row_at, row_of, table_numbered};
+use rbac_sets::Refusal;
+use role_lines::{MemoryOffice, RowParts, decide, decide_for_user, row_at, row_of, table_numbered};
 use std::alloc::Global;
 use std::mem::replace;
 
@@ -106,47 +111,39 @@ pub extern "C" fn rbac_office_kept_answer(
     }
 }
 
-/// Writes to `revision` how many commands the office has accepted since it was made.
+/// Returns how many commands the office has accepted since it was made. The office is read in its place, so several
+/// threads may call this at once.
 #[unsafe(no_mangle)]
-pub extern "C" fn rbac_office_revision(
-    alloc: Global,
-    office: &mut OfficeHandle,
-    revision: &mut u64,
-) -> u32
-    ensures keeps { office.new.office ≡ office.old.office }
-    ensures tells { TellsRevision office.old.office revision.new result }
+pub unsafe extern "C" fn rbac_office_revision(office: *const u8) -> u64
+    ghost read: { Lft × Share × OfficeInMemory }
+    requires* { sem 𝓛 (reads the_row office read.0 read.1 read.2) }
+    ensures* { sem 𝓛 (reads the_row office read.0 read.1 read.2) ∗ ⌜ result ≡ read.2.revision ⌝ }
 {
-    *revision = 0;
-    match replace(office, OfficeHandle::none()).into_box(alloc) {
-        Some(held) => {
-            *revision = held.revision();
-            put(alloc, office, OfficeHandle::of(held));
-            DONE
-        }
-        None => CLOSED,
-    }
+    revision(&*(office as *const MemoryOffice))
 }
 
-/// Whether the session may do the operation on the object: 1 or 0, or minus the code of the refusal.
+/// Whether the holder may do the operation on the object: 1 or 0, or minus the code of the refusal. The holder is a
+/// session, or with `of_user` a user, who may do it if some session of the user could. The office is read in its place,
+/// so several threads may call this at once.
 #[unsafe(no_mangle)]
-pub extern "C" fn rbac_office_check(
-    alloc: Global,
-    office: &mut OfficeHandle,
-    session: &[u8],
+pub unsafe extern "C" fn rbac_office_check(
+    office: *const u8,
+    of_user: bool,
+    holder: &[u8],
     operation: &[u8],
     object: &[u8],
 ) -> i32
-    ensures keeps { office.new.office ≡ office.old.office }
-    ensures decided { Decided office.old.office session.now operation.now object.now result }
+    ghost read: { Lft × Share × OfficeInMemory }
+    requires* { sem 𝓛 (reads the_row office read.0 read.1 read.2) }
+    ensures* { sem 𝓛 (reads the_row office read.0 read.1 read.2) ∗ ⌜ Decided read.2 of_user holder.now operation.now object.now result ⌝ }
 {
-    match replace(office, OfficeHandle::none()).into_box(alloc) {
-        Some(held) => {
-            let result = check(&held, session, operation, object);
-            put(alloc, office, OfficeHandle::of(held));
-            result
-        }
-        None => -(CLOSED as i32),
-    }
+    check(
+        &*(office as *const MemoryOffice),
+        of_user,
+        holder,
+        operation,
+        object,
+    )
 }
 
 /// Writes the names of the row at this place of the table into `out`, one after the other, and their lengths and the
@@ -237,14 +234,45 @@ fn answer(
     }
 }
 
-// The number that stands for the decision.
-fn check(office: &MemoryOffice, session: &[u8], operation: &[u8], object: &[u8]) -> i32
-    ensures { Decided (Some office.now) session.now operation.now object.now result }
+// How many commands the office has accepted.
+fn revision(office: &MemoryOffice) -> u64
+    ensures { result ≡ office.now.revision }
 {
-    match decide(office.state(), session, operation, object) {
+    office.revision()
+}
+
+// The number that stands for the decision about the holder.
+fn check(
+    office: &MemoryOffice,
+    of_user: bool,
+    holder: &[u8],
+    operation: &[u8],
+    object: &[u8],
+) -> i32
+    ensures { Decided office.now of_user holder.now operation.now object.now result }
+{
+    match decide_about(office, of_user, holder, operation, object) {
         Ok(true) => 1,
         Ok(false) => 0,
         Err(refusal) => -(refusal.code() as i32),
+    }
+}
+
+// The decision about the holder, which is a user or a session.
+fn decide_about(
+    office: &MemoryOffice,
+    of_user: bool,
+    holder: &[u8],
+    operation: &[u8],
+    object: &[u8],
+) -> Result<bool, Refusal>
+    ensures decided { IfOk result (λ access. IsDecided office.now of_user holder.now operation.now object.now access) }
+    ensures refused { IfErr result (λ refusal. IsRefused office.now of_user holder.now operation.now object.now refusal) }
+{
+    if of_user {
+        decide_for_user(office.state(), holder, operation, object)
+    } else {
+        decide(office.state(), holder, operation, object)
     }
 }
 

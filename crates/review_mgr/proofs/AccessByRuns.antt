@@ -1,6 +1,6 @@
 -- The access decision by runs.
 use Rattle.std.proofs.Common.{◌≡◌, Bool, true, not, length, refl, sym, ◌∙◌, ap}
-use Rattle.std.specs.Prelude.{IsTrue, ◌==◌}
+use Rattle.std.specs.Prelude.{IsTrue, ◌==◌, ◌&&◌}
 use Rattle.std.specs.List.{filter, list_any}
 use Rattle.std.proofs.lemmas.Bool.{and_parts, and_from}
 use Rattle.std.specs.Cmp.{both_ways}
@@ -10,10 +10,11 @@ use Rattle.rbac_sets.proofs.SetLaws.{any-Decides, contains-retain, tie_Decides}
 use Rattle.rbac_sets.proofs.Members.{members-retain}
 use Rattle.rbac_sets.proofs.Lists.{any_filter}
 use Rattle.admin_mgr.specs.RbacState.{RbacState, has_session}
-use Rattle.admin_mgr.specs.Authorization.{session_roles, is_session_role, has_access}
+use Rattle.admin_mgr.specs.Authorization.{authorized_roles, session_roles, is_authorized, is_session_role, has_access}
+use Rattle.admin_mgr.specs.UserAccess.{could_have_access, stands_alone}
 use Rattle.admin_mgr.specs.Good.{IsGood}
 use Rattle.admin_mgr.specs.private.HolderRoles.{run_of, is_reached}
-use Rattle.admin_mgr.proofs.Verdicts.AuthorizationLaws.{session_reached}
+use Rattle.admin_mgr.proofs.Verdicts.AuthorizationLaws.{authorized_reached, session_reached}
 use Rattle.review_mgr.specs.Questions.{has_operation}
 use Rattle.review_mgr.specs.Review.{permission_of, is_grant_of}
 
@@ -44,6 +45,37 @@ access_reached S good session operation object =
     let member : IsTrue (contains granted (object, operation, role)) = contains-retain triple_total triple_exact S.grants (is_grant_of object operation) (object, operation, role)
     ∙ and_from _ _ found.2 ((tie_Decides pair_total pair_exact (object, operation) (object, operation)).1 refl) in
     by_run.1 ((object, operation, role), member, sym (session_reached S session role) ∙ parts.1))
+
+-- a user who isn't locked has a role that is granted the permission and stands alone exactly if the user could have access
+pub user_access_reached : (S : RbacState) → IsGood S → (user operation object : Bytes) →
+    (not (contains S.locked user) && list_any (λ (grant : Triple). is_reached S.edges (run_of S.assignments user) grant.2 && stands_alone S grant.2) (filter (is_grant_of object operation) (members S.grants)))
+    ≡ could_have_access S user operation object
+unfolding could_have_access any authorized_roles
+user_access_reached S good user operation object =
+    let usable : Triple → Bool = λ grant. is_reached S.edges (run_of S.assignments user) grant.2 && stands_alone S grant.2 in
+    let granted = retain S.grants (is_grant_of object operation) in
+    let by_run = any-Decides triple_total triple_exact usable granted in
+    let by_role = any-Decides name_total name_exact (λ role. contains S.grants (object, operation, role) && stands_alone S role) (authorized_roles S user) in
+    ap (λ b. not (contains S.locked user) && b) (ap (list_any usable) (sym (members-retain triple_total triple_exact S.grants (is_grant_of object operation)))
+    ∙ both_ways _ _
+    (λ h.
+    let found = by_run.0 h in
+    let grant = found.0 in
+    let parts = and_parts _ _ (sym (contains-retain triple_total triple_exact S.grants (is_grant_of object operation) grant) ∙ found.1) in
+    let same = (tie_Decides pair_total pair_exact (permission_of grant) (object, operation)).0 parts.1 in
+    let role_there = (good.well_formed.grants grant.0 grant.1 grant.2 parts.0).1 in
+    let both = and_parts _ _ found.2 in
+    let of_user : IsTrue (contains (authorized_roles S user) grant.2) = contains-retain name_total name_exact S.roles (is_authorized S user) grant.2
+    ∙ and_from _ _ role_there (authorized_reached S user grant.2 ∙ both.0) in
+    by_role.1 (grant.2, of_user, and_from _ _ (sym (ap (λ (p : Pair). contains S.grants (p.0, p.1, grant.2)) same) ∙ parts.0) both.1))
+    (λ h.
+    let found = by_role.0 h in
+    let role = found.0 in
+    let parts = and_parts _ _ (sym (contains-retain name_total name_exact S.roles (is_authorized S user) role) ∙ found.1) in
+    let both = and_parts _ _ found.2 in
+    let member : IsTrue (contains granted (object, operation, role)) = contains-retain triple_total triple_exact S.grants (is_grant_of object operation) (object, operation, role)
+    ∙ and_from _ _ both.0 ((tie_Decides pair_total pair_exact (object, operation) (object, operation)).1 refl) in
+    by_run.1 ((object, operation, role), member, and_from _ _ (sym (authorized_reached S user role) ∙ parts.1) both.1)))
 
 -- the operation of a permission is one of OPS
 pub any_second : (pairs : Pairs) (first second : Bytes) → contains pairs (first, second) ≡ true → any (λ (pair : Pair). same_name pair.1 second) pairs ≡ true

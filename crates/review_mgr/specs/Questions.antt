@@ -45,3 +45,12 @@ refusals S (PermissionRoles object operation) = wants_object S object ∷ wants_
 -- the first refusal that applies; if there is none, the question is answered
 unfoldable pub refused : RbacState → Query → Option Refusal
 refused S query = first (refusals S query)
+
+-- ---- a decision about a user, which isn't a question of the standard
+
+-- the refusals of such a decision, in the order in which they are judged
+unfoldable pub user_refusals : RbacState → Bytes → Bytes → Bytes → List (Option Refusal)
+user_refusals S user operation object = wants_user S user ∷ wants_object S object ∷ wants_operation S operation ∷ []
+
+unfoldable pub user_refused : RbacState → Bytes → Bytes → Bytes → Option Refusal
+user_refused S user operation object = first (user_refusals S user operation object)

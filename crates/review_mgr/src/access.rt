@@ -52,7 +52,7 @@ pub fn check_access(
 }
 
 // The grants of the permission.
-fn granted_for<'a>(
+pub(crate) fn granted_for<'a>(
     state: &'a State,
     operation: &BorrowedName<'_>,
     object: &BorrowedName<'_>,
@@ -72,7 +72,7 @@ fn is_session(state: &State, session: &BorrowedName<'_>, activated: &[(Name, Nam
 }
 
 // Whether there is such an object. It is there if the permission is granted.
-fn is_object(
+pub(crate) fn is_object(
     state: &State,
     operation: &BorrowedName<'_>,
     object: &BorrowedName<'_>,
@@ -86,7 +86,7 @@ fn is_object(
 }
 
 // Whether some permission has the operation. One has it if the permission is granted.
-fn is_operation(
+pub(crate) fn is_operation(
     state: &State,
     operation: &BorrowedName<'_>,
     object: &BorrowedName<'_>,

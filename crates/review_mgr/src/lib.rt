@@ -33,6 +33,7 @@ pub use access::check_access;
 pub use asking::ask;
 pub use query::{Answer, Query};
 pub use report::report_roles;
+pub use user_access::check_user_access;
 
 pub mod access;
 pub mod asking;
@@ -44,3 +45,4 @@ mod lookup;
 pub mod query;
 pub mod report;
 pub mod review;
+pub mod user_access;

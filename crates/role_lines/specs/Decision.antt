@@ -6,7 +6,8 @@ use Rattle.rbac_sets.specs.declared.refusal.Refusal.{Refusal}
 use Rattle.rbac_sets.specs.declared.refusal.Refusal.TheVariants.{BadName}
 use Rattle.admin_mgr.specs.Authorization.{has_access}
 use Rattle.admin_mgr.specs.RbacState.{RbacState}
-use Rattle.review_mgr.specs.Questions.{refused}
+use Rattle.admin_mgr.specs.UserAccess.{could_have_access}
+use Rattle.review_mgr.specs.Questions.{refused, user_refused}
 use Rattle.review_mgr.specs.declared.query.Query.TheVariants.{CheckAccess}
 
 -- the bytes are the text of a name
@@ -28,3 +29,15 @@ module _ (S : RbacState) (session operation object : List ℕ) where
   Refuses refusal =
       ((refusal ≡ BadName) × ¬ (AreNameTexts session operation object))
       ⊎ (AreNameTexts session operation object × (refused S (CheckAccess session operation object) ≡ Some refusal))
+
+module _ (S : RbacState) (user operation object : List ℕ) where
+  -- the decision about the user isn't refused, and this is its answer
+  pub record DecidesUser (access : Bool) : Type 0 where
+    pub unrefused : user_refused S user operation object ≡ None
+    pub access_is : access ≡ could_have_access S user operation object
+
+  -- There is no decision about the user. If one of the three isn't a name, that is the refusal; if they are, it is that of the decision.
+  abbrev pub RefusesUser : Refusal → Type 0
+  RefusesUser refusal =
+      ((refusal ≡ BadName) × ¬ (AreNameTexts user operation object))
+      ⊎ (AreNameTexts user operation object × (user_refused S user operation object ≡ Some refusal))

@@ -1,10 +1,10 @@
 //! The access decision for names that are given as bytes.
 ghost use Rattle.std.specs.Prelude.{◌≡◌, ◌⊎◌, IfOk, IfErr};
-ghost use Rattle.role_lines.specs.Decision.{Decides, IsNameText, Refuses};
+ghost use Rattle.role_lines.specs.Decision.{Decides, DecidesUser, IsNameText, Refuses, RefusesUser};
 
 use admin_mgr::State;
 use rbac_sets::{BorrowedName, Name, Refusal};
-use review_mgr::check_access;
+use review_mgr::{check_access, check_user_access};
 use std::alloc::Global;
 
 /// CheckAccess: whether the session may do the operation on the object. The three may be any bytes.
@@ -28,6 +28,28 @@ pub fn decide(
     let operation = borrowed(operation)?;
     let object = borrowed(object)?;
     check_access(state, &session, &operation, &object)
+}
+
+/// Whether the user could do the operation on the object in some session. The three may be any bytes.
+///
+/// It doesn't allocate.
+///
+/// # Errors
+///
+/// `BadName` if one of the three isn't a name, otherwise the refusals of `check_user_access`.
+pub fn decide_for_user(
+    state: &State,
+    user: &[u8],
+    operation: &[u8],
+    object: &[u8],
+) -> Result<bool, Refusal>
+    ensures decided { IfOk result (λ access. DecidesUser state.now.facts user.now operation.now object.now access) }
+    ensures refused { IfErr result (λ refusal. RefusesUser state.now.facts user.now operation.now object.now refusal) }
+{
+    let user = borrowed(user)?;
+    let operation = borrowed(operation)?;
+    let object = borrowed(object)?;
+    check_user_access(state, &user, &operation, &object)
 }
 
 // The name with these bytes, which are borrowed. `BadName` if they aren't the text of a name.

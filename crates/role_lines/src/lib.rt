@@ -19,7 +19,7 @@
 //! ```
 #![tactic(auto)]
 
-pub use deciding::decide;
+pub use deciding::{decide, decide_for_user};
 pub use office::MemoryOffice;
 pub use rows::{RowParts, row_at, row_of, table_numbered};
 

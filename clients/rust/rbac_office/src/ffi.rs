@@ -17,6 +17,9 @@ pub struct Handle {
 // SAFETY: a handle may go from thread to thread, as crates/rbac_c proves.
 unsafe impl Send for Handle {}
 
+// SAFETY: the functions that take a handle behind a `*const` only read it and its office.
+unsafe impl Sync for Handle {}
+
 impl Handle {
     /// The handle of no office.
     pub fn none() -> Handle {
@@ -34,6 +37,9 @@ pub struct RowLengths {
     pub number: u32,
 }
 
+/// A decision about a holder, which is a session or a user.
+pub type Decision = unsafe extern "C" fn(*const Handle, *const u8, usize, *const u8, usize, *const u8, usize) -> i32;
+
 #[link(name = "rbac")]
 extern "C" {
     pub fn rbac_open(office: *mut Handle) -> u32;
@@ -48,7 +54,7 @@ extern "C" {
     ) -> u32;
     pub fn rbac_kept_answer(office: *mut Handle, out: *mut u8, out_length: usize, length: *mut usize) -> u32;
     pub fn rbac_check(
-        office: *mut Handle,
+        office: *const Handle,
         session: *const u8,
         session_length: usize,
         operation: *const u8,
@@ -56,7 +62,16 @@ extern "C" {
         object: *const u8,
         object_length: usize,
     ) -> i32;
-    pub fn rbac_revision(office: *mut Handle, revision: *mut u64) -> u32;
+    pub fn rbac_check_user(
+        office: *const Handle,
+        user: *const u8,
+        user_length: usize,
+        operation: *const u8,
+        operation_length: usize,
+        object: *const u8,
+        object_length: usize,
+    ) -> i32;
+    pub fn rbac_revision(office: *const Handle, revision: *mut u64) -> u32;
     pub fn rbac_row_at(
         office: *mut Handle,
         table: u32,

@@ -10,10 +10,11 @@
 //! ```
 //!
 //! An `Office` answers the lines of docs/API.md, and decides about access without a line. docs/EMBEDDING.md says when to use
-//! it, and what is proved about it. An office may be used by several threads: each call waits for the one before it.
+//! it, and what is proved about it. An office may be used by several threads. `check`, `check_user` and `revision` run side by
+//! side; each other call waits for those before it, and runs alone.
 
 use std::fmt;
-use std::sync::{Mutex, MutexGuard, PoisonError};
+use std::sync::{PoisonError, RwLock, RwLockReadGuard, RwLockWriteGuard};
 
 mod ffi;
 
@@ -50,6 +51,7 @@ impl Error {
 fn name_of(code: u32) -> &'static str {
     match code {
         1 => "BadName",
+        2 => "NoUser",
         6 => "NoObject",
         26 => "NoSession",
         32 => "TooMany",
@@ -137,7 +139,7 @@ pub struct Row {
 /// An office in memory.
 #[derive(Debug)]
 pub struct Office {
-    handle: Mutex<Handle>,
+    handle: RwLock<Handle>,
 }
 
 impl Office {
@@ -146,7 +148,7 @@ impl Office {
         let mut handle = Handle::none();
         // SAFETY: the handle has no office yet.
         match unsafe { ffi::rbac_open(&mut handle) } {
-            ffi::DONE => Ok(Office { handle: Mutex::new(handle) }),
+            ffi::DONE => Ok(Office { handle: RwLock::new(handle) }),
             code => Err(Error::of(code)),
         }
     }
@@ -186,8 +188,13 @@ impl Office {
     }
 
     /// The handle, while no other thread uses it. No call of the library panics, so it is whole also if a thread did.
-    fn lock(&self) -> MutexGuard<'_, Handle> {
-        self.handle.lock().unwrap_or_else(PoisonError::into_inner)
+    fn lock(&self) -> RwLockWriteGuard<'_, Handle> {
+        self.handle.write().unwrap_or_else(PoisonError::into_inner)
+    }
+
+    /// The handle, while no other thread changes the office.
+    fn read(&self) -> RwLockReadGuard<'_, Handle> {
+        self.handle.read().unwrap_or_else(PoisonError::into_inner)
     }
 
     /// The answer to a line of docs/API.md, as `rbac replay` writes it, both without a line feed.
@@ -210,20 +217,33 @@ impl Office {
     ///
     /// With an error the access has to be denied.
     pub fn check(&self, session: &str, operation: &str, object: &str) -> Result<bool, Error> {
-        let mut handle = self.lock();
-        // SAFETY: the pointers and lengths are those of texts, and the lock is held.
-        let decision = unsafe {
-            ffi::rbac_check(
-                &mut *handle,
-                session.as_ptr(),
-                session.len(),
+        self.decide(ffi::rbac_check, session, operation, object)
+    }
+
+    /// Whether the user could do the operation on the object in some session: whether the user may create a session for which
+    /// `check` returns true, as long as there may be one more.
+    ///
+    /// With an error the access has to be denied.
+    pub fn check_user(&self, user: &str, operation: &str, object: &str) -> Result<bool, Error> {
+        self.decide(ffi::rbac_check_user, user, operation, object)
+    }
+
+    /// What the library decides about the holder, which is a session or a user.
+    fn decide(&self, decision: ffi::Decision, holder: &str, operation: &str, object: &str) -> Result<bool, Error> {
+        let handle = self.read();
+        // SAFETY: the pointers and lengths are those of texts, and the lock is held for reading.
+        let decided = unsafe {
+            decision(
+                &*handle,
+                holder.as_ptr(),
+                holder.len(),
                 operation.as_ptr(),
                 operation.len(),
                 object.as_ptr(),
                 object.len(),
             )
         };
-        match decision {
+        match decided {
             1 => Ok(true),
             0 => Ok(false),
             refusal => Err(Error::of(refusal.unsigned_abs())),
@@ -233,8 +253,8 @@ impl Office {
     /// How many commands the office has accepted. A decision holds as long as this stays the same.
     pub fn revision(&self) -> Result<u64, Error> {
         let mut revision = 0;
-        // SAFETY: the lock is held.
-        match unsafe { ffi::rbac_revision(&mut *self.lock(), &mut revision) } {
+        // SAFETY: the lock is held for reading.
+        match unsafe { ffi::rbac_revision(&*self.read(), &mut revision) } {
             ffi::DONE => Ok(revision),
             code => Err(Error::of(code)),
         }
@@ -309,6 +329,8 @@ mod tests {
         assert_eq!(office.check("s", "p", "o"), Err(refused(26, "NoSession")));
         assert_eq!(office.check("", "p", "o"), Err(refused(1, "BadName")));
         assert_eq!(office.check("s", "\n", "o"), Err(refused(1, "BadName")));
+        assert_eq!(office.check_user("u", "p", "o"), Err(refused(2, "NoUser")));
+        assert_eq!(office.check_user("", "p", "o"), Err(refused(1, "BadName")));
     }
 
     #[test]
@@ -335,6 +357,20 @@ mod tests {
         assert_eq!(office.revision(), Ok(7));
         assert_eq!(Office::load(&rows[2..], 0).unwrap_err(), refused(52, "Damaged"));
         assert_eq!(Office::load(&[row(Table::Users, "", "")], 0).unwrap_err(), refused(1, "BadName"));
+    }
+
+    /// A thread decides while another one has the office for reading. It would wait forever for a lock that only one may have.
+    #[test]
+    fn decisions_run_side_by_side() {
+        let office = Office::new().unwrap();
+        let _other = office.read();
+        thread::scope(|scope| {
+            scope.spawn(|| {
+                assert_eq!(office.check("s", "p", "o"), Err(refused(26, "NoSession")));
+                assert_eq!(office.check_user("u", "p", "o"), Err(refused(2, "NoUser")));
+                assert_eq!(office.revision(), Ok(0));
+            });
+        });
     }
 
     #[test]

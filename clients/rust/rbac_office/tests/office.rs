@@ -53,6 +53,19 @@ fn decisions_allow_deny_and_refuse() {
 }
 
 #[test]
+fn decisions_about_users_allow_deny_and_refuse() {
+    let office = decided();
+    answers(&office, r#"{"fn":"deleteSession","user":"ann","session":"s1"}"#, r#"{"ok":true}"#);
+    assert_eq!(office.check_user("ann", "open", "safe"), Ok(true));
+    assert_eq!(office.check_user("bob", "open", "safe"), Ok(false));
+    assert_eq!(office.check_user("eve", "open", "safe"), Err(Error::Refused { code: 2, name: "NoUser" }));
+    assert_eq!(office.check_user("ann", "burn", "safe"), Err(Error::Refused { code: 33, name: "NoOperation" }));
+    assert_eq!(office.check_user("ann", "open", "vault"), Err(Error::Refused { code: 6, name: "NoObject" }));
+    answers(&office, r#"{"fn":"lockUserAccount","user":"ann"}"#, r#"{"ok":true}"#);
+    assert_eq!(office.check_user("ann", "open", "safe"), Ok(false));
+}
+
+#[test]
 fn threads_share_an_office() {
     let office = decided();
     std::thread::scope(|scope| {
@@ -61,6 +74,7 @@ fn threads_share_an_office() {
                 for _ in 0..1_000 {
                     assert_eq!(office.check("s1", "open", "safe"), Ok(true));
                     assert_eq!(office.check("s2", "open", "safe"), Ok(false));
+                    assert_eq!(office.check_user("ann", "open", "safe"), Ok(true));
                 }
             });
         }

@@ -72,7 +72,7 @@ module _ (S : RbacState) (good : IsGood S) (user : Bytes) (roles : Names) (sessi
     | inr own ↦ (user, (contains-insert-Decides pair_total pair_exact S.sessions (session, user) (other, user)).1 (inl (λ i. (((paired-Decides session roles other role).0 own).0 i, user))))
   ]
 
-  created_roles : (q : Bytes) → is_session_role (with_sessions S created_sessions created_active) session q ≡ is_reached_from S.edges (members roles) q
+  pub created_roles : (q : Bytes) → is_session_role (with_sessions S created_sessions created_active) session q ≡ is_reached_from S.edges (members roles) q
   unfolding created_sessions created_active with_sessions any
   created_roles q = ap (any (λ a. geq S.edges a q)) (with_paired-own S.active session roles none_active)
 

@@ -1,12 +1,16 @@
 //! The roles of a holder, which is a user or a session, by its pairs (holder, role): the assignments of the
 //! user, or the activated roles of the session. The holder has the roles of these pairs and their juniors.
-ghost use Rattle.std.specs.Prelude.{◌≡◌, ◌&&◌, ◌||◌, not, nat_lt};
+ghost use Rattle.std.specs.Prelude.{◌≡◌, ◌&&◌, ◌||◌, not, nat_lt, count_by};
+ghost use Rattle.std.specs.List.{list_all};
 ghost use Rattle.std.specs.Option.{option_copied};
-ghost use Rattle.rbac_sets.specs.Sets.{pair_cmp};
+ghost use Rattle.rbac_sets.specs.Sets.{Cardinality, Pair, pair_cmp};
 ghost use Rattle.rbac_sets.specs.SortedSet.{set_of};
+ghost use Rattle.role_order.specs.Order.{geq};
 ghost use Rattle.admin_mgr.specs.Authorization.{is_reached};
-ghost use Rattle.admin_mgr.specs.private.HolderRoles.{reached_roles, reached_members, reached_with, is_reached_from, reached_from, is_touched, find_with_all, find_with_one};
+ghost use Rattle.admin_mgr.specs.UserAccess.{stands_alone};
+ghost use Rattle.admin_mgr.specs.private.HolderRoles.{run_of, reached_roles, reached_members, reached_with, is_reached_from, reached_from, is_touched, find_with_all, find_with_one};
 
+use crate::state::State;
 use rbac_sets::{Name, PairSet};
 use role_order::RoleOrder;
 
@@ -16,6 +20,37 @@ pub fn is_reached(order: &RoleOrder, held: &[(Name, Name)], role: &Name) -> bool
     ensures { result ≡ is_reached order.now.edges held.now role.now }
 {
     held.iter().any(|pair| order.geq(&pair.1, role))
+}
+
+/// Whether the role and its juniors are fewer roles of each dynamic separation of duty set than its cardinality, so
+/// that a session may have the role alone. It doesn't allocate.
+pub fn stands_alone(state: &State, role: &Name) -> bool
+    ensures { result ≡ stands_alone state.now.facts role.now }
+{
+    are_few(
+        state.order(),
+        role,
+        state.dsd_members(),
+        state.dsd_cardinalities().as_slice(),
+    )
+}
+
+// Whether the role and its juniors are fewer of the members of each of the sets than its cardinality.
+fn are_few(order: &RoleOrder, role: &Name, members: &PairSet, cardinalities: &[(Name, u32)]) -> bool
+    ensures { result ≡ list_all (λ (entry : Cardinality). nat_lt (count_by (λ (member : Pair). geq order.now.edges role.now member.1) (run_of (set_of pair_cmp members.now) entry.0)) entry.1) cardinalities.now }
+{
+    cardinalities.iter().all(|entry| has_few(order, role, members.with_first(&entry.0), entry.1))
+}
+
+// Whether fewer of the members than the cardinality are the role or a junior of it.
+fn has_few(order: &RoleOrder, role: &Name, members: &[(Name, Name)], cardinality: u32) -> bool
+    ensures { result ≡ nat_lt (count_by (λ (member : Pair). geq order.now.edges role.now member.1) members.now) cardinality }
+{
+    members
+        .iter()
+        .filter(|member| order.geq(role, &member.1))
+        .count()
+        < cardinality as usize
 }
 
 // How many of the roles the holder has.
