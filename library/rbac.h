@@ -139,8 +139,17 @@ typedef struct rbac_row {
  *
  * RBAC_DONE: the names stand in `out`, one directly after the other, and their lengths in `*row`.
  * RBAC_ABSENT: the table has no such row, or there is no such table.
- * RBAC_SHORT, RBAC_MEMORY, RBAC_CLOSED as above. */
+ * RBAC_SHORT, RBAC_CLOSED as above. */
 uint32_t rbac_row_at(rbac_office *office, uint32_t table, size_t index, void *out, size_t out_length, rbac_row *row);
+
+/* Returns the rows of a table from the place `index` on: as many as there are, and as there is room for in `rows` and in `out`. The
+ * office stays the same.
+ *
+ * RBAC_DONE: `*count` rows were returned. Their names stand in `out`, one directly after the other, row after row, and their lengths
+ * in `rows`. With room in `rows` for one, and RBAC_LONGEST_ROW bytes in `out`, 0 says that the table has no row at this place.
+ * RBAC_ABSENT: there is no such table, and `*count` is 0. RBAC_CLOSED as above, with 0 in `*count`. */
+uint32_t rbac_rows(rbac_office *office, uint32_t table, size_t index, void *out, size_t out_length, rbac_row *rows, size_t row_count,
+    size_t *count);
 
 /* Adds a row to those of the next rbac_load. Names that the table doesn't have are ignored, and so is such a number.
  * Decisions and answers don't depend on it.
