@@ -1,4 +1,4 @@
-/* Refuses null pointers, and calls the proved functions of crates/rbac_c; it gives those that read an office in its place the pointer
+/* Refuses null pointers, and calls the proved functions of crates/rbac_c. Those that read an office in its place get the pointer
  * that the handle has. This file is tested, and nothing proves it. */
 #include "rbac.h"
 #include <stdbool.h>
@@ -96,15 +96,16 @@ uint32_t rbac_row_at(rbac_office *office, uint32_t table, size_t index, void *ou
     return rbac_office_row(office, table, index, out != NULL ? out : &empty, out_length, row);
 }
 
-uint32_t rbac_rows(rbac_office *office, uint32_t table, size_t index, void *out, size_t out_length, rbac_row *rows, size_t row_count,
-    size_t *count)
+uint32_t rbac_rows(rbac_office *office, uint32_t table, size_t index, void *out, size_t out_length, rbac_row *rows,
+    size_t row_count, size_t *count)
 {
     char empty;
     rbac_row none;
 
     if (office == NULL || count == NULL || lacks(out, out_length) || lacks(rows, row_count))
         return RBAC_NULL;
-    return rbac_office_rows(office, table, index, out != NULL ? out : &empty, out_length, rows != NULL ? rows : &none, row_count, count);
+    return rbac_office_rows(office, table, index, out != NULL ? out : &empty, out_length, rows != NULL ? rows : &none, row_count,
+        count);
 }
 
 uint32_t rbac_add_row(rbac_office *office, uint32_t table, const void *first, size_t first_length, const void *second,

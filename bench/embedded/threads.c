@@ -22,12 +22,14 @@ static struct { long made, granted; char apart[112]; } counted[MOST_THREADS];
 
 static int decide(int at)
 {
-    return rbac_check(&office, asked[at].session, asked[at].session_length, "read", 4, asked[at].object, asked[at].object_length) == 1;
+    return rbac_check(&office, asked[at].session, asked[at].session_length, "read", 4, asked[at].object,
+               asked[at].object_length) == 1;
 }
 
 static int decide_user(int at)
 {
-    return rbac_check_user(&office, asked[at].user, asked[at].user_length, "read", 4, asked[at].object, asked[at].object_length) == 1;
+    return rbac_check_user(&office, asked[at].user, asked[at].user_length, "read", 4, asked[at].object,
+               asked[at].object_length) == 1;
 }
 
 /* Asks some questions, from one place on, and returns how many were granted. */
