@@ -158,7 +158,7 @@ def print_threads() -> None:
     policy = Policy()
     said = others.run([program_in_c("threads"), policy.users, policy.objects], policy.lines()).decode()
     print("\nMillions of decisions in a second, from C:\n")
-    print("| Threads | A mutex | A read-write lock | The same, for 64 questions | About users, for 64 questions |\n|---|---|---|---|---|")
+    print("| Threads | A mutex | A read-write lock | The same, held for 64 of them | The same, about users |\n|---|---|---|---|---|")
     for line in said.splitlines():
         print(f"| {' | '.join(line.split())} |", flush=True)
 

@@ -1,4 +1,4 @@
-/* Refuses null pointers, and calls the proved functions of crates/rbac_c; it gives those that read an office in its place the pointer
+/* Refuses null pointers, and calls the proved functions of crates/rbac_c. Those that read an office in its place get the pointer
  * that the handle has. This file is tested, and nothing proves it. */
 #include "rbac.h"
 #include <stdbool.h>
@@ -10,6 +10,7 @@ uint32_t rbac_office_kept_answer(rbac_office *, void *, size_t, size_t *);
 int32_t rbac_office_check(const void *, bool, const void *, size_t, const void *, size_t, const void *, size_t);
 uint64_t rbac_office_revision(const void *);
 uint32_t rbac_office_row(rbac_office *, uint32_t, size_t, void *, size_t, rbac_row *);
+uint32_t rbac_office_rows(rbac_office *, uint32_t, size_t, void *, size_t, rbac_row *, size_t, size_t *);
 uint32_t rbac_office_add_row(rbac_office *, uint32_t, const void *, size_t, const void *, size_t, const void *, size_t, uint32_t);
 uint32_t rbac_office_load(rbac_office *, uint64_t);
 
@@ -93,6 +94,18 @@ uint32_t rbac_row_at(rbac_office *office, uint32_t table, size_t index, void *ou
     if (office == NULL || row == NULL || lacks(out, out_length))
         return RBAC_NULL;
     return rbac_office_row(office, table, index, out != NULL ? out : &empty, out_length, row);
+}
+
+uint32_t rbac_rows(rbac_office *office, uint32_t table, size_t index, void *out, size_t out_length, rbac_row *rows,
+    size_t row_count, size_t *count)
+{
+    char empty;
+    rbac_row none;
+
+    if (office == NULL || count == NULL || lacks(out, out_length) || lacks(rows, row_count))
+        return RBAC_NULL;
+    return rbac_office_rows(office, table, index, out != NULL ? out : &empty, out_length, rows != NULL ? rows : &none, row_count,
+        count);
 }
 
 uint32_t rbac_add_row(rbac_office *office, uint32_t table, const void *first, size_t first_length, const void *second,

@@ -9,12 +9,12 @@
  * What a caller has to guarantee, since nothing checks it:
  *
  * - A handle is RBAC_OFFICE_NONE, or what the library has left in it. It isn't copied, and only the library writes it.
- * - The questions rbac_check, rbac_check_user and rbac_revision may be given the same handle at once, by any number of threads. Each
- *   other call has the handle alone: while it runs, no other call is given it. A read-write lock does this, with the read lock for
- *   the questions and the write lock for the rest. Without other threads no lock is needed.
+ * - Any number of threads may give the same handle to the questions rbac_check, rbac_check_user and rbac_revision at once. Each
+ *   other call has the handle alone: while it runs, no other call is given it. A read-write lock does this, with the read lock
+ *   for these questions and the write lock for the rest. A process with one thread needs no lock.
  * - A pointer and its length are those of one array. Arrays of one call don't overlap, unless both are only read.
- * - No call comes from a signal handler. One comes from the forked child of a process with several threads only if no thread was in a
- *   call at the fork, and if malloc may be used in the child, as that of glibc may.
+ * - No call comes from a signal handler. One comes from the forked child of a process with several threads only if no thread
+ *   was in a call at the fork, and if malloc may be used in the child, as that of glibc may.
  * - malloc, realloc and free are of one allocator, and align blocks as C demands, to 16 bytes at most.
  * - The thread has 128 KiB of stack left.
  *
@@ -85,11 +85,11 @@ int32_t rbac_check(const rbac_office *office, const void *session, size_t sessio
 
 /* Decides whether the user could do the operation on the object in some session. The office stays the same.
  *
- * 1: with some roles and any new name the user may create a session for which rbac_check returns 1, as long as there may be one more
- * session. 0: the user may create none, and has none, for which it returns 1. So it is for a locked user. Otherwise there is no
- * decision, and the result is minus the code of the first of these reasons that applies: -RBAC_NULL, -RBAC_CLOSED, -RBAC_BAD_NAME (one
- * of the three isn't a name), -2 (there is no such user), -6 (no such object), -33 (no such operation). Only 1 allows the access. It
- * doesn't allocate. */
+ * 1: with some roles and any new name the user may create a session for which rbac_check returns 1, as long as there may be
+ * one more session. 0: the user may create none, and has none, for which it returns 1. So it is for a locked user. Otherwise
+ * there is no decision, and the result is minus the code of the first of these reasons that applies: -RBAC_NULL, -RBAC_CLOSED,
+ * -RBAC_BAD_NAME (one of the three isn't a name), -2 (there is no such user), -6 (no such object), -33 (no such operation).
+ * Only 1 allows the access. It doesn't allocate. */
 int32_t rbac_check_user(const rbac_office *office, const void *user, size_t user_length, const void *operation,
     size_t operation_length, const void *object, size_t object_length);
 
@@ -139,8 +139,17 @@ typedef struct rbac_row {
  *
  * RBAC_DONE: the names stand in `out`, one directly after the other, and their lengths in `*row`.
  * RBAC_ABSENT: the table has no such row, or there is no such table.
- * RBAC_SHORT, RBAC_MEMORY, RBAC_CLOSED as above. */
+ * RBAC_SHORT, RBAC_CLOSED as above. */
 uint32_t rbac_row_at(rbac_office *office, uint32_t table, size_t index, void *out, size_t out_length, rbac_row *row);
+
+/* Returns the rows of a table from the place `index` on: as many as there are, and as there is room for in `rows` and in
+ * `out`. The office stays the same.
+ *
+ * RBAC_DONE: `*count` rows were returned. Their names stand in `out`, one directly after the other, row after row, and their
+ * lengths in `rows`. With room in `rows` for one, and RBAC_LONGEST_ROW bytes in `out`, 0 says that the table has no row there.
+ * RBAC_ABSENT: there is no such table, and `*count` is 0. RBAC_CLOSED as above, with 0 in `*count`. */
+uint32_t rbac_rows(rbac_office *office, uint32_t table, size_t index, void *out, size_t out_length, rbac_row *rows,
+    size_t row_count, size_t *count);
 
 /* Adds a row to those of the next rbac_load. Names that the table doesn't have are ignored, and so is such a number.
  * Decisions and answers don't depend on it.

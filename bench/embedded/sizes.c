@@ -8,6 +8,9 @@
 #include <malloc.h>
 #include <string.h>
 
+/* How many rows are read at once. */
+enum { ROWS = 64 };
+
 /* The rows of an office, one after the other: a row's names are not separated. */
 typedef struct { uint32_t table; rbac_row row; size_t at; } Kept;
 
@@ -54,15 +57,16 @@ static void answer_lines(char **lines, const size_t *lengths, size_t count)
 static void read_rows(void)
 {
     for (uint32_t table = 0; table < RBAC_TABLES; table++)
-        for (size_t index = 0;; index++) {
-            rbac_row row;
-            uint32_t code = rbac_row_at(&office, table, index, names + used, RBAC_LONGEST_ROW, &row);
+        for (size_t index = 0, count;; index += count) {
+            rbac_row read[ROWS];
 
-            if (code == RBAC_ABSENT)
+            need(rbac_rows(&office, table, index, names + used, ROWS * RBAC_LONGEST_ROW, read, ROWS, &count), "the rows");
+            if (count == 0)
                 break;
-            need(code, "a row");
-            kept[rows++] = (Kept){table, row, used};
-            used += row.first + row.second + row.third;
+            for (size_t at = 0; at < count; at++) {
+                kept[rows++] = (Kept){table, read[at], used};
+                used += read[at].first + read[at].second + read[at].third;
+            }
         }
 }
 
@@ -101,7 +105,7 @@ int main(void)
     double start, answered, saved, loaded;
 
     kept = malloc(MOST_ROWS * sizeof *kept);
-    names = malloc((size_t)MOST_ROWS * RBAC_LONGEST_ROW);
+    names = malloc((size_t)(MOST_ROWS + ROWS) * RBAC_LONGEST_ROW);
     if (kept == NULL || names == NULL)
         fail("sizes", "no memory");
     need(rbac_open(&office), "an office");

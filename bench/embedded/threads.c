@@ -1,8 +1,8 @@
 /* How many decisions threads make in a second: threads USERS OBJECTS, with the lines of the office on standard input.
  *
  * For 1, 2 and 4 threads it prints a line: the millions of decisions in a second under a mutex, under a read-write lock for each
- * question, under one for up to 64 questions, and decisions about users under the last. Of each it is the median of some rounds, in
- * which all of these take turns. */
+ * decision, under one that is held for 64 decisions, and decisions about users under the last. Of each it is the median of some
+ * rounds, in which all of these take turns. */
 #define _GNU_SOURCE
 #include "rbac.h"
 #include "timing.h"
@@ -22,12 +22,14 @@ static struct { long made, granted; char apart[112]; } counted[MOST_THREADS];
 
 static int decide(int at)
 {
-    return rbac_check(&office, asked[at].session, asked[at].session_length, "read", 4, asked[at].object, asked[at].object_length) == 1;
+    return rbac_check(&office, asked[at].session, asked[at].session_length, "read", 4, asked[at].object,
+               asked[at].object_length) == 1;
 }
 
 static int decide_user(int at)
 {
-    return rbac_check_user(&office, asked[at].user, asked[at].user_length, "read", 4, asked[at].object, asked[at].object_length) == 1;
+    return rbac_check_user(&office, asked[at].user, asked[at].user_length, "read", 4, asked[at].object,
+               asked[at].object_length) == 1;
 }
 
 /* Asks some questions, from one place on, and returns how many were granted. */

@@ -29,7 +29,8 @@ int main(int count, char **given)
     if (count != 4 || rbac_open(&office) != RBAC_DONE)
         return 2;
     while ((length = getline(&line, &room, stdin)) > 0)
-        if (rbac_answer(&office, line, (size_t)length - 1, out, sizeof out, &answered) != RBAC_DONE || strncmp(out, "{\"ok\":true", 10) != 0)
+        if (rbac_answer(&office, line, (size_t)length - 1, out, sizeof out, &answered) != RBAC_DONE
+            || strncmp(out, "{\"ok\":true", 10) != 0)
             fail("a line was refused", line);
     printf("%.0f", per_call(ROUNDS, 1, decide));
     printf(" %d\n", decision);

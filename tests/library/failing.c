@@ -154,15 +154,14 @@ static long try_load(void)
         left = -1;
         for (uint32_t table = 0; table < RBAC_TABLES; table++)
             for (size_t index = 0;; index++) {
+                size_t count;
+
                 left = 0;
                 code = rbac_row_at(&office, table, index, names, sizeof names, &row);
-                CHECK(code == RBAC_MEMORY || left == 0);
-                left = -1;
-                code = rbac_row_at(&office, table, index, names, sizeof names, &row);
+                CHECK(rbac_rows(&office, table, index, names, sizeof names, &row, 1, &count) == RBAC_DONE && left == 0);
+                CHECK(code == (count == 1 ? RBAC_DONE : RBAC_ABSENT));
                 if (code == RBAC_ABSENT)
                     break;
-                CHECK(code == RBAC_DONE);
-                left = 0;
                 CHECK(rbac_add_row(&other, table, names, row.first, names + row.first, row.second,
                           names + row.first + row.second, row.third, row.number) == RBAC_MEMORY);
                 left = -1;

@@ -46,6 +46,10 @@ static void nulls(rbac_office *office)
     want("row of null", rbac_row_at(NULL, 0, 0, out, sizeof out, &row), RBAC_NULL);
     want("row to null", rbac_row_at(office, 0, 0, NULL, 1, &row), RBAC_NULL);
     want("row without lengths", rbac_row_at(office, 0, 0, out, sizeof out, NULL), RBAC_NULL);
+    want("rows of null", rbac_rows(NULL, 0, 0, out, sizeof out, &row, 1, &length), RBAC_NULL);
+    want("rows to null", rbac_rows(office, 0, 0, NULL, 1, &row, 1, &length), RBAC_NULL);
+    want("rows without lengths", rbac_rows(office, 0, 0, out, sizeof out, NULL, 1, &length), RBAC_NULL);
+    want("rows without a count", rbac_rows(office, 0, 0, out, sizeof out, &row, 1, NULL), RBAC_NULL);
     want("add to null", rbac_add_row(NULL, 0, TEXT("u"), NULL, 0, NULL, 0, 0), RBAC_NULL);
     want("add null", rbac_add_row(office, 0, NULL, 1, NULL, 0, NULL, 0, 0), RBAC_NULL);
     want("add a second null", rbac_add_row(office, 4, TEXT("u"), NULL, 1, NULL, 0, 0), RBAC_NULL);
@@ -70,6 +74,9 @@ static void closed(rbac_office *office)
     want("revision when closed", rbac_revision(office, &revision), RBAC_CLOSED);
     want("the revision", revision, 0);
     want("row when closed", rbac_row_at(office, 0, 0, out, sizeof out, &row), RBAC_CLOSED);
+    length = 7;
+    want("rows when closed", rbac_rows(office, 0, 0, out, sizeof out, &row, 1, &length), RBAC_CLOSED);
+    want("their count", length, 0);
     want("add when closed", rbac_add_row(office, 0, TEXT("u"), NULL, 0, NULL, 0, 0), RBAC_CLOSED);
     want("load when closed", rbac_load(office, 0), RBAC_CLOSED);
     rbac_close(office);
@@ -99,6 +106,37 @@ static void short_buffers(rbac_office *office)
     want("no row", rbac_row_at(office, RBAC_USERS, 2, out, sizeof out, &row), RBAC_ABSENT);
     want("no table", rbac_row_at(office, RBAC_TABLES, 0, out, sizeof out, &row), RBAC_ABSENT);
     want("the last row", rbac_row_at(office, RBAC_USERS, SIZE_MAX, out, sizeof out, &row), RBAC_ABSENT);
+}
+
+/* Reads two users and an assignment at once, with more and with less room than they need. */
+static void many_rows(rbac_office *office)
+{
+    rbac_row rows[4];
+
+    memset(rows, 0, sizeof rows);
+    memset(out, '-', sizeof out);
+    want("all users", rbac_rows(office, RBAC_USERS, 0, out, sizeof out, rows, 4, &length), RBAC_DONE);
+    want("their count", length, 2);
+    want("their names", memcmp(out, "annbob-", 7), 0);
+    want("the first length", rows[0].first, 3);
+    want("the second name", rows[1].second, 0);
+    want("nothing beyond", rows[2].first, 0);
+    want("the second user", rbac_rows(office, RBAC_USERS, 1, out, 3, rows, 4, &length), RBAC_DONE);
+    want("it", length == 1 && memcmp(out, "bob", 3) == 0, 1);
+    want("room for one and a half", rbac_rows(office, RBAC_USERS, 0, out, 5, rows, 4, &length), RBAC_DONE);
+    want("one", length == 1 && memcmp(out, "ann", 3) == 0, 1);
+    want("room for none", rbac_rows(office, RBAC_USERS, 0, out, 2, rows, 4, &length), RBAC_DONE);
+    want("none", length, 0);
+    want("lengths of one", rbac_rows(office, RBAC_USERS, 0, out, sizeof out, rows, 1, &length), RBAC_DONE);
+    want("one", length, 1);
+    want("no room at all", rbac_rows(office, RBAC_USERS, 0, NULL, 0, NULL, 0, &length), RBAC_DONE);
+    want("none", length, 0);
+    want("behind the last", rbac_rows(office, RBAC_USERS, 2, out, sizeof out, rows, 4, &length), RBAC_DONE);
+    want("none", length, 0);
+    want("the last place", rbac_rows(office, RBAC_USERS, SIZE_MAX, out, sizeof out, rows, 4, &length), RBAC_DONE);
+    want("none", length, 0);
+    want("no table", rbac_rows(office, RBAC_TABLES, 0, out, sizeof out, rows, 4, &length), RBAC_ABSENT);
+    want("none", length, 0);
 }
 
 static void names(rbac_office *office)
@@ -155,6 +193,7 @@ int main(void)
     want("open again", rbac_open(&office), RBAC_DONE);
     nulls(&office);
     short_buffers(&office);
+    many_rows(&office);
     names(&office);
     loads(&office);
     rbac_close(&office);

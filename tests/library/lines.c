@@ -51,7 +51,8 @@ static void decide(decision_of *decision_about, const char *names, size_t length
 
     if (operation == NULL || (object = memchr(operation + 1, '\t', end - operation - 1)) == NULL)
         exit(2);
-    printf("%" PRId32 "\n", decision_about(&office, names, operation - names, operation + 1, object - operation - 1, object + 1, end - object - 1));
+    printf("%" PRId32 "\n", decision_about(&office, names, operation - names, operation + 1, object - operation - 1, object + 1,
+        end - object - 1));
 }
 
 static void say_revision(void)

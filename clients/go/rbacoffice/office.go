@@ -8,14 +8,14 @@ package rbacoffice
 // #include <stdlib.h>
 // #include "rbac.h"
 //
-// enum { ROOM = 4096 };
+// enum { ROOM = 4096, ROWS = 64 };
 //
 // // An office with what its calls return. It is in the memory of C: cgo would check a pointer to Go's memory at each call,
 // // and copy an array that it leads to. For the same reason Go passes its address as a number.
 // typedef struct {
 //     rbac_office office;
 //     size_t length;
-//     rbac_row row;
+//     rbac_row rows[ROWS];
 //     char out[ROOM];
 // } room;
 //
@@ -34,9 +34,9 @@ package rbacoffice
 //     return rbac_kept_answer(&made->office, out, length, &made->length);
 // }
 //
-// static uint32_t row_at(uintptr_t at, uint32_t table, size_t index) {
+// static uint32_t rows(uintptr_t at, uint32_t table, size_t index) {
 //     room *made = (room *)at;
-//     return rbac_row_at(&made->office, table, index, made->out, ROOM, &made->row);
+//     return rbac_rows(&made->office, table, index, made->out, ROOM, made->rows, ROWS, &made->length);
 // }
 //
 // static uint32_t add_row(uintptr_t at, uint32_t table, _GoString_ first, _GoString_ second, _GoString_ third,
@@ -300,27 +300,35 @@ func (o *Office) Rows() ([]Row, error) {
 	}
 	var rows []Row
 	for table := Table(0); table < tables; table++ {
-		for index := 0; ; index++ {
-			code := C.row_at(o.at(), C.uint32_t(table), C.size_t(index))
-			if code == C.RBAC_ABSENT {
-				break
-			}
-			if code != C.RBAC_DONE {
+		for index := C.size_t(0); ; index += o.room.length {
+			if code := C.rows(o.at(), C.uint32_t(table), index); code != C.RBAC_DONE {
 				return nil, errorOf(code)
 			}
-			rows = append(rows, o.row(table))
+			if o.room.length == 0 {
+				break
+			}
+			rows = o.appendRows(rows, table)
 		}
 	}
 	return rows, nil
 }
 
-// row returns the row that the library has just returned. The caller holds the lock.
-func (o *Office) row(table Table) Row {
-	made := &o.room.row
-	second := made.first + made.second
-	third := second + made.third
-	names := [3]string{string(o.out(0, made.first)), string(o.out(made.first, second)), string(o.out(second, third))}
-	return Row{Table: table, Names: names, Number: uint32(made.number)}
+// appendRows appends the rows of a table that the library has just returned. The caller holds the lock.
+func (o *Office) appendRows(rows []Row, table Table) []Row {
+	made := o.room.rows[:o.room.length]
+	length := C.size_t(0)
+	for _, row := range made {
+		length += row.first + row.second + row.third
+	}
+	text := string(o.out(0, length))
+	for _, row := range made {
+		names := [3]string{text[:row.first]}
+		text = text[row.first:]
+		names[1], text = text[:row.second], text[row.second:]
+		names[2], text = text[:row.third], text[row.third:]
+		rows = append(rows, Row{Table: table, Names: names, Number: uint32(row.number)})
+	}
+	return rows
 }
 
 // Load returns the office that has exactly these rows, in any order. Its revision counts on from the one that is given.

@@ -115,9 +115,9 @@ class Office(Library):
         revision = self.revision
         for number, (table, parts) in enumerate(TABLES.items()):
             index = 0
-            while (row := self._row(number, index)) is not None:
-                yield Row(table, row[: len(parts)], row[3])
-                index += 1
+            while rows := self._rows(number, index):
+                yield from (Row(table, row[: len(parts)], row[3]) for row in rows)
+                index += len(rows)
         if self.revision != revision:
             raise RuntimeError("the office changed while its rows were read")
 

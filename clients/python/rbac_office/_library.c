@@ -8,6 +8,8 @@
 
 /* Answers of this length need no allocation. */
 #define ROOM 4096
+/* So many rows are read at once, at most. */
+#define ROWS 64
 
 typedef struct library {
     PyObject_HEAD
@@ -205,25 +207,43 @@ static PyObject *library_revision(Library *self, PyObject *Py_UNUSED(ignored))
     return code == RBAC_DONE ? PyLong_FromUnsignedLongLong(revision) : raise(code);
 }
 
-static PyObject *library_row(Library *self, PyObject *args)
+/* Returns the names of a row, and its number. */
+static PyObject *row_of(const char *names, const rbac_row *row)
+{
+    return Py_BuildValue("(s#s#s#I)", names, (Py_ssize_t)row->first, names + row->first, (Py_ssize_t)row->second,
+        names + row->first + row->second, (Py_ssize_t)row->third, (unsigned int)row->number);
+}
+
+static PyObject *library_rows(Library *self, PyObject *args)
 {
     unsigned int table;
     Py_ssize_t index;
-    char names[RBAC_LONGEST_ROW];
-    rbac_row row = {0, 0, 0, 0};
+    char names[ROOM];
+    const char *at = names;
+    rbac_row rows[ROWS];
+    size_t count = 0;
     uint32_t code;
+    PyObject *made;
 
-    if (!PyArg_ParseTuple(args, "In:row", &table, &index))
+    if (!PyArg_ParseTuple(args, "In:rows", &table, &index))
         return NULL;
     enter(self);
-    code = rbac_row_at(&self->office, table, (size_t)index, names, sizeof names, &row);
+    code = rbac_rows(&self->office, table, (size_t)index, names, sizeof names, rows, ROWS, &count);
     leave(self);
-    if (code == RBAC_ABSENT)
-        Py_RETURN_NONE;
     if (code != RBAC_DONE)
         return raise(code);
-    return Py_BuildValue("(s#s#s#I)", names, (Py_ssize_t)row.first, names + row.first, (Py_ssize_t)row.second,
-        names + row.first + row.second, (Py_ssize_t)row.third, (unsigned int)row.number);
+    made = PyList_New((Py_ssize_t)count);
+    for (size_t number = 0; made != NULL && number < count; number++) {
+        PyObject *row = row_of(at, &rows[number]);
+
+        if (row == NULL) {
+            Py_CLEAR(made);
+            break;
+        }
+        PyList_SET_ITEM(made, (Py_ssize_t)number, row);
+        at += rows[number].first + rows[number].second + rows[number].third;
+    }
+    return made;
 }
 
 static PyObject *library_add_row(Library *self, PyObject *args)
@@ -334,7 +354,7 @@ static PyMethodDef methods[] = {
     {"check_user", (PyCFunction)(void (*)(void))library_check_user, METH_FASTCALL, check_user_doc},
     {"close", (PyCFunction)library_close, METH_NOARGS, close_doc},
     {"_revision", (PyCFunction)library_revision, METH_NOARGS, "How many commands were accepted."},
-    {"_row", (PyCFunction)library_row, METH_VARARGS, "The row at a place of a table, or None."},
+    {"_rows", (PyCFunction)library_rows, METH_VARARGS, "Some rows of a table from a place on, or none if there is none."},
     {"_add_row", (PyCFunction)library_add_row, METH_VARARGS, "Adds a row for the next load. 0, or the code of the refusal."},
     {"_load", (PyCFunction)library_load, METH_O, "Starts again with the added rows. 0, or the code of the refusal."},
     {NULL, NULL, 0, NULL},

@@ -1,10 +1,12 @@
 -- What a call from C returns and leaves.
-use Rattle.std.specs.Prelude.{◌≡◌, ◌⊎◌, ◌<◌, ◌≤◌, ◌-ℤ◌, ℤ, pos, Bool, true, false, ℕ, List, length, take, Option, Some, None}
+use Rattle.std.specs.Prelude.{◌≡◌, ◌⊎◌, ◌<◌, ◌≤◌, ◌+◌, ◌^◌, ◌-ℤ◌, ℤ, pos, Bool, true, false, ℕ, List, [], ◌∷◌, length, map, take, Option, Some, None}
+use Rattle.std.specs.List.{flat_map}
 use Rattle.rbac_sets.specs.Refusal.{code_of}
 use Rattle.rbac_sets.specs.Table.{number_of}
 use Rattle.rbac_sets.specs.declared.refusal.Refusal.{Refusal}
 use Rattle.rbac_sets.specs.declared.table.Table.{Table}
 use Rattle.rbac_sets.specs.declared.table.TheConstants.Table.{COUNT}
+use Rattle.admin_mgr.specs.RbacState.{RbacState}
 use Rattle.admin_mgr.specs.RowChecks.{IsStateOf, RefusesRows}
 use Rattle.role_lines.specs.Decision.{Decides, DecidesUser, Refuses, RefusesUser}
 use Rattle.role_lines.specs.LineAnswer.{StopsAt}
@@ -69,13 +71,12 @@ IsAbsent office table index = (COUNT ≤ table) ⊎ ((t : Table) × ((number_of 
 abbrev pub HasRow : OfficeInMemory → ℕ → ℕ → Parts → Type 0
 HasRow office table index row = (t : Table) × ((number_of t ≡ table) × IsRowAt office.facts t index (Some row))
 
--- the names of the row are copied, one after the other, and their lengths are written; or an allocation failed
+-- the names of the row are copied, one after the other, unless the buffer is shorter, and their lengths are written
 abbrev pub CopiesParts : Parts → List ℕ → RowLengths → ℕ → Type 0
 CopiesParts row out lengths code =
     (lengths ≡ lengths_of row)
     × (((code ≡ DONE) × (take (length (names_in row)) out ≡ names_in row))
-    ⊎ (((code ≡ SHORT) × (length out < length (names_in row)))
-    ⊎ (code ≡ MEMORY)))
+    ⊎ ((code ≡ SHORT) × (length out < length (names_in row))))
 
 -- a row is copied, or there is none
 abbrev pub CopiesRow : Option OfficeInMemory → ℕ → ℕ → List ℕ → RowLengths → ℕ → Type 0
@@ -83,6 +84,31 @@ CopiesRow None table index out lengths code = code ≡ CLOSED
 CopiesRow (Some office) table index out lengths code =
     ((row : Parts) × (HasRow office table index row × CopiesParts row out lengths code))
     ⊎ ((code ≡ ABSENT) × IsAbsent office table index)
+
+-- these are the rows of the state from this place of the table on
+abbrev pub AreRowsAt : RbacState → Table → ℕ → List Parts → Type 0
+AreRowsAt S table index [] = Unit {0}
+AreRowsAt S table index (row ∷ rows) = IsRowAt S table index (Some row) × AreRowsAt S table (index + 1) rows
+
+-- there is no row at this place, also if no index reaches it
+abbrev pub IsPast : RbacState → Table → ℕ → Type 0
+IsPast S table index = (2 ^ 64 ≤ index) ⊎ IsRowAt S table index None
+
+-- These rows, from this place of the table on, are copied: their names, one after the other, and their lengths. There is no further
+-- row, or no room for its names or for its lengths.
+pub record CopiesFrom (S : RbacState) (table : Table) (index : ℕ) (out : List ℕ) (lengths : List RowLengths) (rows : List Parts) : Type 0 where
+  pub are : AreRowsAt S table index rows
+  pub names : take (length (flat_map names_in rows)) out ≡ flat_map names_in rows
+  pub lengths_are : take (length rows) lengths ≡ map lengths_of rows
+  pub last : (length rows ≡ length lengths) ⊎ (IsPast S table (index + length rows)
+      ⊎ ((row : Parts) × (IsRowAt S table (index + length rows) (Some row) × (length out < length (flat_map names_in rows) + length (names_in row)))))
+
+-- so many rows are copied, or there is no such table
+abbrev pub CopiesRows : Option OfficeInMemory → ℕ → ℕ → List ℕ → List RowLengths → ℕ → ℕ → Type 0
+CopiesRows None table index out lengths count code = (count ≡ 0) × (code ≡ CLOSED)
+CopiesRows (Some office) table index out lengths count code =
+    ((t : Table) × ((number_of t ≡ table) × ((code ≡ DONE) × ((rows : List Parts) × ((count ≡ length rows) × CopiesFrom office.facts t index out lengths rows)))))
+    ⊎ ((count ≡ 0) × ((code ≡ ABSENT) × (COUNT ≤ table)))
 
 -- the row is added, or the office is the same: one of the row's names isn't a name, there is no such table, or an allocation failed
 abbrev pub AddsRowIn : OfficeInMemory → OfficeInMemory → ℕ → Parts → ℕ → Type 0

@@ -5,14 +5,14 @@ ghost use Rattle.std.specs.Prelude.{◌≡◌, ◌⊎◌, ◌<◌, Some, None, I
 ghost use Rattle.admin_mgr.specs.RbacState.{empty_state};
 ghost use Rattle.role_lines.specs.OfficeInMemory.{OfficeInMemory, starting};
 ghost use Rattle.role_lines.specs.contracts.office.MemoryOffice.{the_row};
-ghost use Rattle.role_lines.specs.RowParts.{parts_of};
 ghost use Rattle.role_lines.specs.StoredRow.{parts};
-ghost use Rattle.rbac_c.specs.Calls.{AddsRow, AnswersCall, Copies, CopiesKept, CopiesParts, CopiesRow, Decided, IsDecided, IsRefused, Loads};
+ghost use Rattle.rbac_c.specs.Calls.{AddsRow, AnswersCall, Copies, CopiesKept, CopiesRow, CopiesRows, Decided, IsDecided, IsRefused, Loads};
 ghost use Rattle.rbac_c.specs.Held.{reads};
 
+use crate::copying::{copy, copy_row, copy_rows};
 use crate::handle::OfficeHandle;
 use rbac_sets::Refusal;
-use role_lines::{MemoryOffice, RowParts, decide, decide_for_user, row_at, row_of, table_numbered};
+use role_lines::{MemoryOffice, decide, decide_for_user, row_at, row_of, table_numbered};
 use std::alloc::Global;
 use std::mem::replace;
 
@@ -162,7 +162,33 @@ pub extern "C" fn rbac_office_row(
 {
     match replace(office, OfficeHandle::none()).into_box(alloc) {
         Some(held) => {
-            let result = row(alloc, &held, table, index, out, lengths);
+            let result = row(&held, table, index, out, lengths);
+            put(alloc, office, OfficeHandle::of(held));
+            result
+        }
+        None => CLOSED,
+    }
+}
+
+/// Writes the names of the rows from this place of the table on into `out`, one after the other, and their lengths and
+/// numbers to `lengths`: as many rows as there are, and as there is room for in both. `count` gets how many these are.
+#[unsafe(no_mangle)]
+pub extern "C" fn rbac_office_rows(
+    alloc: Global,
+    office: &mut OfficeHandle,
+    table: u32,
+    index: usize,
+    out: &mut [u8],
+    lengths: &mut [RowLengths],
+    count: &mut usize,
+) -> u32
+    ensures keeps { office.new.office ≡ office.old.office }
+    ensures copies { CopiesRows office.old.office table index out.new lengths.new count.new result }
+{
+    *count = 0;
+    match replace(office, OfficeHandle::none()).into_box(alloc) {
+        Some(held) => {
+            let result = rows(&held, table, index, out, lengths, count);
             put(alloc, office, OfficeHandle::of(held));
             result
         }
@@ -278,7 +304,6 @@ fn decide_about(
 
 // Copies the row at this place of the table.
 fn row(
-    alloc: Global,
     office: &MemoryOffice,
     table: u32,
     index: usize,
@@ -291,28 +316,28 @@ fn row(
         return ABSENT;
     };
     match row_at(office.state(), table, index) {
-        Some(row) => copy_row(alloc, &row, out, lengths),
+        Some(row) => copy_row(&row, out, lengths),
         None => ABSENT,
     }
 }
 
-// Copies a row.
-fn copy_row(alloc: Global, row: &RowParts<'_>, out: &mut [u8], lengths: &mut RowLengths) -> u32
-    ensures { CopiesParts (parts_of row.now) out.new lengths.new result }
+// Copies the rows from this place of the table on.
+fn rows(
+    office: &MemoryOffice,
+    table: u32,
+    index: usize,
+    out: &mut [u8],
+    lengths: &mut [RowLengths],
+    count: &mut usize,
+) -> u32
+    ensures { CopiesRows (Some office.now) table index out.new lengths.new count.new result }
 {
-    *lengths = RowLengths {
-        first: row.first.len(),
-        second: row.second.len(),
-        third: row.third.len(),
-        number: row.number,
+    let Some(table) = table_numbered(table) else {
+        *count = 0;
+        return ABSENT;
     };
-    match row.text(alloc) {
-        Ok(text) => {
-            let mut count = 0;
-            copy(&text, out, &mut count)
-        }
-        Err(_) => MEMORY,
-    }
+    *count = copy_rows(office.state(), table, index, out, lengths);
+    DONE
 }
 
 // Adds a row of this table.
@@ -347,16 +372,4 @@ fn load(alloc: Global, office: &mut MemoryOffice, revision: u64) -> u32
         Ok(()) => DONE,
         Err(refusal) => refusal.code(),
     }
-}
-
-// Copies a text into the buffer, if it is long enough, and writes the length of the text.
-fn copy(text: &[u8], out: &mut [u8], count: &mut usize) -> u32
-    ensures { Copies text.now out.new count.new result }
-{
-    *count = text.len();
-    if out.len() < text.len() {
-        return SHORT;
-    }
-    out[..text.len()].copy_from_slice(text);
-    DONE
 }

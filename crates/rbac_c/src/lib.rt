@@ -4,5 +4,6 @@
 #![tactic(auto)]
 
 pub mod calls;
+mod copying;
 mod detached;
 mod handle;

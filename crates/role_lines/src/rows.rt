@@ -1,7 +1,7 @@
 //! The rows of an office by their parts, to save an office and to load it again.
 ghost use Rattle.std.specs.Prelude.{◌≡◌, ◌⊎◌, ◌≤◌, IfOk, IfErr, IfSome, IfNone, option_map};
 ghost use Rattle.rbac_sets.specs.Table.{number_of};
-ghost use Rattle.role_lines.specs.StoredRow.{HasNames, IsRowAt, cardinality_at, name_at, names_in, pair_at, parts, row_with, triple_at};
+ghost use Rattle.role_lines.specs.StoredRow.{HasNames, IsRowAt, cardinality_at, name_at, pair_at, parts, row_with, triple_at};
 ghost use Rattle.role_lines.specs.Decision.{IsNameText};
 ghost use Rattle.role_lines.specs.RowParts.{parts_of};
 
@@ -22,24 +22,6 @@ pub struct RowParts<'a> {
     pub third: &'a [u8],
     /// The cardinality of a separation of duty set.
     pub number: u32,
-}
-
-impl RowParts<'_> {
-    /// Its names, one after the other.
-    ///
-    /// # Errors
-    ///
-    /// `Memory` if an allocation failed.
-    pub fn text(&self, alloc: Global) -> Result<Vec<u8>, Refusal>
-        ensures ok { IfOk result (λ text. text.items ≡ names_in (parts_of self.now)) }
-        ensures cause { IfErr result (λ refusal. refusal ≡ Refusal.Memory) }
-    {
-        let mut text = Vec::new(alloc);
-        text.extend_from_slice(self.first)?;
-        text.extend_from_slice(self.second)?;
-        text.extend_from_slice(self.third)?;
-        Ok(text)
-    }
 }
 
 /// The row at this place of the table, whose rows are in byte order. `None` if the table has fewer rows.

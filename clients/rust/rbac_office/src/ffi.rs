@@ -28,7 +28,7 @@ impl Handle {
 }
 
 /// The lengths of the names of a row, and its number.
-#[derive(Default)]
+#[derive(Clone, Copy, Default)]
 #[repr(C)]
 pub struct RowLengths {
     pub first: usize,
@@ -72,13 +72,15 @@ extern "C" {
         object_length: usize,
     ) -> i32;
     pub fn rbac_revision(office: *const Handle, revision: *mut u64) -> u32;
-    pub fn rbac_row_at(
+    pub fn rbac_rows(
         office: *mut Handle,
         table: u32,
         index: usize,
         out: *mut u8,
         out_length: usize,
-        row: *mut RowLengths,
+        rows: *mut RowLengths,
+        row_count: usize,
+        count: *mut usize,
     ) -> u32;
     pub fn rbac_add_row(
         office: *mut Handle,

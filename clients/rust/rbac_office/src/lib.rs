@@ -22,8 +22,8 @@ use ffi::{Handle, RowLengths};
 
 /// Answers of this length need no second call.
 const ROOM: usize = 4096;
-/// So many bytes are enough for the names of a row.
-const LONGEST_ROW: usize = 192;
+/// So many rows are read at once, at most.
+const ROWS: usize = 64;
 
 /// Why a call has no result.
 #[derive(Clone, Debug, PartialEq, Eq)]
@@ -265,11 +265,13 @@ impl Office {
         let mut rows = Vec::new();
         let mut handle = self.lock();
         for table in Table::ALL {
-            for index in 0.. {
-                match row_at(&mut handle, table, index)? {
-                    Some(row) => rows.push(row),
-                    None => break,
+            let mut index = 0;
+            loop {
+                let count = append_rows(&mut handle, table, index, &mut rows)?;
+                if count == 0 {
+                    break;
                 }
+                index += count;
             }
         }
         Ok(rows)
@@ -286,21 +288,38 @@ fn kept_answer(handle: &mut Handle, mut length: usize) -> Result<Vec<u8>, Error>
     }
 }
 
-/// The row at this place of the table, if there is one.
-fn row_at(handle: &mut Handle, table: Table, index: usize) -> Result<Option<Row>, Error> {
-    let mut names = [0; LONGEST_ROW];
-    let mut row = RowLengths::default();
-    // SAFETY: the pointers and lengths are those of an array and a struct, and the caller holds the lock.
-    match unsafe { ffi::rbac_row_at(handle, table as u32, index, names.as_mut_ptr(), names.len(), &mut row) } {
-        ffi::DONE => {
-            let (second, third) = (row.first + row.second, row.first + row.second + row.third);
-            let text = |from, to| String::from_utf8_lossy(&names[from..to]).into_owned();
-            let names = [text(0, row.first), text(row.first, second), text(second, third)];
-            Ok(Some(Row { table, names, number: row.number }))
-        }
-        ffi::ABSENT => Ok(None),
-        code => Err(Error::of(code)),
+/// Appends some rows of the table from this place on, and returns how many: 0 if there is none.
+fn append_rows(handle: &mut Handle, table: Table, index: usize, rows: &mut Vec<Row>) -> Result<usize, Error> {
+    let mut names = [0; ROOM];
+    let mut lengths = [RowLengths::default(); ROWS];
+    let mut count = 0;
+    // SAFETY: the pointers and lengths are those of arrays, and the caller holds the lock.
+    let code = unsafe {
+        ffi::rbac_rows(
+            handle,
+            table as u32,
+            index,
+            names.as_mut_ptr(),
+            names.len(),
+            lengths.as_mut_ptr(),
+            lengths.len(),
+            &mut count,
+        )
+    };
+    if code != ffi::DONE {
+        return Err(Error::of(code));
     }
+    let mut left = &names[..];
+    let mut name = |length| {
+        let (name, others) = left.split_at(length);
+        left = others;
+        String::from_utf8_lossy(name).into_owned()
+    };
+    for row in &lengths[..count] {
+        let names = [name(row.first), name(row.second), name(row.third)];
+        rows.push(Row { table, names, number: row.number });
+    }
+    Ok(count)
 }
 
 impl Drop for Office {

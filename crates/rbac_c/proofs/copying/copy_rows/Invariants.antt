@@ -1,0 +1,9 @@
+use Rattle.std.proofs.Common.{◌-◌, length}
+use Rattle.rbac_c.proofs.CopiedRows.{HasCopied}
+use Rattle.rbac_c.proofs.copying.copy_rows.Given as goal
+
+abbrev pub invariant-loop-count : goal.invariant-loop-count
+invariant-loop-count l = HasCopied l.state.facts l.table l.index l.out l.lengths l.at l.count
+
+abbrev pub decreases-loop-count : goal.decreases-loop-count
+decreases-loop-count l = length l.lengths - l.count
