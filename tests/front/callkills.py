@@ -167,7 +167,7 @@ SECRET = "session-that-nobody-may-see"
 @pytest.mark.slow
 @pytest.mark.needs("strace")
 def check_killed_verify(bench):
-    """A verify is killed at any place. The next one removes the copies of the office that it has left, which may have names of sessions."""
+    """A verify is killed at any place. It leaves no name of a session anywhere, and the next one removes the copies that it has left."""
     front, counts = Front(bench), Counter()
     with front:
         front.ask("addUser", {"user": "ann"})
@@ -179,7 +179,7 @@ def check_killed_verify(bench):
         counts["kills" if is_killed(words, call, number) else "ends"] += 1
         left = [f"/dev/shm/{name}" for name in left_in_memory(front.office)]
         counts["kills that left a copy"] += bool(left)
-        counts["kills that left a name"] += any(files_with(folder, SECRET) for folder in left)
+        bench.same(f"{what}: files with a name of a session", [file for folder in left for file in files_with(folder, SECRET)], [])
         verified(bench, what, front.office)
         bench.same(f"{what}: what is left", left_in_memory(front.office), [])
     bench.same("some have left a copy", counts["kills that left a copy"] > 0, True)
