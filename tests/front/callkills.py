@@ -1,5 +1,5 @@
-"""Commands about a record are killed at each system call that changes something: cut, adopt, backup. After that a start goes on with the
-record, verify finds nothing, no entry is missing or there twice, and nothing stays stopped."""
+"""Commands about a record are killed at each system call that changes something: cut, adopt, backup, verify. After that a start goes on
+with the record, verify finds nothing, no entry is missing or there twice, nothing stays stopped, and no copy of the office is left."""
 
 import os
 import random
@@ -14,7 +14,7 @@ from program.bench import PROGRAM as RBAC
 from program.bench import SECONDS
 
 from .program import Front, until
-from .recorded import entries, path_of, tool, verified
+from .recorded import entries, files_with, left_in_memory, path_of, tool, verified
 from .running import LONG, PROGRAM
 
 OK = '{"ok":true}'
@@ -158,3 +158,29 @@ def check_killed_backup(bench):
     verified(bench, "the front's own record", front.office)
     bench.same("some were killed", counts["kills"] > 0, True)
     return {f"record: {what} of backup at system calls": count for what, count in counts.items()}
+
+
+# The name of a session, which is found nowhere by chance.
+SECRET = "session-that-nobody-may-see"
+
+
+@pytest.mark.slow
+@pytest.mark.needs("strace")
+def check_killed_verify(bench):
+    """A verify is killed at any place. It leaves no name of a session anywhere, and the next one removes the copies that it has left."""
+    front, counts = Front(bench), Counter()
+    with front:
+        front.ask("addUser", {"user": "ann"})
+        bench.same("a session", front.ask("createSession", {"user": "ann", "roles": [], "session": SECRET})[1], OK)
+        bench.same("the end", front.end(), 0)
+    words = [os.environ[PROGRAM], "record", "verify", "--program", RBAC, "--office", front.office]
+    for call, number in places_of(words, bench.path("trace")):
+        what = f"verify killed at {call} {number}"
+        counts["kills" if is_killed(words, call, number) else "ends"] += 1
+        left = [f"/dev/shm/{name}" for name in left_in_memory(front.office)]
+        counts["kills that left a copy"] += bool(left)
+        bench.same(f"{what}: files with a name of a session", [file for folder in left for file in files_with(folder, SECRET)], [])
+        verified(bench, what, front.office)
+        bench.same(f"{what}: what is left", left_in_memory(front.office), [])
+    bench.same("some have left a copy", counts["kills that left a copy"] > 0, True)
+    return {f"record: {what} of verify at system calls": count for what, count in counts.items()}

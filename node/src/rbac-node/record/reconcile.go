@@ -116,26 +116,32 @@ func (r *Record) settle(open []entry, done int) error {
 	return r.write(open, nil)
 }
 
-// sumsOf describes the rows of an office by a copy of it, which nobody writes meanwhile, and which has the names of sessions only as
-// long as it is read. If they can't be read, the program says why it refuses the copy.
+// sumsOf describes the rows of an office that nobody writes meanwhile. Only one with a log is copied for that, and the copy, which has
+// the names of sessions, is there only as long as it is read. If the rows can't be read, the program says why it refuses a copy.
 func sumsOf(ctx context.Context, program, file, copied string) (s sums, err error) {
 	defer func() {
 		for _, left := range []string{copied, copied + walSuffix, copied + "-shm"} {
 			_ = os.Remove(left) // The folder is removed too.
 		}
 	}()
-	if err := copyOffice(file, copied); err != nil {
-		return s, err
+	var c *officeCopy
+	if log, logErr := os.Stat(file + walSuffix); logErr == nil && log.Size() > 0 {
+		if err := copyOffice(file, copied); err != nil {
+			return s, err
+		}
+		c, err = openCopy(copied, false)
+	} else {
+		c, err = openUnchanged(file)
 	}
-	c, err := openCopy(copied, false)
 	if err == nil {
 		defer c.Close()
 		s, err = c.sums(ctx)
 	}
-	if err != nil && !errors.Is(err, errTwoNames) {
-		if refused := office.Run(ctx, program, "check", copied); refused != nil {
-			err = refused
-		}
+	if err == nil || errors.Is(err, errTwoNames) || copyOffice(file, copied) != nil {
+		return s, err
+	}
+	if refused := office.Run(ctx, program, "check", copied); refused != nil {
+		err = refused
 	}
 	return s, err
 }

@@ -40,7 +40,8 @@ type sums struct {
 	all     string
 }
 
-// An officeCopy is a copy of an office that nobody else has. In a mapped one sessions have the digests of their names.
+// An officeCopy is a copy of an office that nobody else has, or an office that is only read. In a mapped one sessions have the digests
+// of their names.
 type officeCopy struct {
 	db       *sql.DB
 	isMapped bool
@@ -50,7 +51,16 @@ type officeCopy struct {
 
 // openCopy opens a copy of an office. SQLite reads the log beside it.
 func openCopy(path string, isMapped bool) (*officeCopy, error) {
-	db, err := openFile(path, "_busy_timeout=0")
+	return openOffice(path, isMapped, "_busy_timeout=0")
+}
+
+// openUnchanged opens an office without a log, which nobody writes, and beside which nothing is made.
+func openUnchanged(path string) (*officeCopy, error) {
+	return openOffice(path, false, "mode=ro&immutable=1")
+}
+
+func openOffice(path string, isMapped bool, options string) (*officeCopy, error) {
+	db, err := openFile(path, options)
 	if err != nil {
 		return nil, err
 	}

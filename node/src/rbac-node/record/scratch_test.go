@@ -60,13 +60,26 @@ func TestSharedScratch(t *testing.T) {
 	}
 }
 
-// TestNoCopyLeft has no copy of the office, with its names of sessions, after its rows were read.
+// TestNoCopyLeft has no copy of the office, with its names of sessions, after its rows were read. One without a log is read as it is.
 func TestNoCopyLeft(t *testing.T) {
 	b := open(t)
 	b.answered(addAnn, addRole, assign, login)
-	copied := filepath.Join(t.TempDir(), "copy")
-	if _, err := sumsOf(context.Background(), b.Program, b.Office, copied); err != nil {
+	plain, err := sumsOf(context.Background(), b.Program, b.Office, filepath.Join(t.TempDir(), "nowhere", "copy"))
+	if err != nil {
 		t.Fatal(err)
+	}
+	copied := filepath.Join(t.TempDir(), "copy")
+	db, err := openFile(b.Office, "_journal_mode=WAL")
+	if err == nil {
+		defer db.Close()
+		_, err = db.Exec("INSERT INTO name_row VALUES (1, 'logged')") // It is in the log alone.
+	}
+	if err != nil {
+		t.Fatal(err)
+	}
+	logged, err := sumsOf(context.Background(), b.Program, b.Office, copied)
+	if err != nil || logged.counts[1] != plain.counts[1]+1 {
+		t.Errorf("%v, %v and %v", err, logged.counts, plain.counts)
 	}
 	if found, _ := filepath.Glob(copied + "*"); len(found) > 0 {
 		t.Errorf("%v are left", found)
