@@ -32,9 +32,10 @@ ROWS = [
 
 # How many parts share the allocations of a subcommand or a server. The most allocations that all parts try, and the most
 # of a row: over an office in memory, and over one in a file of those by which it is opened, which are the same for each
-# row, and of those after that; then the same with `--long`.
+# row, and of those after that; then the same with `--gate`, and with `--long`.
 PARTS = 4
-TRIED = {"subcommand": 240, "memory": 16, "opening": 2, "file": 6}
+TRIED = {"subcommand": 120, "memory": 8, "opening": 1, "file": 3}
+GATE_TRIED = {"subcommand": 240, "memory": 16, "opening": 2, "file": 6}
 MORE_TRIED = {"subcommand": 20_000, "memory": 10_000, "opening": 8, "file": 10_000}
 
 # The rows of which each allocation is tried, over an office in memory.
@@ -57,7 +58,7 @@ SERVER_LINES = [b"rbac: cannot listen\n", b"rbac: cannot accept\n", b"rbac: clos
 
 def most_of(bench, kind):
     """The most allocations that are tried of one kind."""
-    return (MORE_TRIED if bench.is_long else TRIED)[kind]
+    return (MORE_TRIED if bench.is_long else GATE_TRIED if bench.is_gate else TRIED)[kind]
 
 
 def size_of(row):
