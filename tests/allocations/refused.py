@@ -32,9 +32,10 @@ ROWS = [
 
 # How many parts share the allocations of a subcommand or a server. The most allocations that all parts try, and the most
 # of a row: over an office in memory, and over one in a file of those by which it is opened, which are the same for each
-# row, and of those after that; then the same with `--long`.
+# row, and of those after that; then the same with `--gate`, and with `--long`.
 PARTS = 4
-TRIED = {"subcommand": 240, "memory": 16, "opening": 2, "file": 6}
+TRIED = {"subcommand": 120, "memory": 8, "opening": 1, "file": 3}
+GATE_TRIED = {"subcommand": 240, "memory": 16, "opening": 2, "file": 6}
 MORE_TRIED = {"subcommand": 20_000, "memory": 10_000, "opening": 8, "file": 10_000}
 
 # The rows of which each allocation is tried, over an office in memory.
@@ -57,7 +58,7 @@ SERVER_LINES = [b"rbac: cannot listen\n", b"rbac: cannot accept\n", b"rbac: clos
 
 def most_of(bench, kind):
     """The most allocations that are tried of one kind."""
-    return (MORE_TRIED if bench.is_long else TRIED)[kind]
+    return (MORE_TRIED if bench.is_long else GATE_TRIED if bench.is_gate else TRIED)[kind]
 
 
 def size_of(row):
@@ -94,16 +95,13 @@ class Refuser(Shim):
         """The settings by which the allocation of this number is refused."""
         return {"REFUSE": number, "REFUSED": self.file}
 
+    def counting(self):
+        """The settings by which allocations are counted, and none is refused."""
+        return {"COUNTED": self.file}
 
-def number_of_allocations(is_refused):
-    """How many allocations a run makes; `is_refused` fails one of them, and returns whether the run made that one."""
-    least, above = 0, 64
-    while above < MOST and is_refused(above):
-        least, above = above, 2 * above
-    while above - least > 1:
-        middle = (least + above) // 2
-        least, above = (middle, above) if is_refused(middle) else (least, middle)
-    return least
+    def counted(self):
+        """How many allocations the last run made, which counted them."""
+        return int(self.ask() or 0)
 
 
 def tried(count, most, part=0, parts=1):
@@ -149,13 +147,14 @@ def refuse_over_file(bench, name, content, story, numbers):
     """Runs a story with one allocation failing, for each number that `numbers` returns for the count of allocations."""
     refuser, counts = Refuser(bench), Counter()
 
-    def run(number):
+    def run(settings):
         path = lay(bench, content)
-        return path, refuser.run(story.words(path), story.given, **refuser.settings(number))
+        return path, refuser.run(story.words(path), story.given, **settings)
 
-    count = number_of_allocations(lambda number: run(number)[1] and refuser.report is not None)
+    run(refuser.counting())
+    count = refuser.counted()
     for number in numbers(count):
-        path, done = run(number)
+        path, done = run(refuser.settings(number))
         what = f"{name}, allocation {number} of {count} refused"
         bench.same(f"{what}: it was asked for", refuser.report, "")
         judge(bench, what, story, done)
@@ -179,15 +178,23 @@ def check_refuse_subcommand(bench, name, part):
     return refuse_over_file(bench, name, content, story, lambda count: tried(count, most_of(bench, "subcommand"), part, PARTS))
 
 
+# How many allocations the opening of an office makes, by what its file holds.
+of_openings = {}
+
+
 def allocations_of_opening(bench, content):
     """How many allocations a replay makes until the office is opened: a failure of a later one is reported as a stop."""
-    refuser = Refuser(bench)
-
-    def is_of_opening(number):
-        done = refuser.run(["replay", lay(bench, content)], **refuser.settings(number))
-        return done.status == 1 and done.err in (NO_MEMORY, REFUSED)
-
-    return number_of_allocations(is_of_opening)
+    if content not in of_openings:
+        refuser = Refuser(bench)
+        refuser.run(["replay", lay(bench, content)], **refuser.counting())
+        least, above = 0, refuser.counted() + 1
+        while above - least > 1:
+            middle = (least + above) // 2
+            done = refuser.run(["replay", lay(bench, content)], **refuser.settings(middle))
+            is_of_opening = done.status == 1 and done.err in (NO_MEMORY, REFUSED)
+            least, above = (middle, above) if is_of_opening else (least, middle)
+        of_openings[content] = least
+    return of_openings[content]
 
 
 @pytest.mark.parametrize("row", rows_over_file())
@@ -219,12 +226,14 @@ def check_refuse_row_in_memory(bench, row, part, parts):
     most = MOST if row in WHOLE_ROWS else most_of(bench, "memory") if size_of(row) <= LONG_ROW else OF_LONG_ROW
     whole = Done(b"".join(model.answers(given)), model.message(), 1 if model.stop else 0)
 
-    def run(number):
-        return refuser.run(["replay", "--memory"], given, **refuser.settings(number))
+    def run(settings):
+        return refuser.run(["replay", "--memory"], given, **settings)
 
-    count = number_of_allocations(lambda number: run(number) and refuser.report is not None)
+    # A pipe splits a long input into other pieces from run to run, and that makes some allocations more or fewer.
+    bench.same(f"{row} in memory, nothing refused", run(refuser.counting()), whole)
+    count = refuser.counted()
     for number in tried(count, most, part, parts):
-        done = run(number)
+        done = run(refuser.settings(number))
         what = f"{row} in memory, allocation {number} of {count} refused"
         bench.same(f"{what}: it was asked for", refuser.report, "")
         faults = [] if done == whole else faults_of_replay(whole.out, done)
@@ -233,8 +242,6 @@ def check_refuse_row_in_memory(bench, row, part, parts):
         counts["allocations refused in memory"] += 1
         noticed += done != whole
     bench.judge(f"{row} in memory: failed allocations are noticed", [] if noticed else ["each run continued"])
-    # A pipe splits a long input into other pieces from run to run, and that makes some allocations more or fewer.
-    bench.same(f"{row} in memory, nothing refused", run(MOST), whole)
     return counts
 
 
@@ -263,16 +270,17 @@ def check_refuse_server(bench, part):
     requests, wanted = [request_of(line) for line in story.lines], [reply_of(answer) for answer in story.answers]
     refuser, counts = Refuser(bench), Counter()
 
-    def run(number):
+    def run(settings):
         path = lay(bench, content)
         refuser.forget()
-        found = replies_of(bench, path, requests, refuser.environment(refuser.settings(number)))
+        found = replies_of(bench, path, requests, refuser.environment(settings))
         refuser.ask()
         return path, *found
 
-    count = number_of_allocations(lambda number: run(number) and refuser.report is not None)
+    run(refuser.counting())
+    count = refuser.counted()
     for number in tried(count, most_of(bench, "subcommand"), part, PARTS):
-        path, replies, done = run(number)
+        path, replies, done = run(refuser.settings(number))
         what = f"serve, allocation {number} of {count} refused"
         bench.same(f"{what}: it was asked for", refuser.report, "")
         places = judge_server(bench, what, wanted, replies, done)

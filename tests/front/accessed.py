@@ -21,8 +21,9 @@ from tools.wanted import permissions
 from .program import Front
 from .recorded import Entry, change, digest, entries, link, path_of, tool
 
-# How many random records there are, and how many of them one check has. Each has a time for each of its questions.
-RECORDS, EACH, QUESTIONS = 200, 25, 4
+# How many random records there are with `--gate`, how many of them one check has with it and without it, and how many questions are
+# asked about each, each at a time of its own.
+RECORDS, EACH, FEWER, QUESTIONS = 200, 25, 12, 4
 
 # How many random lines a record is made of, those that are no commands included.
 LINES = (60, 200)
@@ -148,7 +149,8 @@ def template(bench):
 def check_model(bench, template, first):
     """At random times of random records, who had access by the program is who had access by the model."""
     ways = 0
-    for seed in random.SystemRandom().sample(range(10**9), EACH):
+    each = EACH if bench.is_gate or bench.is_long else FEWER
+    for seed in random.SystemRandom().sample(range(10**9), each):
         record = Recorded(bench, template, seed)
         for _ in range(QUESTIONS):
             at = record.random.choice(record.at[1:] or record.at)
@@ -163,7 +165,7 @@ def check_model(bench, template, first):
             ways += len(given)
         shutil.rmtree(f"{record.office}.record")
         os.remove(record.office)
-    return {"random records of which it was asked who had access": EACH, "ways in which somebody had access": ways}
+    return {"random records of which it was asked who had access": each, "ways in which somebody had access": ways}
 
 
 STORY = [

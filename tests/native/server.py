@@ -31,7 +31,8 @@ def name_of(folder):
 def go(*words, folder=SOURCES):
     """Returns what a command prints, and its status."""
     settings = {
-        **os.environ, "GO111MODULE": "off", "GOFLAGS": "", "GOPATH": f"{ROOT}:/usr/share/gocode", "CGO_ENABLED": "1", "RBAC_PROGRAM": PROGRAM,
+        **os.environ, "GO111MODULE": "off", "GOFLAGS": "-buildmode=pie", "GOPATH": f"{ROOT}:/usr/share/gocode", "CGO_ENABLED": "1",
+        "RBAC_PROGRAM": PROGRAM,
     }  # fmt: skip
     done = subprocess.run(words, cwd=folder, env=settings, capture_output=True, text=True, stdin=subprocess.DEVNULL, check=False)
     return done.stdout + done.stderr, done.returncode

@@ -1,5 +1,6 @@
 """A server of an office, and clients of it."""
 
+import contextlib
 import errno
 import os
 import random
@@ -113,7 +114,10 @@ def read_all(client):
 
 def listening(pid):
     """The hosts and ports at which a process listens over TCP, as the system reports; hosts of IPv6 in hex."""
-    links = [os.readlink(path) for path in Path(f"/proc/{pid}/fd").iterdir()]
+    links = []
+    for path in Path(f"/proc/{pid}/fd").iterdir():
+        with contextlib.suppress(FileNotFoundError):  # It has been closed since.
+            links.append(os.readlink(path))
     found = []
     for table in ("tcp", "tcp6"):
         for line in Path(f"/proc/{pid}/net/{table}").read_text(encoding="ascii").splitlines()[1:]:

@@ -1,7 +1,11 @@
 """Shims in C that are loaded into the program, and runs of the program under one of them."""
 
+import atexit
+import functools
 import os
+import shutil
 import subprocess
+import tempfile
 
 from program.bench import PROGRAM, SECONDS, TESTS, Done, beside
 
@@ -18,16 +22,26 @@ def run_program(bench, words, given=b"", **more):
     return Done(done.stdout, done.stderr, done.returncode)
 
 
+@functools.cache
+def built(source):
+    """The path of a shim, which is built once in this process."""
+    folder = tempfile.mkdtemp(prefix="shim-")
+    atexit.register(shutil.rmtree, folder, ignore_errors=True)
+    os.chmod(folder, 0o755)
+    library = f"{folder}/shim.so"
+    command = ["cc", "-O1", "-Wall", "-Wextra", "-Werror", "-shared", "-fPIC", "-o", library]
+    subprocess.run([*command, str(TESTS / source)], check=True)
+    return library
+
+
 class Shim:
-    """A shim, built beside the folder of a bench. `report` is what it wrote about the call that it stopped."""
+    """A shim, and a bench whose runs are under it. `report` is what it wrote about the call that it stopped."""
 
     def __init__(self, bench, source):
         self.bench = bench
-        self.library = beside(bench, "shim.so")
+        self.library = built(source)
         self.file = beside(bench, "report")
         self.report = None
-        command = ["cc", "-O1", "-Wall", "-Wextra", "-Werror", "-shared", "-fPIC", "-o", self.library]
-        subprocess.run([*command, str(TESTS / source)], check=True)
 
     def environment(self, settings):
         """Returns the variables that load it with these settings."""

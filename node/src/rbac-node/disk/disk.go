@@ -2,6 +2,7 @@
 package disk
 
 import (
+	"errors"
 	"fmt"
 	"syscall"
 )
@@ -16,6 +17,11 @@ func Free(path string) (int64, error) {
 		return 0, fmt.Errorf("room of %s: %w", path, err)
 	}
 	return int64(about.Bavail) * about.Bsize, nil
+}
+
+// IsFull reports whether an error says that there is no room on the disk, or none that this user may have.
+func IsFull(err error) bool {
+	return errors.Is(err, syscall.ENOSPC) || errors.Is(err, syscall.EDQUOT)
 }
 
 // IsShort reports whether a file system has less room than is kept. If nobody knows, it has more.

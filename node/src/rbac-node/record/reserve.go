@@ -66,7 +66,7 @@ func makeReserve(dir string) error {
 func allocate(file *os.File) error {
 	err := syscall.Fallocate(int(file.Fd()), 0, 0, disk.Reserve)
 	switch {
-	case errors.Is(err, syscall.ENOSPC) || errors.Is(err, syscall.EDQUOT):
+	case disk.IsFull(err):
 		return errNoRoom
 	case !errors.Is(err, syscall.EOPNOTSUPP):
 		return err

@@ -7,9 +7,11 @@ import (
 	"path/filepath"
 	"strconv"
 	"strings"
+	"sync"
 	"sync/atomic"
 	"time"
 
+	"rbac-node/disk"
 	"rbac-node/state"
 )
 
@@ -19,12 +21,16 @@ const block = 1 << 24
 // A numbering has the file that says which numbers may have been used. Without it, as after a restore, the time alone says so.
 type numbering struct {
 	path string
-	// reserved is the number in the file: no number above it has been used. isReserving says that a greater one is being written.
+	// writing is held while the file is written.
+	writing sync.Mutex
+	// reserved is the number in the file: no number above it has been used, and no command has been done while it is 0. isReserving
+	// says that a greater one is being written.
 	reserved    atomic.Int64
 	isReserving atomic.Bool
 }
 
-// count makes the state, whose numbers are greater than all that earlier fronts of this office have used.
+// count makes the state, whose numbers are greater than all that earlier fronts of this office have used. On a full disk they are
+// reserved before the first command.
 func (o *Office) count() error {
 	if !state.IsAvailable {
 		return nil
@@ -38,7 +44,7 @@ func (o *Office) count() error {
 	if err == nil {
 		err = o.numbering.reserve(first)
 	}
-	if err != nil {
+	if err != nil && !disk.IsFull(err) {
 		return fmt.Errorf("numbers: %w", err)
 	}
 	o.state = state.New(state.Numbers{All: first, Policy: first})
@@ -63,10 +69,23 @@ func (n *numbering) read() (int64, error) {
 
 // reserve writes that the numbers behind one may be used.
 func (n *numbering) reserve(number int64) error {
+	n.writing.Lock()
+	defer n.writing.Unlock()
 	if err := writeDurably(n.path, strconv.FormatInt(number+block, 10)+"\n"); err != nil {
 		return err
 	}
 	n.reserved.Store(number + block)
+	return nil
+}
+
+// require reserves numbers if a start on a full disk couldn't. It comes before each command.
+func (n *numbering) require(number int64) error {
+	if n.reserved.Load() > 0 {
+		return nil
+	}
+	if err := n.reserve(number); err != nil {
+		return fmt.Errorf("numbers: %w", err)
+	}
 	return nil
 }
 

@@ -7,6 +7,8 @@ import (
 	"path/filepath"
 	"testing"
 	"time"
+
+	"rbac-node/disk"
 )
 
 // Numbers begin behind those that were reserved, or with the time if nobody knows of any, and more are reserved before they are used.
@@ -51,5 +53,29 @@ func TestNumbers(t *testing.T) {
 	}
 	if err := o.count(); err == nil {
 		t.Error("a file without a number is accepted")
+	}
+}
+
+// On a full disk an office starts, and numbers are reserved before the first command.
+func TestNumbersOnFullDisk(t *testing.T) {
+	o := &Office{Options: Options{File: filepath.Join(t.TempDir(), "office")}}
+	written := o.File + ".numbers.new"
+	if err := os.Symlink("/dev/full", written); err != nil {
+		t.Fatal(err)
+	}
+	if err := o.count(); err != nil {
+		t.Fatalf("a start: %v", err)
+	}
+	if err := o.numbering.require(o.numbers().All); !disk.IsFull(err) {
+		t.Errorf("a command: %v", err)
+	}
+	if err := os.Remove(written); err != nil {
+		t.Fatal(err)
+	}
+	if err := o.numbering.require(o.numbers().All); err != nil {
+		t.Errorf("a command once there is room: %v", err)
+	}
+	if used, err := o.numbering.read(); err != nil || used != o.numbers().All+block {
+		t.Errorf("%d is reserved, %v", used, err)
 	}
 }

@@ -118,6 +118,11 @@ func (o *Office) numbers() (numbers state.Numbers) {
 // admit makes a unit one of commands.
 func (o *Office) admit(u *feed.Unit, calls []*api.Call) error {
 	u.Calls = calls
+	if o.state != nil {
+		if err := o.numbering.require(o.numbers().All); err != nil {
+			return err
+		}
+	}
 	if o.record == nil {
 		return nil
 	}
