@@ -41,7 +41,7 @@ class Trial:
         for thread in (self.recorder, *self.clients):
             thread.start()
 
-    def judge(self, seconds=SECONDS):
+    def judge(self, seconds=None):
         """Lets the clients end and everything recover, and returns what is wrong."""
         self.done.set()
         for client in self.clients:

@@ -169,11 +169,21 @@ def evens(cluster):
     return False
 
 
+def stopped_at_shared(cluster, i):
+    """Whether a node, which is stopped then, has a snapshot of a place of which all have registered one. If not, it runs."""
+    if not shared(cluster, i):
+        return False
+    cluster.nodes[i].stop()
+    if shared(cluster, i):  # The others may have deleted theirs meanwhile.
+        return True
+    cluster.nodes[i].start()
+    return False
+
+
 def make_wrong(cluster, i):
     """Changes a snapshot of a node behind its back, as a disk does that fails, once all have registered theirs of that place. The
     node has no newer one."""
-    cluster.nodes[i].stop()
-    cluster.until(lambda: shared(cluster, i), "all have registered a snapshot of one place")
+    cluster.until(lambda: stopped_at_shared(cluster, i), "all have registered a snapshot of one place")
     wrong = max(shared(cluster, i))
     for revision, (says, path) in snapshots_of(cluster, i).items():
         if revision > wrong:

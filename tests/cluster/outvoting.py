@@ -11,7 +11,7 @@ import pytest
 from .answers import exchange, post
 from .faults import OFTEN
 from .keeping import EVERY, add_users, log_of, make_wrong, registered
-from .machines import SECONDS, Cluster, Process
+from .machines import Cluster, Process
 from .networks import MACHINES
 from .rights import token
 from .rows import snapshots_of
@@ -40,7 +40,7 @@ def outvote(bench, cluster, faults):
     faults.run(OFTEN, 6, 0.4)
     cluster.resume()
     # If the others had fetched their snapshots of that place, they are no witnesses, and a majority needs the next place.
-    cluster.until(lambda: "empty folder" in cluster.status(wrong).get("why", ""), "it is outvoted", 3 * SECONDS)
+    cluster.until(lambda: "empty folder" in cluster.status(wrong).get("why", ""), "it is outvoted", 3 * cluster.patience)
     for fields in ((), ("Consistency: local",)):
         asked = post("assignedRoles", b'{"user":"a"}', f"Authorization: Bearer {token(ASKER)}", *fields)
         bench.same(f"what the wrong node answers {fields}", exchange(cluster, asked, wrong), DIVERGED)
