@@ -112,7 +112,7 @@ def lacking(parts, log):
         numbers = [entry.n for entry in entries]
         last = first + len(numbers) - 1
         if numbers != list(range(first, last + 1)):
-            faults.append(f"the file that begins with entry {first} has {len(numbers)} entries, the last one is {numbers[-1]}")
+            faults.append(f"the file that begins with entry {first} has {len(numbers)} entries, from {numbers[0]} to {numbers[-1]}")
     return faults
 
 
@@ -120,7 +120,7 @@ def unlike(entries, wanted, judge):
     """How entries differ from the lines of a log, and from what was asked and answered. The first entry says that the record begins, and
     each later one is the command of one line, also if nobody has those before it."""
     faults, by_reason, recorded = [], {one.reason: one for one in judge.asked}, set()
-    for entry in entries:
+    for entry in reversed(entries):
         if (entry.n == 1) != ('"record":' in entry.request) or entry.n > len(wanted) + 1:
             faults.append(f"{entry} is not the command of a line: the log has {len(wanted)}")
             continue
@@ -277,7 +277,8 @@ def judge_shown(bench, cluster):
 def judge_cut(bench, cluster, asker):
     """The record of a node is divided while the others go on. All have the same entries."""
     data = cluster.data("node1")
-    bench.same("while it runs", tool(cluster.node, "cut", "--data", data)[::2], (1, "rbac-node: a node has the folder: stop it first\n"))
+    says = "rbac-node: a node has the folder: stop it first, or let it divide its record by itself, with --record-part\n"
+    bench.same("while it runs", tool(cluster.node, "cut", "--data", data)[::2], (1, says))
     cluster.nodes[1].stop(signal.SIGTERM)
     status, out, said = tool(cluster.node, "cut", "--data", data, "--program", PROGRAM)
     bench.judge("cut", [] if (status, said) == (0, "") and Path(out.strip()).exists() else [f"{status} {out}{said}"])

@@ -39,6 +39,9 @@ ROOM = {"node": "200m", "member": "500m"}
 # How many faults come between two rare ones.
 BETWEEN = 5
 
+# From how many entries on each node divides its record.
+PART = 2 * EVERY
+
 # How many seconds is waited for what has to happen: other work may keep the machine busy for hours.
 PATIENCE = 300
 
@@ -251,7 +254,7 @@ RARE = [
 def soaked(bench, folder, node, seed):
     """A round: what it did, and what is wrong."""
     clients = CLIENTS + CONTENDERS
-    with Disks(folder, node, every=EVERY, more=options(folder, clients)) as cluster:
+    with Disks(folder, node, every=EVERY, more=(*options(folder, clients), "--record-part", str(PART))) as cluster:
         trial, faults = Trial(cluster, seed), AllFaults(cluster, seed)
         more = [Contender(cluster, number, seed, trial.done, token(number)) for number in range(CLIENTS, clients)]
         trial.clients += more

@@ -30,10 +30,11 @@ const (
 
 // Backup copies an office and its record as a pair into a new folder in a folder, whose path it prints. A front or a node may have them.
 func (t *Tool) Backup(ctx context.Context, folder string) error {
-	files, err := t.files()
+	files, release, err := t.files(ctx)
 	if err != nil {
 		return err
 	}
+	defer release()
 	lock, err := waitForFolder(ctx, folder)
 	if err != nil {
 		return fmt.Errorf("backup: %w", err)

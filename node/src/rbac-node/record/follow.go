@@ -10,6 +10,7 @@ import (
 	"os"
 	"path/filepath"
 	"sync"
+	"syscall"
 	"time"
 
 	sqlite3 "github.com/mattn/go-sqlite3"
@@ -129,6 +130,13 @@ func (f *Follower) closeBefore(n int64) (has bool, err error) {
 	if err != nil || last >= n {
 		return true, err
 	}
+	within, cancel := context.WithTimeout(f.life, patience)
+	defer cancel()
+	release, err := lockFiles(within, f.dir, syscall.LOCK_EX)
+	if err != nil {
+		return true, err
+	}
+	defer release()
 	return false, renamePart(f.dir, first, last)
 }
 
@@ -145,7 +153,7 @@ func endsOf(db querier) (first, last int64, err error) {
 func renamePart(dir string, first, last int64) error {
 	path := filepath.Join(dir, fileName)
 	if _, err := os.Stat(path + walSuffix); !errors.Is(err, os.ErrNotExist) {
-		return errors.New("another program reads the record: try again when it has ended")
+		return errOthersRead
 	}
 	return os.Rename(path, partPath(dir, first, last))
 }
@@ -166,7 +174,7 @@ func (f *Follower) prepare(ctx context.Context) error {
 	if err := os.Mkdir(f.dir, 0o700); err != nil && !errors.Is(err, os.ErrExist) {
 		return err
 	}
-	return f.withCopy(ctx, func(copied, rows string) error {
+	return f.withCopy(ctx, f.Office, func(copied, rows string) error {
 		f.prepared = part{first: 1, why: beginning, rows: rows}
 		return copyFile(copied, filepath.Join(f.dir, preparedName))
 	})
@@ -180,7 +188,7 @@ func (f *Follower) Begin(ctx context.Context, at string, isAsAtResume bool) erro
 	var err error
 	switch {
 	case f.db != nil:
-		err = f.withCopy(ctx, note)
+		err = f.withCopy(ctx, f.Office, note)
 	case isAsAtResume:
 		p = f.prepared
 		err = makeFile(f.dir, p, at, filepath.Join(f.dir, preparedName))

@@ -244,8 +244,8 @@ func TestJoin(t *testing.T) {
 			// A crash has left nothing but an earlier part.
 			second.flush("NORMAL")
 			_ = second.Close()
-			if err := os.Rename(filepath.Join(second.dir, fileName), partPath(second.dir, 1, 2)); err != nil {
-				t.Fatal(err)
+			if has, err := second.closeBefore(1 << 62); has || err != nil {
+				t.Fatal(has, err)
 			}
 			second.start(path)
 			second.resume(head, true)

@@ -48,10 +48,11 @@ func (t *Tool) verify(ctx context.Context, heads []Head, at *stop) error {
 			return err
 		}
 	}
-	files, err := t.files()
+	files, release, err := t.files(ctx)
 	if err != nil {
 		return err
 	}
+	defer release()
 	scratch, end, err := newSharedScratch(t.Office+t.Data+t.Part, t.dir(), forVerify)
 	if err != nil {
 		return err
