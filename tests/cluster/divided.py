@@ -97,7 +97,9 @@ def judged_times(times):
 
 
 def judge_parts(bench, cluster):
-    """The entries of all nodes are the same, in several files or in one."""
+    """The entries of all nodes are the same, in several files or in one. The files are read here without regard to a node that divides
+    them."""
+    bench.same("the ends", [node.stop(signal.SIGTERM) for node in cluster.nodes], [0] * MACHINES)
     records = [entries_of(cluster.data(f"node{i}")) for i in range(MACHINES)]
     bench.same("the record of node 1", records[1], records[0])
     bench.same("the record of node 2", records[2], records[0])

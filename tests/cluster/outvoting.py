@@ -39,7 +39,6 @@ def outvote(bench, cluster, faults):
     cluster.until(lambda: refuses(cluster, wrong), "the wrong node refuses")
     faults.run(OFTEN, 6, 0.4)
     cluster.resume()
-    # If the others had fetched their snapshots of that place, they are no witnesses, and a majority needs the next place.
     cluster.until(lambda: "empty folder" in cluster.status(wrong).get("why", ""), "it is outvoted", 3 * cluster.patience)
     for fields in ((), ("Consistency: local",)):
         asked = post("assignedRoles", b'{"user":"a"}', f"Authorization: Bearer {token(ASKER)}", *fields)

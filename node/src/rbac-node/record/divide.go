@@ -281,7 +281,7 @@ func (n *next) putInPlace() (closed string, err error) {
 }
 
 // tidyParts removes the other name of the file at hand, and from the last earlier part the entries that come after it, which the file at
-// hand has too. That completes a division, also after a crash. Nobody else reads or writes the files.
+// hand has too. That completes a division, also after a crash. Nobody else writes the files.
 func tidyParts(dir string) error {
 	if err := removeLeftNames(dir); err != nil {
 		return err
@@ -291,36 +291,45 @@ func tidyParts(dir string) error {
 		return err
 	}
 	part, ctx := parts[len(parts)-1], context.Background()
-	var first, named int64
-	if _, err := fmt.Sscanf(filepath.Base(part), partPrefix+"%d-%d.db", &first, &named); err != nil {
-		return err
-	}
-	last, err := endOf(ctx, part)
-	if err != nil || last.n <= named {
-		return err
-	}
-	path := filepath.Join(dir, fileName)
-	begin, err := beginOf(ctx, path)
-	if err == nil && begin.n == named {
-		err = has(ctx, path, begin, last)
-	} else if err == nil {
-		err = errMoveAway
-	}
+	_, named, _ := namesOf(part)
+	db, err := openFile(part, "mode=ro&_busy_timeout="+busy)
 	if err != nil {
-		return fmt.Errorf("%s ends at entry %d, which the next file does not have: %w", part, last.n, err)
+		return err
+	}
+	has, err := hasLater(ctx, db, part, named)
+	if closing := db.Close(); err == nil {
+		err = closing
+	}
+	if err != nil || !has {
+		return err
 	}
 	return removeAfter(ctx, part, named)
 }
 
-// endOf returns the last entry of a file.
-func endOf(ctx context.Context, path string) (last entry, err error) {
-	v, err := openView(ctx, path)
-	if err != nil {
-		return last, err
+// hasLater reports whether an earlier part has entries after the last one that its name says, which the file at hand begins with: a crash
+// leaves them. Those that it doesn't begin with are not passed over, since somebody has written them.
+func hasLater(ctx context.Context, part querier, path string, named int64) (bool, error) {
+	_, last, err := lastOf(part)
+	if err != nil || last.n <= named {
+		return false, err
 	}
-	defer v.Close()
-	_, last, err = lastOf(v.tx)
-	return last, err
+	current := filepath.Join(filepath.Dir(path), fileName)
+	begin, err := beginOf(ctx, current)
+	return err == nil && begin.n == named && has(ctx, current, begin, last) == nil, nil // It may be elsewhere.
+}
+
+// hideLater hides the entries that a crash has left in an earlier part.
+func (v *view) hideLater(ctx context.Context, path string) error {
+	_, named, is := namesOf(path)
+	if !is {
+		return nil
+	}
+	has, err := hasLater(ctx, v.tx, path, named)
+	if err != nil || !has {
+		return err
+	}
+	_, err = v.tx.ExecContext(ctx, fmt.Sprintf("CREATE TEMP VIEW entry AS SELECT * FROM main.entry WHERE n <= %d", named))
+	return err
 }
 
 // mergeLog merges the log of a file.

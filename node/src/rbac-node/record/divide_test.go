@@ -134,6 +134,8 @@ func TestKilledDivide(t *testing.T) {
 				}
 				_ = first.Close()
 				first.divideUntil(test, newer.path, newer.head)
+				first.start(newer.path)
+				first.follows(second, 4) // Before the node goes on.
 				from, again := newer, []string{assign}
 				if isOlder {
 					from, again = older, []string{addRole, assign}

@@ -128,7 +128,9 @@ func (m *machine) snapshot(revision int64) (path, head string) {
 // entries returns all that the record has as text, without the copies of offices.
 func (m *machine) entries() string {
 	m.Helper()
-	m.flush("NORMAL")
+	if m.db != nil { // Otherwise it has not resumed.
+		m.flush("NORMAL")
+	}
 	out := &bytes.Buffer{}
 	if err := (&Tool{Data: m.data, Out: out, Err: out}).Show(context.Background(), Filter{}, Text); err != nil {
 		m.Fatal(err)

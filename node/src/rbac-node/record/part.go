@@ -151,6 +151,12 @@ func partPath(dir string, first, last int64) string {
 	return filepath.Join(dir, fmt.Sprintf("%s%d-%d.db", partPrefix, first, last))
 }
 
+// namesOf returns the first and the last entry that the name of the file of an earlier part says, if it is one.
+func namesOf(path string) (first, last int64, is bool) {
+	_, err := fmt.Sscanf(filepath.Base(path), partPrefix+"%d-%d.db", &first, &last)
+	return first, last, err == nil
+}
+
 const (
 	// unknown is recorded in place of an answer that nobody can find any more.
 	unknown = `{"unknown":true}`

@@ -157,8 +157,8 @@ func partsIn(dir string) (parts, left []string, err error) {
 	}
 	firsts := map[string]int64{}
 	for _, path := range found {
-		var first, last int64
-		if _, err := fmt.Sscanf(filepath.Base(path), partPrefix+"%d-%d.db", &first, &last); err != nil {
+		first, _, is := namesOf(path)
+		if !is {
 			continue
 		}
 		other, err := os.Stat(path)
@@ -226,9 +226,14 @@ func openViewBy(ctx context.Context, path, options string) (*view, error) {
 	}
 	if err == nil {
 		var count int
-		if err = tx.QueryRowContext(ctx, "SELECT count(*) FROM part").Scan(&count); err == nil {
-			return &view{db, tx}, nil
+		err = tx.QueryRowContext(ctx, "SELECT count(*) FROM part").Scan(&count)
+	}
+	if err == nil {
+		v := &view{db, tx}
+		if err = v.hideLater(ctx, path); err == nil {
+			return v, nil
 		}
+		_ = tx.Rollback()
 	}
 	_ = db.Close()
 	return nil, fmt.Errorf("%s: %w", path, err)
