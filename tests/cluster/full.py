@@ -1,10 +1,19 @@
-"""etcd without room: what is answered then, how it gets room again, and how trims by bytes keep it from getting full."""
+"""What is full: etcd, and the disk of a node."""
 
 import signal
+from pathlib import Path
+
+import pytest
+
+from front.recordfaults import RESERVE
 
 from .answers import exchange, post
+from .keeping import add_users
 from .machines import Cluster
+from .networks import MACHINES
+from .records import entries_of, same_head, tool
 from .running import build
+from .soak import Disks
 
 # The room of etcd, and of a larger one.
 QUOTA, LARGER = 6_000_000, 60_000_000
@@ -58,3 +67,62 @@ def check_bytes(bench):
             cluster.until(lambda least=revision: all(cluster.status(i)["snapshot"] >= least for i in range(3)), "there is a snapshot")
         bench.same("the statuses", statuses, {200})
         cluster.heal()
+
+
+# Commands from one snapshot to the next, and how many come while the disk is full.
+EVERY, MEANWHILE = 50, 70
+
+
+def fill(disk):
+    """Writes until there is no room left, and returns what has to be deleted."""
+    filler = disk / "filler"
+    for size in (1 << 16, 1 << 10, 1):
+        try:
+            with open(filler, "ab", buffering=0) as file:
+                while file.write(bytes(size)) == size:
+                    pass
+        except OSError:
+            pass
+    return filler
+
+
+@pytest.mark.needs("mounts")
+def check_full_disk(bench):
+    """A node whose disk is full starts, answers questions, and does what is asked of others. Its entries wait until there is room."""
+    with Disks(bench.folder, build(bench.shared), every=EVERY) as cluster:
+        data = Path(cluster.data("node1"))
+        add_users(cluster, "before", EVERY + 10)
+        cluster.until(lambda: same_head(cluster), "all have the same head")
+        reserve = data / "record/reserve"
+        bench.same("the room that is kept", reserve.stat().st_size, RESERVE * 1024)
+        filler = fill(cluster.disk("node", 1))
+        for turn in (1, 2):
+            cluster.nodes[1].send(signal.SIGKILL)
+            cluster.nodes[1].process.wait()
+            cluster.until(lambda: cluster.status(1).get("ready"), f"the node starts, turn {turn}")
+            bench.same(f"turn {turn}: what was kept is free", reserve.exists(), False)
+            add_users(cluster, f"turn{turn}-", MEANWHILE)
+            judge_answers(bench, cluster, f"turn{turn}-{MEANWHILE - 1}")
+        bench.same("entries wait", len(entries_of(data)) < len(entries_of(cluster.data("node0"))) - MEANWHILE, True)
+        bench.same("it says why", "full" in cluster.status(1).get("record", ""), True)
+        metrics = cluster.get(1, "/metrics", 8081)[1].decode().splitlines()
+        bench.judge("metrics", [one for one in ("rbac_node_record_failing 1", "rbac_node_snapshot_failing 1") if one not in metrics])
+        filler.unlink()
+        cluster.until(lambda: same_head(cluster), "all have the same head")
+        add_users(cluster, "after", EVERY)
+        cluster.until(lambda: same_head(cluster), "all have the same head again")
+        for i in range(MACHINES):
+            bench.same(f"the entries of node {i}", entries_of(cluster.data(f"node{i}")), entries_of(data))
+            bench.same(f"verify of node {i}", tool(cluster.node, "verify", "--data", cluster.data(f"node{i}"))[::2], (0, ""))
+        bench.same("the room is kept again", reserve.stat().st_size, RESERVE * 1024)
+        bench.same("nothing waits", cluster.status(1).get("record"), None)
+        cluster.until(lambda: "rbac_node_snapshot_failing 0" in cluster.get(1, "/metrics", 8081)[1].decode(), "there is a snapshot again")
+
+
+def judge_answers(bench, cluster, user):
+    """A question is answered by the node with the full disk as by another one, linearizable and local, and so is a command."""
+    question = b'{"user":"%s"}' % user.encode()
+    for what, fields in (("a question", []), ("a local question", ["Consistency: local"])):
+        asked = post("assignedRoles", question, *fields)
+        cluster.until(lambda asked=asked: exchange(cluster, asked, 1) == (200, b'{"ok":true,"value":[]}'), f"{what} about {user}", 10)
+    bench.same(f"a command after {user}", exchange(cluster, post("addRole", b'{"role":"%s"}' % user.encode()), 1)[0], 200)

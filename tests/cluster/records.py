@@ -1,5 +1,6 @@
 """The records of the nodes, which are the same on all of them: compared with one another, with the log and with the answers."""
 
+import hashlib
 import http.client
 import json
 import random
@@ -14,9 +15,10 @@ from pathlib import Path
 import pytest
 
 from front.identities import bearer, rules, tokens
-from front.recorded import Entry, Model, digest, files_with, link
+from front.recorded import BOUNDED, Entry, Model, digest, files_with, link
 from program.bench import PROGRAM
 
+from .answers import exchange, post
 from .keeping import log_of, registered
 from .machines import PREFIX, SECONDS, Cluster, encoded
 from .networks import MACHINES
@@ -233,6 +235,7 @@ def check_records(bench, seed, node=None):
         asker.ask(40)
         cluster.until(lambda: same_head(cluster), "all have the same head")
         judge_same(bench, cluster, asker)
+        judge_bounded(bench, cluster)
         judge_shown(bench, cluster)
         judge_cut(bench, cluster, asker)
         judge_backup(bench, cluster, asker)
@@ -251,6 +254,25 @@ def judge_same(bench, cluster, asker):
     bench.same("no reason comes twice", len(given), len(records[0]))
     bench.judge("who has asked", [f"{one}: {given.get(one[1])}" for one in asker.answered if given.get(one[1]) != one])
     bench.same("no answer was found later", {entry.found for entry in records[0]}, {0})
+
+
+def judge_bounded(bench, cluster):
+    """Of a long request that is refused each node records the beginning, whichever has got it, and also if it reads the log again."""
+    before = len(entries_of(cluster.data("node0")))
+    lines = [f'{{"user":"{letter * 60_000}"}}'.encode() for letter in "abc"]
+    fields = ["{}: {}".format(*field) for field in bearer(CALLERS["boss"]).items()]
+    for i, line in enumerate(lines):
+        bench.same("a long name", exchange(cluster, post("addUser", line, *fields), i)[0], 400)
+    cluster.nodes[1].send(signal.SIGKILL)
+    cluster.until(lambda: same_head(cluster), "all have the same head")
+    records = [entries_of(cluster.data(f"node{i}"))[before:] for i in range(MACHINES)]
+    bench.same("the entries of node 1", records[1], records[0])
+    bench.same("the entries of node 2", records[2], records[0])
+    wanted = [f'{{"fn":"addUser",{line.decode()[1:]}' for line in lines]
+    given = [json.loads(entry.request) for entry in records[0]]
+    sums = [(len(line), hashlib.sha256(line.encode()).hexdigest(), line[:256]) for line in wanted]
+    bench.same("what they have", [(one["bytes"], one["sha256"], one["begins"]) for one in given], sums)
+    bench.judge("they are short", [entry.request for entry in records[0] if not BOUNDED.match(entry.request) or len(entry.request) > 1024])
 
 
 def judge_shown(bench, cluster):

@@ -6,6 +6,7 @@ import os
 
 from front.batches import batch
 from front.lists import listed
+from front.recorded import digest
 from front.running import PROGRAM
 
 from .browser import Browser, bank
@@ -327,7 +328,10 @@ def check_filters(bench):
     """The record is filtered by days and by functions that are chosen; a filter that chooses nothing as it is written is said to."""
     with bank(bench) as front, Browser(bench, front) as page:
         front.ask("assignUser", {"user": "frank", "role": "teller"})
-        front.ask("addUser", {"user": "zoe"})
+        front.ask("addUser", {"user": "zoe"}, Office_Reason="ticket 4711")
+        front.ask("grantPermission", {"operation": "count", "object": "vault", "role": "teller"})
+        front.ask("deleteSsdSet", {"set": "audit"})
+        front.ask("createSession", {"user": "frank", "roles": ["teller"], "session": "frank 1"})
         page.open("record")
         form = "Filter the record"
         types = page.run(
@@ -339,6 +343,17 @@ def check_filters(bench):
         page.follow("Filter", f'form[aria-label="{form}"]')
         bench.same("one function", ("frank is assigned to teller." in page.text(), "zoe is a user now." in page.text()), (True, False))
         bench.same("it is chosen still", page.run("return document.getElementById('function').value"), "assignUser")
+        sentences = ("frank is assigned to teller.", "zoe is a user now.", "count on vault is granted to teller.", "audit", "frank with teller has begun")
+        for label, text, wanted in (
+            ("Why contains", "4711", 1), ("Operation", "count", 2), ("Separation of duty set", "audit", 3),
+            ("Session (digest)", digest("frank 1"), 4), ("Session (digest)", "frank 1", None),
+        ):  # fmt: skip
+            page.go("record")
+            page.fill(label, text, form)
+            page.follow("Filter", f'form[aria-label="{form}"]')
+            shown = page.text("main table") if wanted is not None else page.text()
+            bench.same(f"{label}: {text}", [i for i, one in enumerate(sentences) if one in shown], [] if wanted is None else [wanted])
+            bench.same(f"{label} is kept", page.run("return [...document.querySelectorAll('form [data-key]')].map(one => one.value).includes(arguments[0])", text), True)
         for key, day, found in (("since", "2999-01-01", False), ("until", "2999-01-01", True)):
             page.go("record")
             page.run(f"document.querySelector('[data-key={key}]').value = arguments[0]", day)

@@ -12,6 +12,7 @@ from xml.etree import ElementTree
 from front.batches import batch
 from front.identities import bearer, secured
 from front.program import HOST, Front
+from front.recorded import digest
 from front.running import PROGRAM
 
 from .sources import SITE
@@ -203,6 +204,9 @@ def check_filters(bench):
     with Front(bench) as front:
         front.ask("addUser", {"user": "ann"})
         front.ask("assignUser", {"user": "ann", "role": "none"})
+        front.ask("createSsdSet", {"set": "audit", "roles": ["a", "b"], "cardinality": 2}, Office_Reason="ticket 4711, urgent")
+        front.ask("grantPermission", {"operation": "open", "object": "vault", "role": "none"})
+        front.ask("deleteSession", {"user": "ann", "session": "ann 1"})
         form = "a time is written as in 2026-11-27 or 2026-11-27T09:30, in UTC"
         for query, said in [
             ("since=21.11.2026", f"since: {form}"),
@@ -219,8 +223,11 @@ def check_filters(bench):
             status, fields, body = get(front, f"/record?{query}")
             bench.same(query, (status, json.loads(body), fields["Office-Why"]), (400, {"code": 34, "error": "BadRequest"}, said))
         for query, count in [
-            ("since=2026", 3), ("since=2026-11", 3), ("since=2026-11-01T10:20:30.5Z", 3), ("until=2026-01-01", 0),
-            ("since=2999-12-31T23:59", 0), ("until=2999", 3), ("function=assignUser", 1), ("since=", 3),
+            ("since=2026", 6), ("since=2026-11", 6), ("since=2026-11-01T10:20:30.5Z", 6), ("until=2026-01-01", 0),
+            ("since=2999-12-31T23:59", 0), ("until=2999", 6), ("function=assignUser", 1), ("since=", 6),
+            ("set=audit", 1), ("set=audi", 0), ("reason=4711", 1), ("reason=4711&set=audit&refused=true", 1), ("reason=4712", 0),
+            ("operation=open", 1), ("operation=open&object=vault", 1), ("operation=vault", 0), (f"session={digest('ann 1')}", 1),
+            ("session=ann+1", 0), ("user=ann", 3), ("user=ann&refused=true", 2),
         ]:  # fmt: skip
             status, value = value_of(front, f"/record?{query}")
             bench.same(query, (status, len(value.get("entries", []))), (200, count))

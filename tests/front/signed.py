@@ -235,6 +235,78 @@ def check_signatures(bench):
     bench.same("signers without heads", tool("record", "verify", "--office", front.office, "--signers", machine.signers)[0], 1)
 
 
+def pair_of(bench, name, password=""):
+    """A key of minisign, and the line of its public key."""
+    key, public = bench.path(f"{name}.key"), bench.path(f"{name}.pub")
+    words = ["minisign", "-G", "-s", key, "-p", public, *([] if password else ["-W"])]
+    subprocess.run(words, input=f"{password}\n" * 2, text=True, check=True, capture_output=True)
+    with open(public, encoding="ascii") as file:
+        return key, file.read().splitlines()[-1]
+
+
+@pytest.mark.needs("minisign")
+def check_minisign(bench):
+    """A key of minisign signs heads, too. Verify accepts both kinds in one file, and refuses another key, text or purpose."""
+    machine, front = Machine(bench), Front(bench)
+    by_ssh = machine.key
+    key, public = pair_of(bench, "auditor")
+    thief, other = pair_of(bench, "thief")
+    with open(machine.signers, encoding="ascii") as file:
+        both = file.read() + f"untrusted comment: a key of minisign\n{public}\n"
+    with front:
+        adds(front, "ann")
+        machine.key = key
+        machine.signs("the first head", front, "--begin")
+        adds(front, "bob")
+        machine.key = by_ssh
+        machine.signs("a head by ssh-keygen", front)
+        adds(front, "eve")
+        machine.key = key
+        machine.signs("another head", front)
+        machine.key = pair_of(bench, "locked", password="secret")[0]
+        machine.refuses("a key with a password", front, 1, "a key with a password can't be used here")
+        machine.key = bench.path("auditor.pub")
+        machine.refuses("a public key", front, 1, "minisign: exit status")
+        front.end()
+    first, by_keygen, last = machine.lines()
+    bench.write("text", f"{last['entry']}:{last['chain']} {last['at']}\n".encode())
+
+    def by_hand(key, comment="rbac-record"):
+        words = ["minisign", "-S", "-s", key, "-m", bench.path("text"), "-x", bench.path("signature"), "-t", comment]
+        subprocess.run(words, check=True, capture_output=True)
+        with open(bench.path("signature"), encoding="ascii") as file:
+            return {**last, "signature": file.read()}
+
+    bench.write("signature", last["signature"].encode())
+    words = ["minisign", "-V", "-Q", "-P", public, "-m", bench.path("text"), "-x", bench.path("signature")]
+    done = subprocess.run(words, capture_output=True, text=True, check=False)
+    bench.same("the signature by hand", (done.returncode, done.stdout), (0, "rbac-record\n"))
+
+    def verify(lines, signers):
+        heads = bench.write("heads", "".join(json.dumps(line) + "\n" for line in lines).encode())
+        return tool("record", "verify", "--office", front.office, "--heads", heads, "--signers", bench.write("signers", signers.encode()))
+
+    for what, lines, signers in [
+        ("both kinds", [first, by_keygen, last], both),
+        ("the public key alone", [first, last], public + "\n"),
+        ("one of two public keys", [first, last], f"{other}\n{public}\n"),
+        ("a signature by hand", [first, by_hand(key)], public),
+    ]:
+        status, out, said = verify(lines, signers)
+        bench.same(what, (status, said, "the office has the rows that the record gives" in out), (0, "", True))
+    for what, lines, signers in [
+        ("another key", [first, by_hand(thief)], both),
+        ("a signature for something else", [by_hand(key, "rbac-else")], both),
+        ("another time", [first, {**last, "at": "2026-01-01T00:00:00Z"}], both),
+        ("the signature of another head", [{**last, "signature": first["signature"]}], both),
+        ("a signer without a key of minisign", [first], both.split("untrusted")[0]),
+        ("a head by ssh-keygen, and only a key of minisign", [first, by_keygen], public),
+        ("a changed comment", [{**last, "signature": last["signature"].replace("rbac-record", "rbac-recorder")}], both),
+    ]:
+        status, out, said = verify(lines, signers)
+        bench.same(f"{what} is refused", (status, out, "no head with a good signature" in said, said.count("\n")), (1, "", True, 1))
+
+
 @pytest.mark.needs("systemd-analyze")
 def check_unit(bench):
     """The unit of another machine signs by its words, and systemd finds no fault in it and in its timer."""
@@ -304,7 +376,7 @@ def check_links(bench):
         bench.same("after the end", json.loads(front.exchange("GET", "/record/links?after=99")[1])["value"]["entries"], [])
 
 
-@pytest.mark.needs("curl")
+@pytest.mark.needs("curl", "minisign")
 def check_page(bench):
     """The commands of docs/HEADS.md print what the page shows, and its tables have the options and the statuses."""
     page = markdown.page("HEADS.md")

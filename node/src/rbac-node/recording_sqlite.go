@@ -131,7 +131,7 @@ func (c *recordCommand) define(flags *flag.FlagSet, name string) {
 	if name == "verify" || name == "access" {
 		flags.StringVar(&c.head, "head", "", "a head N:HASH that is known from elsewhere")
 		flags.StringVar(&c.heads, "heads", "", "file of such heads, one in a line, or the log of a front")
-		flags.StringVar(&c.signers, "signers", "", "file of who may have signed each of these heads, as ssh-keygen(1) describes it")
+		flags.StringVar(&c.signers, "signers", "", "file of who may have signed these heads: as ssh-keygen(1) describes it, or public keys of minisign")
 	}
 	if name == "show" || name == "access" {
 		flags.Var(&c.format, "format", "text, csv or json")

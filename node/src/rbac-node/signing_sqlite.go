@@ -42,7 +42,7 @@ func sign(words []string) error {
 	flags.StringVar(&c.token, "token", "", "file of a token that shows who asks")
 	flags.StringVar(&c.cert, "tls-cert", "", "file of a certificate that shows who asks")
 	flags.StringVar(&c.key, "tls-key", "", "file of its key")
-	flags.StringVar(&c.Key, "key", "", "file of the key that signs, as ssh-keygen makes it")
+	flags.StringVar(&c.Key, "key", "", "file of the key that signs, of minisign or ssh-keygen")
 	flags.StringVar(&c.Heads, "heads", "", "file of the signed heads, to which one is added")
 	flags.BoolVar(&c.IsFirst, "begin", false, "sign the first head of a new file")
 	if err := flags.Parse(words); err != nil {

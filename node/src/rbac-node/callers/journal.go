@@ -150,7 +150,7 @@ func (f *journalFile) begin() error {
 var namedKeys = map[string]bool{
 	"user": true, "role": true, "object": true, "operation": true, "function": true, "caller": true, "since": true, "until": true,
 	"refused": true, "limit": true, "before": true, "after": true, "contains": true, "prefix": true, "from": true, "stop": true,
-	"set": true, "format": true, "lines": true, "asc": true, "desc": true,
+	"set": true, "reason": true, "format": true, "lines": true, "asc": true, "desc": true,
 }
 
 // sessionTarget is what comes before the session in a path.

@@ -140,7 +140,8 @@ func readRecordQuery(text string) (query recorded.Query, err error) {
 // setFilter sets what a key of a query chooses.
 func setFilter(query *recorded.Query, key, text string) (err error) {
 	texts := map[string]*string{
-		"user": &query.User, "role": &query.Role, "object": &query.Object, "caller": &query.Caller, "function": &query.Function,
+		"user": &query.User, "role": &query.Role, "object": &query.Object, "operation": &query.Operation, "set": &query.Set,
+		"session": &query.Session, "reason": &query.Reason, "caller": &query.Caller, "function": &query.Function,
 	}
 	times := map[string]*string{"since": &query.Since, "until": &query.Until}
 	switch {

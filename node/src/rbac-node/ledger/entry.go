@@ -28,6 +28,9 @@ type Unit struct {
 	Reason string `json:"why,omitempty"`
 	// Rule says which of the lines are done, if not all are. An entry of form 1 can't have one.
 	Rule *api.Rule `json:"rule,omitempty"`
+	// Bounds says that of a long request that is refused only the beginning is recorded. Whoever appends the unit says so, and not
+	// whoever records it: so all nodes have the same record, whatever version each of them is, and also if they read the log again.
+	Bounds bool `json:"bounds,omitempty"`
 	// Lines are requests: each begins with `{"fn":`.
 	Lines [][]byte `json:"-"`
 }

@@ -24,6 +24,8 @@ type status struct {
 	Newest   int64   `json:"newest"`
 	Snapshot int64   `json:"snapshot"`
 	Age      float64 `json:"age"`
+	// Record says why entries of the record wait, if they do.
+	Record string `json:"record,omitempty"`
 	// Open says that everybody who can connect may do everything.
 	Open bool `json:"open,omitempty"`
 }
@@ -32,7 +34,7 @@ func (n *Node) status() status {
 	age, at := boottime.Since(n.newest()), n.applied.Load()
 	s := status{
 		Open: n.options.IsOpen, Revision: at.revision, Count: at.count, Snapshot: n.snapshot.Load(), Age: age.Seconds(),
-		Newest: n.seen.Load(),
+		Newest: n.seen.Load(), Record: n.recordWaits(),
 	}
 	switch s.Why, _ = n.differs.Load().(string); {
 	case s.Why != "":

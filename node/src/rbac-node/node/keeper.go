@@ -2,6 +2,7 @@ package node
 
 import (
 	"context"
+	"errors"
 	"os"
 	"time"
 
@@ -27,6 +28,10 @@ type copied struct {
 func (n *Node) takeSnapshot() error {
 	if len(n.copies) == cap(n.copies) {
 		n.log.Warn("no snapshot: the last one is not finished yet", "revision", n.revision)
+		return nil
+	}
+	if why := n.recordWaits(); why != "" {
+		n.noteSnapshot(n.revision, errors.New(why)) // It would take up room that a start needs.
 		return nil
 	}
 	if err := n.replay.Close(); err != nil {

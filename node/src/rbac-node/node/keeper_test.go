@@ -10,6 +10,7 @@ import (
 
 	"rbac-node/ledger"
 	"rbac-node/office"
+	"rbac-node/recorded"
 )
 
 func TestNeedless(t *testing.T) {
@@ -147,6 +148,22 @@ func TestFailedSnapshot(t *testing.T) {
 	n.apply(entry(3, "c"))
 	if n.err != nil || n.applied.Load().revision != 3 {
 		t.Errorf("it doesn't go on: %v", n.err)
+	}
+}
+
+// A record whose entries wait for room.
+type waitingRecord struct{ recorded.Follower }
+
+func (waitingRecord) Why() string { return "the disk is full" }
+
+// While entries of the record wait for room, no snapshot takes that up.
+func TestNoSnapshotWithoutRoom(t *testing.T) {
+	n, _, _ := newNode(t)
+	officeOf(t, n)
+	n.options.SnapshotCommands, n.options.Record = 1, waitingRecord{}
+	n.apply(entry(1, "a"))
+	if n.err != nil || !n.isFailing.Load() || len(n.copies) > 0 || n.status().Record == "" {
+		t.Errorf("%v, %d copies", n.err, len(n.copies))
 	}
 }
 

@@ -44,7 +44,11 @@ func (n *Node) recording(unit ledger.Unit, call *api.Call) func(answer []byte) {
 	if faults.Has(faults.ForgetsCaller) && n.options.Name == "n1" && unit.Caller == "token:desk" {
 		unit.Caller = ""
 	}
-	return func(answer []byte) { record.Add(unit.Caller, unit.At, unit.Reason, call, answer) }
+	return func(answer []byte) {
+		record.Add(recorded.Command{
+			Call: call, Caller: unit.Caller, At: unit.At, Reason: unit.Reason, Answer: answer, IsBounded: unit.Bounds,
+		})
+	}
 }
 
 // head returns the head of the record, when all that was sent has been answered.
@@ -65,6 +69,14 @@ func (n *Node) resumeRecord(ctx context.Context, base office.Snapshot) error {
 		return nil
 	}
 	return n.options.Record.Resume(ctx, base.Record, base.Copied)
+}
+
+// recordWaits returns why entries of the record wait, or an empty text.
+func (n *Node) recordWaits() string {
+	if n.options.Record == nil {
+		return ""
+	}
+	return n.options.Record.Why()
 }
 
 func (n *Node) closeRecord() error {

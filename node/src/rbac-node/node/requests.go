@@ -38,7 +38,7 @@ func newRequest(over <-chan struct{}, b api.Batch) *request {
 	if b.Kind != api.Command {
 		return r
 	}
-	r.unit = ledger.Unit{At: recorded.TimeLayout, Rule: ruleOf(b)}
+	r.unit = ledger.Unit{At: recorded.TimeLayout, Rule: ruleOf(b), Bounds: true}
 	for _, call := range logged(b) {
 		if call.Kind == api.Command {
 			r.unit.Caller, r.unit.Reason = call.Caller, call.Reason // They are the same for all.

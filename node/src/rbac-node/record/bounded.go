@@ -47,7 +47,11 @@ func (e *entry) shorten() {
 			line.WriteString(`,"` + key + `":` + quoted(name))
 		}
 	}
-	e.request = line.String() + "}"
+	line.WriteByte('}')
+	// The log of several machines may have lines that no node has written, such as a function with an escape.
+	if text := line.String(); boundedForm.MatchString(text) {
+		e.request = text
+	}
 }
 
 // shownStart returns what is shown of a long text, as keys of JSON.

@@ -11,6 +11,9 @@ import (
 	"path/filepath"
 	"strings"
 	"testing"
+	"time"
+
+	"rbac-node/disk"
 )
 
 // TestBounded has commands that are refused: what is recorded of a long one has its beginning, its digest and its names, and verify
@@ -53,6 +56,89 @@ func TestBounded(t *testing.T) {
 		if isWhole := n >= 5; isWhole == strings.Contains(request, `"sha256"`) {
 			t.Errorf("entry %d is whole: %v", n, isWhole)
 		}
+	}
+}
+
+// Each machine records only the beginning of a long request that was refused, if the log wants that, and the whole otherwise. So all have
+// the same record, also after a start at which the log comes again.
+func TestFollowBounded(t *testing.T) {
+	refused := `{"fn":"addRole","role":"` + strings.Repeat("r", 60_000) + `"}`
+	// No node writes such a line into the log. It is done again whole, since its beginning would not be known for one.
+	escaped := `{"fn":"add\u0052ole","role":"` + strings.Repeat("r", 2000) + `"}`
+	for _, isWhole := range []bool{false, true} {
+		one, other := newMachine(t, ""), newMachine(t, "")
+		for _, m := range []*machine{one, other} {
+			m.isWhole = isWhole
+			m.resume("", false)
+			m.begin()
+			m.do(addAnn)
+		}
+		path, head := other.snapshot(7)
+		for _, m := range []*machine{one, other} {
+			m.do(refused, addRole, escaped)
+		}
+		other.start(path)
+		other.resume(head, false)
+		other.do(refused, addRole, escaped)
+		if one.Added() != other.Added() || other.Failure() != nil {
+			t.Errorf("%s and %s, %v", one.Added(), other.Added(), other.Failure())
+		}
+		_ = one.flush("NORMAL")
+		if has := len(one.entries()); has > 60_000 != isWhole || has < 2000 {
+			t.Errorf("the entries have %d bytes", has)
+		}
+		one.snapshot(7)
+		if said, err := one.verify(nil); err != nil {
+			t.Errorf("%s%v", said, err)
+		}
+	}
+}
+
+// tryReserve makes the next write try to make the room that is kept.
+func (m *machine) tryReserve() {
+	m.writing.Lock()
+	defer m.writing.Unlock()
+	m.hasReserve, m.triedReserve = false, time.Time{}
+}
+
+// While there is no room for what is kept for a full disk, entries wait and no snapshot is made. A start frees what is kept.
+func TestFollowReserve(t *testing.T) {
+	m := newMachine(t, "")
+	m.resume("", false)
+	m.begin()
+	m.do(addAnn)
+	path, head := m.snapshot(7)
+	reserve := filepath.Join(m.dir, reserveName)
+	if about, err := os.Stat(reserve); err != nil || about.Size() != disk.Reserve {
+		t.Fatalf("%v, %v", about, err)
+	}
+	// A start on a full disk has freed it, and something is in the way of another one.
+	m.tryReserve()
+	if err := os.Remove(reserve); err != nil {
+		t.Fatal(err)
+	}
+	if err := os.Mkdir(reserve+".making", 0o700); err != nil {
+		t.Fatal(err)
+	}
+	m.do(addRole)
+	if m.flush("NORMAL") == nil || m.Why() == "" || m.Failure() != nil || m.Keep(context.Background(), m.Added()) == nil {
+		t.Errorf("%q, %v", m.Why(), m.Failure())
+	}
+	if has := m.entries(); strings.Contains(has, "addRole") {
+		t.Errorf("it has\n%s", has)
+	}
+	if err := os.RemoveAll(reserve + ".making"); err != nil {
+		t.Fatal(err)
+	}
+	m.tryReserve()
+	if err := m.Keep(context.Background(), m.Added()); err != nil || m.Why() != "" || !strings.Contains(m.entries(), "addRole") {
+		t.Errorf("%v, %q, it has\n%s", err, m.Why(), m.entries())
+	}
+	m.start(path)
+	m.resume(head, false)
+	m.do(addRole)
+	if m.Failure() != nil {
+		t.Error(m.Failure())
 	}
 }
 

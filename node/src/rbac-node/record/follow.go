@@ -16,6 +16,7 @@ import (
 	sqlite3 "github.com/mattn/go-sqlite3"
 
 	"rbac-node/api"
+	"rbac-node/recorded"
 )
 
 // preparedName is the name of a mapped copy of the office with which the record may begin.
@@ -64,6 +65,10 @@ type Follower struct {
 func NewFollower(options Options) *Follower {
 	f := &Follower{
 		Record: newRecord(options), wake: make(chan struct{}, 1), failed: make(chan struct{}), ended: make(chan struct{}),
+	}
+	f.keepsReserve = true
+	if err := freeReserve(f.dir); err != nil {
+		f.Log.Error("the room that is kept for a full disk can't be freed", "why", err)
 	}
 	f.room = sync.NewCond(&f.mutex)
 	f.addMetrics()
@@ -216,9 +221,13 @@ func (f *Follower) Admit(call *api.Call) error {
 }
 
 // Add adds the next command of the log, with its answer. It doesn't wait.
-func (f *Follower) Add(caller, at, reason string, call *api.Call, answer []byte) {
-	line, _ := recordedLine(call) // All nodes record the same line, even if it is too long.
-	f.add(entry{at: at, caller: caller, reason: reason, request: string(line), answer: string(answer)})
+func (f *Follower) Add(c recorded.Command) {
+	line, _ := recordedLine(c.Call) // All nodes record the same line, even if it is too long.
+	e := entry{at: c.At, caller: c.Caller, reason: c.Reason, request: string(line), answer: string(c.Answer)}
+	if c.IsBounded {
+		e.bound()
+	}
+	f.add(e)
 }
 
 func (f *Follower) add(e entry) {
@@ -316,7 +325,10 @@ func (f *Follower) flush(level string) error {
 	if err != nil {
 		return err
 	}
-	err = f.append(queue, level)
+	noRoom := f.roomFor(queue, level)
+	if err = noRoom; err == nil {
+		err = f.append(queue, level)
+	}
 	f.noteWriting(err)
 	f.mutex.Lock()
 	defer f.mutex.Unlock()
@@ -328,11 +340,20 @@ func (f *Follower) flush(level string) error {
 		for i := range queue {
 			f.queued -= queue[i].size()
 		}
-	case !mayPass(err):
+	case noRoom == nil && !mayPass(err):
 		f.fail(err)
 	}
 	f.room.Broadcast()
 	return err
+}
+
+// roomFor returns why entries have to wait although they could be written: the disk was full, and a start needs what is free, since
+// the office in use gets the commands of all nodes.
+func (f *Follower) roomFor(queue []entry, level string) error {
+	if len(queue) == 0 && level == "NORMAL" {
+		return nil // Nothing is written.
+	}
+	return f.keepReserve()
 }
 
 // mayPass reports whether the same write may succeed later, such as when a disk was full.

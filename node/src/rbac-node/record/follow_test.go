@@ -30,6 +30,8 @@ type machine struct {
 	data string
 	// isPrepared says that the record has begun with the copy that was made before.
 	isPrepared bool
+	// isWhole says that the log wants long requests that are refused to be recorded whole.
+	isWhole bool
 }
 
 var _ recorded.Follower = (*Follower)(nil)
@@ -99,8 +101,16 @@ func (m *machine) do(lines ...string) {
 		if err != nil {
 			m.Fatal(err)
 		}
-		m.Add("token:desk", "2026-11-27T09:00:01.000Z", "why", call, []byte(answer))
+		call.Line = []byte(lines[i]) // The log has the line as it is.
+		m.added(call, answer)
 	}
+}
+
+// added adds a command of the log that was answered.
+func (m *machine) added(call *api.Call, answer string) {
+	m.Add(recorded.Command{
+		Call: call, Caller: "token:desk", At: "2026-11-27T09:00:01.000Z", Reason: "why", Answer: []byte(answer), IsBounded: !m.isWhole,
+	})
 }
 
 // snapshot makes a snapshot of the office in use, and returns its path and the head that it has.
@@ -487,6 +497,7 @@ func TestFollowFullDisk(t *testing.T) {
 	for _, name := range []string{"there is room again", "the node is killed meanwhile"} {
 		t.Run(name, func(t *testing.T) {
 			m := newMachine(t, "")
+			m.isWhole = true
 			m.resume("", false)
 			m.begin()
 			m.do(addAnn, addRole)
@@ -545,7 +556,7 @@ func TestFollowFullForLong(t *testing.T) {
 		t.Fatal(err)
 	}
 	for i := 0; i <= mostQueuedBytes/60_000; i++ {
-		m.Add("a", "t", "", call, []byte(`{"ok":true}`))
+		m.added(call, accepted)
 	}
 	if m.flush("NORMAL") == nil {
 		t.Error("it has room")
@@ -569,7 +580,7 @@ func TestFollowMany(t *testing.T) {
 		if err != nil {
 			t.Fatal(err)
 		}
-		m.Add("a", "t", "", call, []byte(`{"ok":true}`))
+		m.added(call, accepted)
 		want = append(want, string(call.Line))
 		if i%700 == 0 {
 			if err := m.Keep(context.Background(), m.Added()); err != nil {

@@ -392,7 +392,7 @@ func (r *Record) note(err error) {
 	r.failing = why
 }
 
-// Why returns why no command is done now, or an empty text.
+// Why returns why no command is recorded now, or an empty text.
 func (r *Record) Why() string {
 	r.mutex.Lock()
 	defer r.mutex.Unlock()

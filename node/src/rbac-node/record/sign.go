@@ -26,7 +26,7 @@ type Signer struct {
 	// URL is that of the front, and Client asks it. Token shows who asks, or is empty.
 	URL, Token string
 	Client     *http.Client
-	// Key is the file of the key, and Heads that of the signed heads. IsFirst says that there is none yet.
+	// Key is the file of the key, of minisign or ssh-keygen, and Heads that of the signed heads. IsFirst says that there is none yet.
 	Key, Heads string
 	IsFirst    bool
 	Out        io.Writer

@@ -36,33 +36,52 @@ func (s *signedHead) head() Head { return Head{s.Entry, s.Chain} }
 // text returns what is signed.
 func (s *signedHead) text() string { return fmt.Sprintf("%s %s\n", s.head(), s.At) }
 
-// sign signs the head with a key, which may be in an agent if the file has its public half.
+// sign signs the head with a key of minisign or of ssh-keygen. The latter may be in an agent if the file has its public half.
 func (s *signedHead) sign(ctx context.Context, key string) error {
-	said, err := runKeygen(ctx, s.text(), "-Y", "sign", "-n", namespace, "-f", key)
-	s.Signature = said
+	text, err := os.ReadFile(key)
+	if err != nil {
+		return err
+	}
+	if isOfMinisign(string(text)) {
+		s.Signature, err = signByMinisign(ctx, s.text(), key)
+	} else {
+		s.Signature, err = run(ctx, s.text(), keygen, "-Y", "sign", "-n", namespace, "-f", key)
+	}
 	return err
 }
 
-// runKeygen returns what ssh-keygen prints about a text.
-func runKeygen(ctx context.Context, text string, words ...string) (string, error) {
-	command := exec.CommandContext(ctx, keygen, words...)
+// run returns what a program prints about a text.
+func run(ctx context.Context, text, program string, words ...string) (string, error) {
+	command := exec.CommandContext(ctx, program, words...)
 	var said strings.Builder
 	command.Stdin, command.Stderr = strings.NewReader(text), &said
 	out, err := command.Output()
 	if err != nil {
-		return "", fmt.Errorf("%s: %w: %s", keygen, err, strings.Join(strings.Fields(said.String()), " "))
+		return "", fmt.Errorf("%s: %w: %s", program, err, strings.Join(strings.Fields(said.String()), " "))
 	}
 	return string(out), nil
 }
 
-// signatures verifies signed heads by a file of signers, as ssh-keygen describes it.
+// signatures verifies signed heads by those who may have signed them.
 type signatures struct {
+	// signers is a file as ssh-keygen describes it, and keys are public keys of minisign.
 	signers string
+	keys    []string
 	// file has the signature at hand, and signer is who has made the one before it.
 	file, signer string
 }
 
-// verify reports whether a head was signed by one of the signers, who was allowed to at that time.
+// newSignatures reads a file of signers, and uses a folder.
+func newSignatures(signers, folder string) (*signatures, error) {
+	keys, others, err := splitSigners(signers)
+	if err != nil {
+		return nil, err
+	}
+	s := &signatures{signers: filepath.Join(folder, "signers"), keys: keys, file: filepath.Join(folder, "signature")}
+	return s, os.WriteFile(s.signers, []byte(others), 0o600)
+}
+
+// verify reports whether a head was signed by one of the signers. One of ssh-keygen has to have been allowed to at that time.
 func (s *signatures) verify(ctx context.Context, signed *signedHead) error {
 	at, err := time.Parse(time.RFC3339, signed.At)
 	if err != nil {
@@ -71,15 +90,18 @@ func (s *signatures) verify(ctx context.Context, signed *signedHead) error {
 	if err := os.WriteFile(s.file, []byte(signed.Signature), 0o600); err != nil {
 		return err
 	}
+	if isOfMinisign(signed.Signature) {
+		return verifyByMinisign(ctx, signed.text(), s.file, filepath.Dir(s.file), s.keys)
+	}
 	words := []string{"-n", namespace, "-f", s.signers, "-s", s.file, "-O", "verify-time=" + at.UTC().Format("20060102150405") + "Z"}
 	by := func() error {
-		_, err := runKeygen(ctx, signed.text(), append([]string{"-Y", "verify", "-I", s.signer}, words...)...)
+		_, err := run(ctx, signed.text(), keygen, append([]string{"-Y", "verify", "-I", s.signer}, words...)...)
 		return err
 	}
 	if s.signer != "" && by() == nil {
 		return nil
 	}
-	found, err := runKeygen(ctx, "", append([]string{"-Y", "find-principals"}, words...)...)
+	found, err := run(ctx, "", keygen, append([]string{"-Y", "find-principals"}, words...)...)
 	if err != nil {
 		return err
 	}
@@ -95,7 +117,10 @@ func ReadSignedHeads(ctx context.Context, file io.Reader, signers string) (heads
 		return nil, err
 	}
 	defer os.RemoveAll(folder)
-	checked := &signatures{signers: signers, file: filepath.Join(folder, "signature")}
+	checked, err := newSignatures(signers, folder)
+	if err != nil {
+		return nil, err
+	}
 	lines := bufio.NewScanner(file)
 	lines.Buffer(nil, longestSigned)
 	for number := 1; lines.Scan(); number++ {

@@ -79,6 +79,15 @@ type Links struct {
 	First int64
 }
 
+// A Command is one of the log with its answer.
+type Command struct {
+	Call               *api.Call
+	Caller, At, Reason string
+	Answer             []byte
+	// IsBounded says that only the beginning of the request is recorded if it is long and was refused.
+	IsBounded bool
+}
+
 // A Follower is the record of a node, which gets the commands of the log in their order.
 type Follower interface {
 	// Resume goes on after the head that the office in use has, which a snapshot gave. That may have been fetched from another node.
@@ -89,14 +98,16 @@ type Follower interface {
 	Begin(ctx context.Context, at string, isAsAtResume bool) error
 	// Admit refuses a command that can't be recorded.
 	Admit(call *api.Call) error
-	// Add adds a command with its answer. It doesn't wait; Room waits until there is room for many more.
-	Add(caller, at, reason string, call *api.Call, answer []byte)
+	// Add adds a command. It doesn't wait; Room waits until there is room for many more.
+	Add(c Command)
 	Room()
 	// Added returns the head after all that was added, or an empty text. Keep makes the entries up to a head durable.
 	Added() string
 	Keep(ctx context.Context, head string) error
 	// Divide may let the record go on in another file after a head that was kept, with which a snapshot was made.
 	Divide(ctx context.Context, snapshot, head string)
+	// Why says why entries wait instead of being written, or is empty.
+	Why() string
 	// Failed is closed when the record can't go on, and Failure says why.
 	Failed() <-chan struct{}
 	Failure() error

@@ -46,7 +46,9 @@ function whatOf({ request, answer, found }) {
     return [done(request.fn, request), note];
 }
 
-const FILTERS = ["user", "role", "object", "function", "caller", "since", "until", "refused", "before"];
+const FILTERS = [
+    "user", "role", "object", "operation", "set", "session", "reason", "function", "caller", "since", "until", "refused", "before",
+];
 
 export async function recordPage({ query }) {
     const wantedQuery = Object.fromEntries(Object.entries(query).filter(([key]) => FILTERS.includes(key)));
@@ -96,7 +98,8 @@ function filterForm(query) {
     refused.className = "check";
     const inputs = [
         text("User", "user", { from: "users" }), text("Role", "role", { from: "roles" }), text("Object", "object", { from: "objects" }),
-        h("label", { for: "function" }, h("span", {}, "Function"), functions), text("Caller", "caller"),
+        text("Operation", "operation", { from: "operations" }), text("Separation of duty set", "set"), text("Session (digest)", "session"),
+        h("label", { for: "function" }, h("span", {}, "Function"), functions), text("Caller", "caller"), text("Why contains", "reason"),
         timeField("Since (UTC)", "since", query.since), timeField("Before (UTC)", "until", query.until), refused,
     ];
     return form("Filter the record", inputs, "Filter", (values) => {
