@@ -184,14 +184,18 @@ def make_wrong(cluster, i):
     """Changes a snapshot of a node behind its back, as a disk does that fails, once all have made theirs of that place: the two others
     are a majority. The node has no newer one."""
     cluster.until(lambda: stopped_at_shared(cluster, i), "all have made a snapshot of one place")
-    wrong = max(shared(cluster, i, made=True))
+    tamper_from(cluster, i, max(shared(cluster, i, made=True)))
+    cluster.nodes[i].start()
+
+
+def tamper_from(cluster, i, wrong):
+    """Changes the snapshot of a place of a node that is stopped, and deletes its newer ones."""
     for revision, (says, path) in snapshots_of(cluster, i).items():
         if revision > wrong:
             path.unlink()
         if revision == wrong:
             tamper(path)
             path.rename(path.with_name(path.name.replace(says["digest"], digest_of(path))))
-    cluster.nodes[i].start()
 
 
 def judge_diverged(bench, cluster):

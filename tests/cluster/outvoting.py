@@ -10,9 +10,10 @@ import pytest
 
 from .answers import exchange, post
 from .faults import OFTEN
-from .keeping import EVERY, add_users, log_of, make_wrong, registered
-from .machines import Cluster, Process
+from .keeping import EVERY, add_users, evens, floor, log_of, make_wrong, registered, shared, tamper_from
+from .machines import PREFIX, Cluster, Process
 from .networks import MACHINES
+from .records import MISSING, tool
 from .rights import token
 from .rows import snapshots_of
 from .running import build
@@ -101,4 +102,33 @@ def check_outvoted(bench, faulty):
         shutil.move(cluster.data("node2"), cluster.data("evidence"))
         cluster.nodes[2].start()
         cluster.until(cluster.ready, "with an empty folder it is ready")
+        add_users(cluster, "after", 3)
+
+
+def check_no_majority(bench):
+    """A node has fetched its snapshot of a place, and another one gets a wrong one of that place: nobody knows which of two is right, so all
+    refuse. `record verify` finds the wrong one, and without it the others go on."""
+    with Cluster(bench.folder, build(bench.shared), every=EVERY) as cluster:
+        cluster.until(lambda: evens(cluster) and floor(cluster), "the log is trimmed, and the newest snapshots are of one place")
+        cluster.lose_node(1)
+        cluster.until(cluster.ready, "it has fetched a snapshot")
+        cluster.nodes[2].stop(signal.SIGTERM)
+        place = max(shared(cluster, 2))
+        bench.same("it is a copy at node 1", place in registered(cluster, made=True)[1], False)
+        tamper_from(cluster, 2, place)
+        cluster.nodes[2].start()
+        cluster.until(lambda: all(refuses(cluster, i) for i in range(MACHINES)), "all refuse")
+        for i in range(MACHINES):
+            bench.same(f"a command to node {i}", exchange(cluster, post("addUser", b'{"user":"nobody"}'), i), DIVERGED)
+        bench.same("nobody is outvoted", [i for i in range(MACHINES) if "empty folder" in cluster.status(i)["why"]], [])
+        found = {i: tool(cluster.node, "verify", "--data", cluster.data(f"node{i}")) for i in range(MACHINES)}
+        bench.same("verify of node 0", found[0][::2], (0, ""))
+        bench.same("verify of node 1", found[1][::2], (2, MISSING))
+        bench.judge("verify of node 2", [] if "the newest snapshot is not what the record gives" in found[2][2] else [str(found[2])])
+        cluster.nodes[2].stop(signal.SIGTERM)
+        shutil.move(cluster.data("node2"), cluster.data("evidence"))
+        cluster.ctl("del", f"{PREFIX}/nodes/n2")
+        cluster.until(lambda: all(cluster.status(i).get("ready") for i in range(2)), "the others go on")
+        cluster.nodes[2].start()
+        cluster.until(cluster.ready, "all are ready")
         add_users(cluster, "after", 3)
