@@ -63,6 +63,36 @@ def judge_lost(bench, cluster, wrong, right, lost):
     shutil.rmtree(cluster.data(f"node{wrong}"))
 
 
+def contest(cluster, faults):
+    """Makes a node wrong at a place of which another one has a copy alone, so that nobody has a majority. All refuse, unless a later place
+    decides, until the other one has an empty folder. At the end all is well again."""
+    wrong, copy, right = faults.random.sample(range(MACHINES), MACHINES)
+
+    def is_copied():
+        """Whether the wrong node, which is stopped then, has a snapshot of such a place."""
+        cluster.lose_node(copy)
+        cluster.until(cluster.ready, "all are ready")
+        time.sleep(2)  # It is registered soon.
+        made, known = registered(cluster, made=True), registered(cluster)
+        places = (known.get(copy, set()) - made.get(copy, set())) & made.get(wrong, set()) & made.get(right, set())
+        if places:
+            cluster.nodes[wrong].stop()
+            tamper_from(cluster, wrong, max(places))
+            cluster.nodes[wrong].start()
+        return places
+
+    is_outvoted = lambda: "empty folder" in cluster.status(wrong).get("why", "")  # noqa: E731
+    cluster.until(is_copied, "a node has a copy alone")
+    cluster.until(lambda: is_outvoted() or all(refuses(cluster, i) for i in range(MACHINES)), "all refuse, or the wrong node is outvoted")
+    if not is_outvoted():
+        cluster.lose_node(copy)
+        faults.did("differences without a majority")
+    cluster.until(is_outvoted, "the wrong node is outvoted")
+    cluster.until(lambda: all(cluster.status(i).get("ready") for i in others_of(wrong)), "the others go on")
+    cluster.lose_node(wrong)
+    cluster.until(cluster.ready, "all are ready again")
+
+
 def snapshot_of_all(cluster, machines):
     """Adds commands until these nodes have registered a snapshot of one place."""
     wanted = set().union(*(registered(cluster).get(i, set()) for i in machines))

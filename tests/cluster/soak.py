@@ -22,7 +22,7 @@ from .judged import CLIENTS, EVERY, Trial
 from .linear import ADD, ASK, DELETE, judged
 from .machines import Cluster
 from .networks import MACHINES, quietly
-from .outvoting import outvote
+from .outvoting import contest, outvote
 from .records import MISSING, tool
 from .rights import options, token
 from .running import build
@@ -266,6 +266,7 @@ def soaked(bench, folder, node, seed):
             faults.run_some(RARE)
             cluster.heal()
             cluster.until(lambda: trial.recorder.floor, "the log is trimmed")
+            contest(cluster, faults)
             outvote(bench, cluster, faults)
         except Exception:
             wrong.append(traceback.format_exc())
