@@ -35,11 +35,11 @@ func (t *Tool) Backup(ctx context.Context, folder string) error {
 		return err
 	}
 	defer release()
-	lock, err := waitForFolder(ctx, folder)
+	free, err := lockDir(ctx, folder, syscall.LOCK_EX) // No other backup is made there meanwhile.
 	if err != nil {
 		return fmt.Errorf("backup: %w", err)
 	}
-	defer lock.Close()
+	defer free()
 	making := filepath.Join(folder, makingBackup)
 	if err := os.RemoveAll(making); err != nil {
 		return fmt.Errorf("backup: %w", err)
@@ -65,26 +65,6 @@ func (t *Tool) Backup(ctx context.Context, folder string) error {
 	}
 	fmt.Fprintln(t.Out, made)
 	return nil
-}
-
-// waitForFolder waits until no other backup is made in a folder.
-func waitForFolder(ctx context.Context, folder string) (*os.File, error) {
-	file, err := os.Open(folder)
-	if err != nil {
-		return nil, err
-	}
-	for {
-		err := syscall.Flock(int(file.Fd()), syscall.LOCK_EX|syscall.LOCK_NB)
-		if err == nil {
-			return file, nil
-		}
-		select {
-		case <-ctx.Done():
-			_ = file.Close()
-			return nil, fmt.Errorf("lock %s: %w", folder, err)
-		case <-time.After(glance):
-		}
-	}
 }
 
 // linkOrCopy copies the file of an earlier part, which never changes. If a backup in the folder has the same, it becomes another name

@@ -30,32 +30,36 @@ var (
 
 // share keeps the files of a record as they are until release is called: no node divides it meanwhile.
 func share(ctx context.Context, dir string) (release func(), err error) {
-	return lockFiles(ctx, dir, syscall.LOCK_SH)
+	return lockDir(ctx, dir, syscall.LOCK_SH)
 }
 
-// lockFiles locks the files of a record, for those who read them or for one who divides it.
-func lockFiles(ctx context.Context, dir string, how int) (release func(), err error) {
+// exclude keeps others from reading the files of a record until release is called, once nobody does.
+func exclude(ctx context.Context, dir string) (release func(), err error) {
+	within, cancel := context.WithTimeout(ctx, patience)
+	defer cancel()
+	if release, err = lockDir(within, dir, syscall.LOCK_EX); err != nil && within.Err() != nil && ctx.Err() == nil {
+		err = errOthersRead
+	}
+	return release, err
+}
+
+// lockDir waits until it can lock a folder.
+func lockDir(ctx context.Context, dir string, how int) (release func(), err error) {
 	folder, err := os.Open(dir)
 	if err != nil {
 		return nil, err
 	}
-	for {
-		if err = syscall.Flock(int(folder.Fd()), how|syscall.LOCK_NB); err == nil {
-			return func() { _ = folder.Close() }, nil
+	err = syscall.Flock(int(folder.Fd()), how|syscall.LOCK_NB)
+	for errors.Is(err, syscall.EWOULDBLOCK) {
+		if err = wait(ctx, glance); err == nil {
+			err = syscall.Flock(int(folder.Fd()), how|syscall.LOCK_NB)
 		}
-		if !errors.Is(err, syscall.EWOULDBLOCK) {
-			break
-		}
-		select {
-		case <-time.After(glance):
-			continue
-		case <-ctx.Done():
-			err = errOthersRead
-		}
-		break
 	}
-	_ = folder.Close()
-	return nil, err
+	if err != nil {
+		_ = folder.Close()
+		return nil, fmt.Errorf("lock %s: %w", dir, err)
+	}
+	return func() { _ = folder.Close() }, nil
 }
 
 // cutNode closes the part at hand of the record of a node that has ended, at the newest snapshot.
@@ -78,28 +82,32 @@ func (t *Tool) cutNode(ctx context.Context) error {
 	r := newRecord(Options{Office: snapshot, Program: t.Program, Dir: t.dir(), Log: logs.New(io.Discard)})
 	defer r.close()
 	closed := ""
-	err = r.withCopy(ctx, snapshot, func(copied, rows string) error {
-		within, cancel := context.WithTimeout(ctx, patience)
-		defer cancel()
-		release, err := lockFiles(within, r.dir, syscall.LOCK_EX)
-		if err != nil {
-			return err
-		}
-		defer release()
-		next, err := newNext(ctx, r.dir, head, rows, copied)
-		if err != nil {
-			return err
-		}
-		if closed, err = next.putInPlace(); err != nil {
-			return err
-		}
-		return tidyParts(r.dir)
+	err = r.withCopy(ctx, snapshot, func(copied, rows string) (err error) {
+		closed, err = cutAt(ctx, r.dir, head, rows, copied)
+		return err
 	})
 	if err != nil {
 		return fmt.Errorf("record: %w", err)
 	}
 	fmt.Fprintln(t.Out, closed)
 	return nil
+}
+
+// cutAt closes the part at hand at a head, while no node writes it, and returns the path of its file.
+func cutAt(ctx context.Context, dir string, head Head, rows, copied string) (closed string, err error) {
+	release, err := exclude(ctx, dir)
+	if err != nil {
+		return "", err
+	}
+	defer release()
+	next, err := newNext(ctx, dir, head, rows, copied)
+	if err != nil {
+		return "", err
+	}
+	if closed, err = next.putInPlace(); err != nil {
+		return "", err
+	}
+	return closed, tidyParts(dir)
 }
 
 // newestRecorded returns the path of the newest snapshot of a node with a head of its record, and the head.
@@ -167,9 +175,7 @@ func (f *Follower) Links(ctx context.Context, after int64) (links recorded.Links
 
 // divide divides the record while nothing is written to it. Entries wait meanwhile, and as long as the disk is full.
 func (f *Follower) divide(ctx context.Context, head Head, rows, copied string) (closed string, err error) {
-	within, cancel := context.WithTimeout(ctx, patience)
-	defer cancel()
-	release, err := lockFiles(within, f.dir, syscall.LOCK_EX)
+	release, err := exclude(ctx, f.dir)
 	if err != nil {
 		return "", err
 	}
@@ -180,10 +186,10 @@ func (f *Follower) divide(ctx context.Context, head Head, rows, copied string) (
 	if err != nil {
 		return "", err
 	}
-	if err := f.db.Close(); err != nil {
-		return "", err
+	if err = f.db.Close(); err == nil {
+		closed, err = next.putInPlace()
 	}
-	if closed, err = next.putInPlace(); err == nil {
+	if err == nil {
 		err = f.insist(ctx, func() error { return tidyParts(f.dir) })
 	}
 	if failed := f.insist(ctx, f.reload); failed != nil {

@@ -10,7 +10,6 @@ import (
 	"os"
 	"path/filepath"
 	"sync"
-	"syscall"
 	"time"
 
 	sqlite3 "github.com/mattn/go-sqlite3"
@@ -135,9 +134,7 @@ func (f *Follower) closeBefore(n int64) (has bool, err error) {
 	if err != nil || last >= n {
 		return true, err
 	}
-	within, cancel := context.WithTimeout(f.life, patience)
-	defer cancel()
-	release, err := lockFiles(within, f.dir, syscall.LOCK_EX)
+	release, err := exclude(f.life, f.dir)
 	if err != nil {
 		return true, err
 	}
