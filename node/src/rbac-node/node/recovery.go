@@ -158,7 +158,7 @@ func (n *Node) offers(state ledger.State) (newest []offer) {
 // accept refuses a snapshot that another node offers unless the node has registered it, the log continues after it, and
 // no node has registered another digest at its revision: one of two nodes that differ is wrong, and nobody knows here
 // which. A node that is outvoted is known to be wrong. The other nodes may not have come to that revision yet, so it also refuses
-// all snapshots of a node that most others contest, but for one that a second node has made too.
+// all snapshots of a node that most others contest, but for one that those have too with whom it differs at another place.
 func (n *Node) accept(ctx context.Context, name string, offered office.Snapshot) error {
 	state, err := n.shared.State(ctx)
 	if err != nil {
@@ -186,7 +186,7 @@ func (n *Node) accept(ctx context.Context, name string, offered office.Snapshot)
 		if member.Name != name {
 			continue
 		}
-		if why := difference(name, member.Snapshots, right); why != "" && makers(offered, right) < 2 {
+		if why := difference(name, member.Snapshots, right); why != "" && !sharedByContesting(offered, member, right) {
 			return errors.New(why)
 		}
 		isRegistered = s.Count == offered.Count
@@ -195,6 +195,23 @@ func (n *Node) accept(ctx context.Context, name string, offered office.Snapshot)
 		return fmt.Errorf("the snapshot at revision %d is not registered in etcd", offered.Revision)
 	}
 	return nil
+}
+
+// sharedByContesting reports whether each node has a snapshot that differs from a member at any place: what is wrong with one of them came
+// after it.
+func sharedByContesting(s office.Snapshot, member ledger.Member, others []ledger.Member) bool {
+	for _, other := range others {
+		for _, own := range member.Snapshots {
+			witness, is := snapshotAt(other, own.Revision)
+			if !is || witness.IsSame(own) {
+				continue
+			}
+			if shared, has := snapshotAt(other, s.Revision); !has || !shared.IsSame(s) {
+				return false
+			}
+		}
+	}
+	return true
 }
 
 // makers returns how many nodes have made a snapshot themselves.

@@ -52,9 +52,11 @@ func TestAccept(t *testing.T) {
 		{"nobody has registered it", 5, members(member("b", at(7))), at(9), false},
 		{"others contest an earlier one of it", 5, members(member("a", at(7)), member("b", at(9), other(at(7))), member("c", at(7))), at(9), false},
 		{"one node contests an earlier one of it", 5, members(member("a", at(7)), member("b", at(9), at(7)), member("c", other(at(7)))), at(9), true},
-		{"two have made it, and differ later", 5, members(member("b", other(at(9)), at(7)), member("c", at(9), at(7))), at(7), true},
-		{"one has made it, and they differ later", 5, members(member("b", other(at(9)), at(7)), member("c", at(9))), at(7), false},
-		{"one has fetched it, and they differ later", 5, members(member("b", other(at(9)), at(7)), member("c", at(9), fetched(at(7)))), at(7), false},
+		{"those that differ later have it", 5, members(member("b", other(at(9)), at(7)), member("c", at(9), at(7))), at(7), true},
+		{"one of those that differ later has it", 5, members(member("b", other(at(9)), at(7)), member("c", at(9))), at(7), false},
+		{"one of those that differ later has fetched it", 5, members(member("b", other(at(9)), at(7)), member("c", at(9), fetched(at(7)))), at(7), true},
+		{"those that differ later differ there too", 5, members(member("b", other(at(9)), at(7)), member("c", at(9), other(at(7)))), at(7), false},
+		{"a third one has it", 5, members(member("b", other(at(9)), at(7)), member("c", at(9)), member("d", at(7))), at(7), false},
 		{"the log begins later", 10, members(member("b", at(9))), at(9), false},
 	} {
 		t.Run(one.name, func(t *testing.T) {
