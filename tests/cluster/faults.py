@@ -14,16 +14,32 @@ class Faults:
 
     def __init__(self, cluster, seed):
         self.cluster, self.random = cluster, random.Random(seed)
-        self.counts, self.faults = Counter(), []
-        # How long a node may take to end after its replay, 0 if this is not checked.
+        self.counts, self.faults, self.left = Counter(), [], {}
+        # How long a node may take to end after its replay, and to have one, 0 if this is not checked.
         self.patience = 30
 
     def run(self, kinds, count, between):
-        """Causes `count` faults of these kinds, with about `between` seconds between them."""
-        for _ in range(count):
-            kind = self.random.choice(kinds)
-            kind(self, self.random.randrange(MACHINES))
+        """Causes `count` faults of these kinds, with about `between` seconds between them. Each kind comes as often as it is among them. One
+        that this system doesn't allow is not counted, and another one comes in its place."""
+        wanted = sum(self.counts.values()) + count
+        for _ in range(3 * count):
+            if sum(self.counts.values()) >= wanted:
+                break
+            left = self.left.setdefault(tuple(kinds), [])
+            if not left:
+                left.extend(self.random.sample(kinds, len(kinds)))
+            left.pop()(self, self.random.randrange(MACHINES))
             time.sleep(self.random.uniform(0.3, 1.7) * between)
+
+    def children(self, node, holds):
+        """The process of a node, and those that it has started of which something holds, once there is one: it may have just ended."""
+        deadline = time.monotonic() + self.patience
+        while True:
+            process = node.process
+            found = [child for child in node.children() if holds(child)]
+            if found and process is node.process or time.monotonic() > deadline:
+                return process, found
+            time.sleep(0.02)
 
     def did(self, what):
         self.counts[what] += 1
@@ -51,7 +67,7 @@ class Faults:
     def kill_replay(self, i, busy=False):
         """Ends the program. The node has to end too."""
         node = self.cluster.nodes[i]
-        process, replays = node.process, [child for child in node.children() if is_replay(child)]
+        process, replays = self.children(node, is_replay)
         for number in (signal.SIGSTOP, signal.SIGKILL) if busy else (signal.SIGKILL,):
             for child in replays:
                 send(child, number)
@@ -73,10 +89,9 @@ class Faults:
 
     def kill_callers(self, i):
         """Ends the office of the callers, which the node starts again."""
-        for child in self.cluster.nodes[i].children():
-            if arguments_of(child) == [b"replay", b"--memory"]:
-                send(child, signal.SIGKILL)
-                self.did("offices of callers killed")
+        for child in self.children(self.cluster.nodes[i], lambda child: arguments_of(child) == [b"replay", b"--memory"])[1]:
+            send(child, signal.SIGKILL)
+            self.did("offices of callers killed")
 
     def end_node(self, i):
         """The node is asked to end, and has to end in order, unless it was about to start or had just failed."""
@@ -150,4 +165,9 @@ def is_replay(process):
 
 KILLS = [Faults.kill_node, Faults.kill_member, Faults.kill_machine, Faults.kill_two_members, Faults.kill_replay]
 PAUSES = [Faults.pause_node, Faults.pause_member, Faults.pause_replay]
+# What happens often, and what each of it is called.
 OFTEN = KILLS + KILLS[:2] + PAUSES + [Faults.kill_busy_replay, Faults.end_node, Faults.reload_callers, Faults.kill_callers]
+NAMES = (
+    "nodes killed", "members killed", "machines killed", "pairs of members killed", "replays killed", "offices of callers killed",
+    "nodes paused", "members paused", "replays paused", "nodes ended by SIGTERM", "nodes told to read their callers again",
+)  # fmt: skip

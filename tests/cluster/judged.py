@@ -1,6 +1,5 @@
 """Clients ask all nodes at once while machines fail, and all that was answered is judged."""
 
-import re
 import shutil
 import signal
 import threading
@@ -8,7 +7,7 @@ import time
 
 import pytest
 
-from .faults import OFTEN, Faults
+from .faults import NAMES, OFTEN, Faults
 from .histories import Client
 from .judging import Judge, Recorder, counts_of
 from .machines import SECONDS, Cluster
@@ -41,7 +40,7 @@ class Trial:
         for thread in (self.recorder, *self.clients):
             thread.start()
 
-    def judge(self, seconds=SECONDS):
+    def judge(self, seconds=None):
         """Lets the clients end and everything recover, and returns what is wrong."""
         self.done.set()
         for client in self.clients:
@@ -101,8 +100,9 @@ def judge_faults(bench, folder, node, count, between, seed):
         for what, times in sorted(faults.counts.items()):
             print(f"{times:9,}  {what}")
         bench.judge(f"nothing answered wrongly (seed {seed})", (faults.faults + trial.judge())[:20])
-        kills = sum(times for what, times in faults.counts.items() if re.search("killed|paused|ended", what))
-        bench.judge("as many kills, ends and pauses as wanted", [] if kills >= 0.75 * count else [f"only {kills}"])
+        bench.judge("faults of each kind", [what for what in NAMES if not faults.counts[what]])
+        often = sum(faults.counts[what] for what in NAMES)
+        bench.judge("as many faults as wanted", [] if often >= count else [f"only {often}"])
 
 
 # By its fault: what reveals it.

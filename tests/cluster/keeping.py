@@ -151,9 +151,9 @@ def registered(cluster, made=False):
     return {int(one["name"][1:]): {s["revision"] for s in one["snapshots"] or [] if not (made and s.get("copied"))} for one in members}
 
 
-def shared(cluster, i):
-    """The revisions of a node's snapshots that all nodes have registered."""
-    found = registered(cluster)
+def shared(cluster, i, made=False):
+    """The revisions of a node's snapshots that all nodes have registered, or have made themselves."""
+    found = registered(cluster, made)
     return set(revisions(cluster, i)).intersection(*(found.get(j, ()) for j in range(3)))
 
 
@@ -169,19 +169,33 @@ def evens(cluster):
     return False
 
 
-def make_wrong(cluster, i):
-    """Changes a snapshot of a node behind its back, as a disk does that fails, once all have registered theirs of that place. The
-    node has no newer one."""
+def stopped_at_shared(cluster, i):
+    """Whether a node, which is stopped then, has a snapshot of a place of which all have made one. If not, it runs."""
+    if not shared(cluster, i, made=True):
+        return False
     cluster.nodes[i].stop()
-    cluster.until(lambda: shared(cluster, i), "all have registered a snapshot of one place")
-    wrong = max(shared(cluster, i))
+    if shared(cluster, i, made=True):  # The others may have deleted theirs meanwhile.
+        return True
+    cluster.nodes[i].start()
+    return False
+
+
+def make_wrong(cluster, i):
+    """Changes a snapshot of a node behind its back, as a disk does that fails, once all have made theirs of that place: the two others
+    are a majority. The node has no newer one."""
+    cluster.until(lambda: stopped_at_shared(cluster, i), "all have made a snapshot of one place")
+    tamper_from(cluster, i, max(shared(cluster, i, made=True)))
+    cluster.nodes[i].start()
+
+
+def tamper_from(cluster, i, wrong):
+    """Changes the snapshot of a place of a node that is stopped, and deletes its newer ones."""
     for revision, (says, path) in snapshots_of(cluster, i).items():
         if revision > wrong:
             path.unlink()
         if revision == wrong:
             tamper(path)
             path.rename(path.with_name(path.name.replace(says["digest"], digest_of(path))))
-    cluster.nodes[i].start()
 
 
 def judge_diverged(bench, cluster):

@@ -83,8 +83,10 @@ class Process:
 class Cluster:
     """The machines of one test, in a folder."""
 
-    def __init__(self, folder, node, every=500, timeout="4s", more=(), of_etcd=()):
+    def __init__(self, folder, node, every=500, timeout="4s", more=(), of_etcd=(), patience=SECONDS):
         self.folder, self.node = folder, node
+        # How many seconds is waited for what has to happen, if nothing else is said.
+        self.patience = patience
         self.network = network()
         self.every, self.timeout, self.more, self.of_etcd = every, timeout, more, of_etcd
         self.members = [self.member(i) for i in range(MACHINES)]
@@ -156,8 +158,9 @@ class Cluster:
 
     # What it reports.
 
-    def until(self, holds, what, seconds=SECONDS):
+    def until(self, holds, what, seconds=None):
         """Waits until something holds."""
+        seconds = seconds or self.patience
         deadline = time.monotonic() + seconds
         while not holds():
             if time.monotonic() > deadline:
@@ -266,7 +269,7 @@ class Cluster:
             for child in process.children():
                 send(child, signal.SIGCONT)
 
-    def heal(self, seconds=SECONDS):
+    def heal(self, seconds=None):
         """Lets everything run, and waits until all nodes have applied the whole log."""
         self.resume()
         self.until(self.ready, "all nodes are ready again", seconds)

@@ -10,9 +10,10 @@ import pytest
 
 from .answers import exchange, post
 from .faults import OFTEN
-from .keeping import EVERY, add_users, log_of, make_wrong, registered
-from .machines import SECONDS, Cluster, Process
+from .keeping import EVERY, add_users, evens, floor, log_of, make_wrong, registered, tamper_from
+from .machines import PREFIX, Cluster, Process
 from .networks import MACHINES
+from .records import MISSING, tool
 from .rights import token
 from .rows import snapshots_of
 from .running import build
@@ -39,8 +40,7 @@ def outvote(bench, cluster, faults):
     cluster.until(lambda: refuses(cluster, wrong), "the wrong node refuses")
     faults.run(OFTEN, 6, 0.4)
     cluster.resume()
-    # If the others had fetched their snapshots of that place, they are no witnesses, and a majority needs the next place.
-    cluster.until(lambda: "empty folder" in cluster.status(wrong).get("why", ""), "it is outvoted", 3 * SECONDS)
+    cluster.until(lambda: "empty folder" in cluster.status(wrong).get("why", ""), "it is outvoted", 3 * cluster.patience)
     for fields in ((), ("Consistency: local",)):
         asked = post("assignedRoles", b'{"user":"a"}', f"Authorization: Bearer {token(ASKER)}", *fields)
         bench.same(f"what the wrong node answers {fields}", exchange(cluster, asked, wrong), DIVERGED)
@@ -61,6 +61,36 @@ def judge_lost(bench, cluster, wrong, right, lost):
     bench.same("from whom it has fetched", set(fetched), {f"n{right}"})
     cluster.nodes[wrong].stop()
     shutil.rmtree(cluster.data(f"node{wrong}"))
+
+
+def contest(cluster, faults):
+    """Makes a node wrong at a place of which another one has a copy alone, so that nobody has a majority. All refuse, unless a later place
+    decides, until the other one has an empty folder. At the end all is well again."""
+    wrong, copy, right = faults.random.sample(range(MACHINES), MACHINES)
+
+    def is_copied():
+        """Whether the wrong node, which is stopped then, has a snapshot of such a place."""
+        cluster.lose_node(copy)
+        cluster.until(cluster.ready, "all are ready")
+        time.sleep(2)  # It is registered soon.
+        made, known = registered(cluster, made=True), registered(cluster)
+        places = (known.get(copy, set()) - made.get(copy, set())) & made.get(wrong, set()) & made.get(right, set())
+        if places:
+            cluster.nodes[wrong].stop()
+            tamper_from(cluster, wrong, max(places))
+            cluster.nodes[wrong].start()
+        return places
+
+    is_outvoted = lambda: "empty folder" in cluster.status(wrong).get("why", "")  # noqa: E731
+    cluster.until(is_copied, "a node has a copy alone")
+    cluster.until(lambda: is_outvoted() or all(refuses(cluster, i) for i in range(MACHINES)), "all refuse, or the wrong node is outvoted")
+    if not is_outvoted():
+        cluster.lose_node(copy)
+        faults.did("differences without a majority")
+    cluster.until(is_outvoted, "the wrong node is outvoted")
+    cluster.until(lambda: all(cluster.status(i).get("ready") for i in others_of(wrong)), "the others go on")
+    cluster.lose_node(wrong)
+    cluster.until(cluster.ready, "all are ready again")
 
 
 def snapshot_of_all(cluster, machines):
@@ -103,3 +133,47 @@ def check_outvoted(bench, faulty):
         cluster.nodes[2].start()
         cluster.until(cluster.ready, "with an empty folder it is ready")
         add_users(cluster, "after", 3)
+
+
+def makes_wrong(cluster, i):
+    """Makes the newest snapshot of a node wrong of which all have registered one of that place."""
+    cluster.nodes[i].stop(signal.SIGTERM)
+    tamper_from(cluster, i, max(set.intersection(*registered(cluster).values())))
+    cluster.nodes[i].start()
+
+
+def outvotes(cluster, wrong):
+    """Waits until a node is outvoted, and the others go on. Then it gets another folder."""
+    cluster.until(lambda: "empty folder" in cluster.status(wrong).get("why", ""), "the wrong node is outvoted")
+    cluster.until(lambda: all(cluster.status(i).get("ready") for i in others_of(wrong)), "the others go on")
+    cluster.lose_node(wrong)
+    cluster.until(cluster.ready, "all are ready")
+    snapshot_of_all(cluster, range(MACHINES))
+
+
+def check_no_majority(bench):
+    """A node has fetched its snapshot of a place, and another one gets a wrong one of that place: nobody knows which of two is right, so all
+    refuse. `record verify` finds the wrong one. If the first has an empty folder, it fetches one of an earlier place, of which both have the
+    same, and comes to the last one by itself: then the wrong one is outvoted. So it is with a node that comes when two others differ."""
+    with Cluster(bench.folder, build(bench.shared), every=EVERY) as cluster:
+        cluster.until(lambda: evens(cluster) and floor(cluster), "the log is trimmed, and the newest snapshots are of one place")
+        cluster.lose_node(1)
+        cluster.until(cluster.ready, "it has fetched a snapshot")
+        makes_wrong(cluster, 2)
+        cluster.until(lambda: all(refuses(cluster, i) for i in range(MACHINES)), "all refuse")
+        for i in range(MACHINES):
+            bench.same(f"a command to node {i}", exchange(cluster, post("addUser", b'{"user":"nobody"}'), i), DIVERGED)
+        bench.same("nobody is outvoted", [i for i in range(MACHINES) if "empty folder" in cluster.status(i)["why"]], [])
+        found = {i: tool(cluster.node, "verify", "--data", cluster.data(f"node{i}")) for i in range(MACHINES)}
+        bench.same("verify of node 0", found[0][::2], (0, ""))
+        bench.same("verify of node 1", found[1][::2], (2, MISSING))
+        bench.judge("verify of node 2", [] if "the newest snapshot is not what the record gives" in found[2][2] else [str(found[2])])
+        cluster.lose_node(1)
+        outvotes(cluster, 2)
+        cluster.until(lambda: evens(cluster), "the newest snapshots are of one place")
+        cluster.nodes[1].stop()
+        cluster.ctl("del", f"{PREFIX}/nodes/n1")
+        makes_wrong(cluster, 2)
+        cluster.until(lambda: all(refuses(cluster, i) for i in (0, 2)), "both refuse")
+        cluster.lose_node(1)
+        outvotes(cluster, 2)

@@ -37,6 +37,9 @@ ALLOWED = ["addUser", "deleteUser", "addRole", "assignUser", "deassignUser", "cr
 # What verify says of a node that began with a snapshot.
 MISSING = "rbac-node: what is here is good, but entries are missing\n"
 
+# What a node logs that begins its record with a snapshot.
+BEGINS_LATE = "the record begins with a snapshot: earlier entries are not here"
+
 # Names of sessions that are found nowhere by chance.
 SECRETS = [f"session-that-nobody-may-see-{number}" for number in range(8)]
 
@@ -47,14 +50,20 @@ def files_of(data):
     return [*parts, Path(data, "record/record.db")]
 
 
-def entries_of(data):
-    """All entries of the record in the folder of a node."""
+def parts_of(data):
+    """The files of the record in the folder of a node, in their order: of each the number of its first entry, and its entries."""
     found = []
     for path in files_of(data):
         if path.exists():
             with closing(sqlite3.connect(f"file:{path}?mode=ro", uri=True, timeout=SECONDS)) as opened:
-                found += [Entry(*row) for row in opened.execute("SELECT * FROM entry ORDER BY n")]
+                (first,) = opened.execute("SELECT min(first) FROM part").fetchone()
+                found.append((first, [Entry(*row) for row in opened.execute("SELECT * FROM entry ORDER BY n")]))
     return found
+
+
+def entries_of(data):
+    """All entries of the record in the folder of a node."""
+    return [entry for _, entries in parts_of(data) for entry in entries]
 
 
 def tool(node, *words):
@@ -94,11 +103,32 @@ def joined(records):
     return [found[n] for n in sorted(found)], faults
 
 
-def unlike(commands, wanted, judge):
-    """How the entries of commands differ from the lines of a log, and from what was asked and answered. If all nodes have lost the
-    beginning of their records, the entries are those of the last lines."""
+def lacking(parts, log):
+    """What the record of a node lacks without a reason. What is before a file may be missing only if the node has begun it with a snapshot,
+    as its log says: it had lost its record, or had one that ended before a snapshot that it fetched."""
+    begun = {json.loads(line)["first"] for line in log.splitlines() if BEGINS_LATE in line}
+    faults, last = [], 0
+    for first, entries in parts:
+        if first <= last or first > last + 1 and first not in begun:
+            faults.append(f"after entry {last} comes a file that begins with entry {first}")
+        numbers = [entry.n for entry in entries]
+        last = first + len(numbers) - 1
+        if numbers != list(range(first, last + 1)):
+            faults.append(f"the file that begins with entry {first} has {len(numbers)} entries, from {numbers[0]} to {numbers[-1]}")
+    return faults
+
+
+def unlike(entries, wanted, judge):
+    """How entries differ from the lines of a log, and from what was asked and answered. The first entry says that the record begins, and
+    each later one is the command of one line, also if nobody has those before it."""
     faults, by_reason, recorded = [], {one.reason: one for one in judge.asked}, set()
-    for entry, (revision, place, line) in zip(reversed(commands), reversed(wanted)):
+    for entry in reversed(entries):
+        if (entry.n == 1) != ('"record":' in entry.request) or entry.n > len(wanted) + 1:
+            faults.append(f"{entry} is not the command of a line: the log has {len(wanted)}")
+            continue
+        if entry.n == 1:
+            continue
+        revision, place, line = wanted[entry.n - 2]
         asked = judge.asked_at.get((revision, place))
         if asked is None or not asked.is_answered:  # Of several that are the same and were not answered it may be any.
             asked = by_reason.get(entry.reason)
@@ -119,21 +149,23 @@ def unlike(commands, wanted, judge):
 def faults_of(cluster, judge):
     """What is wrong with the records of a cluster whose nodes have ended, when a judge has compared its log with the answers."""
     raised = raised_at(cluster)
-    entries, faults = joined([entries_of(cluster.data(f"node{i}")) for i in range(MACHINES)])
+    parts = [parts_of(cluster.data(f"node{i}")) for i in range(MACHINES)]
+    entries, faults = joined([[entry for _, found in one for entry in found] for one in parts])
     wanted = [
         (revision, place, line)
         for revision, lines, _ in judge.entries
         for place, line in enumerate(lines)
         if raised and revision > raised
     ]
-    commands = [entry for entry in entries if '"record":' not in entry.request]
-    print(f"{len(commands):9,}  commands in the records, of {len(wanted):,} since they began", flush=True)
-    if len(commands) == len(entries) - 1 and len(commands) != len(wanted):
-        faults.append(f"the records have {len(commands)} commands, and the log {len(wanted)} since they began")
-    faults += unlike(commands, wanted, judge)
-    for i in range(MACHINES):
+    last, missing = entries[-1].n if entries else 0, len(wanted) + 1 - len(entries) if wanted else 0
+    print(f"{len(wanted):9,}  commands in the log since the records began, which end at entry {last:,}: {missing:,} are in none", flush=True)
+    if last != (len(wanted) + 1 if wanted else 0):
+        faults.append(f"the records end at entry {last}, and the log has {len(wanted)} commands since they began")
+    faults += unlike(entries, wanted, judge)
+    for i, found in enumerate(parts):
+        faults += [f"node {i}: {fault}" for fault in lacking(found, log_of(cluster, i))]
         status, out, said = tool(cluster.node, "verify", "--data", cluster.data(f"node{i}"))
-        if (status, said) not in ((0, ""), (2, MISSING)) and commands:
+        if (status, said) not in ((0, ""), (2, MISSING)) and wanted:
             faults.append(f"verify of node {i}: {out}{said}")
     return faults[:20]
 
@@ -267,7 +299,8 @@ def judge_shown(bench, cluster):
 def judge_cut(bench, cluster, asker):
     """The record of a node is divided while the others go on. All have the same entries."""
     data = cluster.data("node1")
-    bench.same("while it runs", tool(cluster.node, "cut", "--data", data)[::2], (1, "rbac-node: a node has the folder: stop it first\n"))
+    says = "rbac-node: a node has the folder: stop it first, or let it divide its record by itself, with --record-part\n"
+    bench.same("while it runs", tool(cluster.node, "cut", "--data", data)[::2], (1, says))
     cluster.nodes[1].stop(signal.SIGTERM)
     status, out, said = tool(cluster.node, "cut", "--data", data, "--program", PROGRAM)
     bench.judge("cut", [] if (status, said) == (0, "") and Path(out.strip()).exists() else [f"{status} {out}{said}"])

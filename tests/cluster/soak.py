@@ -2,6 +2,7 @@
 
 import json
 import os
+import pickle
 import shutil
 import signal
 import subprocess
@@ -21,7 +22,7 @@ from .judged import CLIENTS, EVERY, Trial
 from .linear import ADD, ASK, DELETE, judged
 from .machines import Cluster
 from .networks import MACHINES, quietly
-from .outvoting import outvote
+from .outvoting import contest, outvote
 from .records import MISSING, tool
 from .rights import options, token
 from .running import build
@@ -37,6 +38,12 @@ ROOM = {"node": "200m", "member": "500m"}
 
 # How many faults come between two rare ones.
 BETWEEN = 5
+
+# From how many entries on each node divides its record.
+PART = 2 * EVERY
+
+# How many seconds is waited for what has to happen: other work may keep the machine busy for hours.
+PATIENCE = 300
 
 
 class Contender(Client):
@@ -68,7 +75,7 @@ class Disks(Cluster):
                 disk.mkdir()
                 if quietly("mount", "-t", "tmpfs", "-o", f"size={room}", "tmpfs", disk):
                     self.mounted.append(disk)
-        super().__init__(folder, *words, **more)
+        super().__init__(folder, *words, patience=PATIENCE, **more)
 
     def disk(self, kind, i):
         return self.folder / f"disk-{kind}{i}"
@@ -97,7 +104,7 @@ class AllFaults(Faults):
         """All kinds once, in a random order, with others between them."""
         for kind in self.random.sample(kinds, len(kinds)):
             self.run(OFTEN, BETWEEN, 0.5)
-            self.cluster.heal(180)
+            self.cluster.heal()
             kind(self, self.random.randrange(MACHINES))
 
     # Links.
@@ -217,7 +224,7 @@ class AllFaults(Faults):
         status, _, said = tool(self.cluster.node, "cut", "--data", self.cluster.data(f"node{i}"), "--program", PROGRAM)
         if status == 0:
             self.did("records divided")
-        elif "nothing to cut" not in said and "no snapshot" not in said and "not the one that the snapshot has" not in said:
+        elif "nothing to cut" not in said and "there is no snapshot" not in said:
             self.faults.append(f"record cut of node {i}: {status} {said}")
         self.cluster.nodes[i].start()
 
@@ -247,27 +254,38 @@ RARE = [
 def soaked(bench, folder, node, seed):
     """A round: what it did, and what is wrong."""
     clients = CLIENTS + CONTENDERS
-    with Disks(folder, node, every=EVERY, more=options(folder, clients)) as cluster:
+    with Disks(folder, node, every=EVERY, more=(*options(folder, clients), "--record-part", str(PART))) as cluster:
         trial, faults = Trial(cluster, seed), AllFaults(cluster, seed)
         more = [Contender(cluster, number, seed, trial.done, token(number)) for number in range(CLIENTS, clients)]
         trial.clients += more
         for client in more:
             client.start()
         time.sleep(2)
-        wrong = []
+        wrong, before = [], len(bench.faults)
         try:
             faults.run_some(RARE)
-            cluster.heal(180)
-            cluster.until(lambda: trial.recorder.floor, "the log is trimmed", 180)
+            cluster.heal()
+            cluster.until(lambda: trial.recorder.floor, "the log is trimmed")
+            contest(cluster, faults)
             outvote(bench, cluster, faults)
         except Exception:
             wrong.append(traceback.format_exc())
-        wrong += faults.faults + trial.judge(180)
+        wrong += bench.faults[before:] + faults.faults + trial.judge()
         histories = [client.history for client in trial.clients]
         counts, unordered = judged(histories, PREFIX)
         asked = [one for history in histories for one in history]
         counts |= {"requests": len(asked), "answers": sum(one.is_answered for one in asked), "entries": len(trial.recorder.entries)}
+        if wrong + unordered:
+            keep(cluster, trial)
         return faults.counts, counts, wrong + unordered
+
+
+def keep(cluster, trial):
+    """Copies what shows later what was wrong, before the disks are gone."""
+    for i in range(MACHINES):
+        shutil.copytree(cluster.data(f"node{i}"), cluster.folder / f"data-node{i}", dirs_exist_ok=True)
+    with open(cluster.folder / "history", "wb") as file:
+        pickle.dump((trial.recorder.entries, [client.history for client in trial.clients]), file)
 
 
 def went_back(folder):
@@ -275,7 +293,7 @@ def went_back(folder):
     inner = Bench(folder)
     inner.shared, inner.is_long, inner.is_gate = folder, False, False
     try:
-        wentback.check_went_back(inner)
+        wentback.check_went_back(inner, PATIENCE)
     except Exception:
         inner.faults.append(traceback.format_exc())
     return inner.faults

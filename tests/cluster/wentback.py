@@ -33,9 +33,9 @@ def restore(cluster, backup):
         member.start()
 
 
-def check_went_back(bench):
+def check_went_back(bench, patience=SECONDS):
     """Nodes that have done commands that etcd has lost end, and say why. Without their folders they do what etcd has."""
-    with Cluster(bench.folder, build(bench.shared), timeout="2s") as cluster:
+    with Cluster(bench.folder, build(bench.shared), timeout="2s", patience=patience) as cluster:
         add_users(cluster, "kept", 3)
         of_files(cluster, "save", bench.path("backup"))
         add_users(cluster, "lost", 3)

@@ -208,7 +208,7 @@ func (s *clusterSettings) serveNode(ctx context.Context, shared *ledger.Ledger, 
 	defer f.Close()
 	s.IsOpen, s.SessionAge = s.common.callers.Callers == "", s.common.sessionAge
 	if !s.common.record.isOff {
-		s.Record = records.follow(s.common, s.Data, s.Options.File(), events, registry)
+		s.Record = records.follow(s.common, s.Data, s.Options.File(), s.partEntries, events, registry)
 	}
 	n, err := node.New(s.Options, shared, events, registry)
 	if err != nil {

@@ -18,6 +18,7 @@ type clusterSettings struct {
 	common                   *settings
 	peer, prefix             string
 	etcd, user, passwordFile string
+	partEntries              int64
 	peerTLS, etcdTLS         web.TLS
 	isPeerOpen, isEtcdOpen   bool
 }
@@ -35,6 +36,7 @@ func (s *clusterSettings) define(flags *flag.FlagSet) {
 	flags.StringVar(&s.prefix, "prefix", "rbac", "prefix of the keys in etcd")
 	flags.Int64Var(&s.SnapshotCommands, "every", 10_000, "commands from one snapshot to the next, the same on all nodes")
 	flags.Int64Var(&s.SnapshotBytes, "every-bytes", 64<<20, "bytes of commands after which there is a snapshot too, the same on all nodes")
+	flags.Int64Var(&s.partEntries, "record-part", 0, "entries from which on the record is divided at a snapshot (default: never)")
 	flags.StringVar(&s.etcd, "etcd", "", "URLs of the members of etcd, separated by commas, for an office on several machines")
 	flags.StringVar(&s.user, "etcd-user", "", "user of etcd")
 	flags.StringVar(&s.passwordFile, "etcd-password-file", "", "file with the password of that user")
@@ -55,6 +57,8 @@ func (s *clusterSettings) check() error {
 	switch {
 	case s.SnapshotCommands < 1 || s.SnapshotBytes < 1:
 		return errors.New("--every and --every-bytes must be above zero")
+	case s.partEntries < 0:
+		return errors.New("--record-part must not be below zero")
 	case s.Data == "":
 		return errors.New("--data is missing")
 	case s.Name == "" || strings.Contains(s.Name, "/"):

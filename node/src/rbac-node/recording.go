@@ -25,8 +25,9 @@ type recordSettings struct {
 type recordMode interface {
 	// add makes an office keep a record.
 	add(s *settings, office *single.Options, registry *metrics.Registry) error
-	// follow returns the record of a node, with its folder and the office in use, or nil if this program can't keep one.
-	follow(s *settings, data, office string, log *logs.Logger, registry *metrics.Registry) recorded.Follower
+	// follow returns the record of a node, with its folder, the office in use and the entries of a part, or nil if this program can't keep
+	// one.
+	follow(s *settings, data, office string, partEntries int64, log *logs.Logger, registry *metrics.Registry) recorded.Follower
 	// carry begins the record of a node with that of a backup of a node, and returns the path of the backup's office and the head. What
 	// it returns last takes that back.
 	carry(ctx context.Context, s *settings, backup, data string) (office, head string, undo func(), err error)
@@ -47,7 +48,7 @@ func (withoutRecord) add(*settings, *single.Options, *metrics.Registry) error {
 	return errWithoutRecord
 }
 
-func (withoutRecord) follow(_ *settings, _, _ string, log *logs.Logger, _ *metrics.Registry) recorded.Follower {
+func (withoutRecord) follow(_ *settings, _, _ string, _ int64, log *logs.Logger, _ *metrics.Registry) recorded.Follower {
 	log.Warn("no record is kept: this program was built without SQLite")
 	return nil
 }

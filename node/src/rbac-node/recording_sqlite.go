@@ -42,9 +42,12 @@ func (withRecord) add(s *settings, office *single.Options, registry *metrics.Reg
 	return nil
 }
 
-func (withRecord) follow(s *settings, data, office string, log *logs.Logger, registry *metrics.Registry) recorded.Follower {
+func (withRecord) follow(
+	s *settings, data, office string, partEntries int64, log *logs.Logger, registry *metrics.Registry,
+) recorded.Follower {
 	return record.NewFollower(record.Options{
-		Office: office, Program: s.program, Dir: record.DirIn(data), HangTimeout: s.hangTimeout, Log: log, Metrics: registry,
+		Office: office, Program: s.program, Dir: record.DirIn(data), HangTimeout: s.hangTimeout, PartEntries: partEntries, Log: log,
+		Metrics: registry,
 	})
 }
 

@@ -106,19 +106,15 @@ func outvoted(members []ledger.Member) map[string]string {
 // majorityAgainst returns the name of one of the nodes that have made another snapshot of a place than this one, if these have the same
 // and are more than half of all.
 func majorityAgainst(s office.Snapshot, members []ledger.Member) string {
+	var trusted []ledger.Member
+	for _, one := range members {
+		if one.Outvoted == "" {
+			trusted = append(trusted, one)
+		}
+	}
 	for _, one := range members {
 		witness, isThere := snapshotAt(one, s.Revision)
-		if !isThere || witness.IsSame(s) {
-			continue
-		}
-		agree := 0
-		for _, other := range members {
-			made, has := snapshotAt(other, s.Revision)
-			if has && !made.Copied && made.IsSame(witness) && other.Outvoted == "" {
-				agree++
-			}
-		}
-		if 2*agree > len(members) {
+		if isThere && !witness.IsSame(s) && 2*makers(witness, trusted) > len(members) {
 			return one.Name
 		}
 	}

@@ -113,6 +113,9 @@ func (n *Node) finish(ctx context.Context, one copied) error {
 	}
 	n.log.Info("snapshot", "revision", s.Revision, "commands", s.Count,
 		"digest", s.Digest, "record", s.Record)
+	if n.options.Record != nil && s.Record != "" {
+		n.options.Record.Divide(within, n.store.Path(s), s.Record)
+	}
 	return nil
 }
 

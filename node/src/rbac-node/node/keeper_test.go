@@ -145,10 +145,12 @@ func TestFailedSnapshot(t *testing.T) {
 	if sent := n.replay.(*fakeReplay).sent(); len(sent) != 0 {
 		t.Errorf("sent was %v", sent)
 	}
+	n.isFailing.Store(false)
 	n.apply(entry(3, "c"))
 	if n.err != nil || n.applied.Load().revision != 3 {
 		t.Errorf("it doesn't go on: %v", n.err)
 	}
+	eventually(t, "that of the next place is tried", n.isFailing.Load)
 }
 
 // A record whose entries wait for room.

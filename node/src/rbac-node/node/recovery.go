@@ -6,6 +6,7 @@ import (
 	"fmt"
 	"os"
 	"path/filepath"
+	"sort"
 	"time"
 
 	"rbac-node/faults"
@@ -110,18 +111,16 @@ func (n *Node) fetch(ctx context.Context) (office.Snapshot, error) {
 		if err != nil {
 			return office.Snapshot{}, err
 		}
-		for _, member := range state.Members {
-			if member.Name == n.options.Name {
-				continue
-			}
-			s, err := n.store.Fetch(ctx, n.options.Fetch, member.Peer, func(offered office.Snapshot) error {
-				return n.accept(ctx, member.Name, offered)
+		for _, one := range n.offers(state) {
+			from := one.from.Name
+			s, err := n.store.Fetch(ctx, n.options.Fetch, one.from.Peer, one.revision, func(offered office.Snapshot) error {
+				return n.accept(ctx, from, offered)
 			})
 			if err == nil {
-				n.log.Info("fetched a snapshot", "from", member.Name, "revision", s.Revision)
+				n.log.Info("fetched a snapshot", "from", from, "revision", s.Revision)
 				return s, nil
 			}
-			n.log.Warn("no snapshot from this node", "from", member.Name, "error", err)
+			n.log.Warn("no snapshot from this node", "from", from, "revision", one.revision, "error", err)
 		}
 		select {
 		case <-time.After(lookInterval):
@@ -131,10 +130,35 @@ func (n *Node) fetch(ctx context.Context) (office.Snapshot, error) {
 	}
 }
 
+// An offer is a snapshot for which another node can be asked: its newest one, or that at a revision if that is not 0.
+type offer struct {
+	from     ledger.Member
+	revision int64
+}
+
+// offers returns the newest snapshots of all other nodes, and then earlier ones after which the log continues, the newest of them first:
+// if nodes differ at the last place, they may agree at an earlier one. From there this node comes to the last place by itself.
+func (n *Node) offers(state ledger.State) (newest []offer) {
+	var earlier []offer
+	for _, member := range state.Members {
+		if member.Name == n.options.Name {
+			continue
+		}
+		newest = append(newest, offer{member, 0})
+		for i := 1; i < len(member.Snapshots); i++ {
+			if revision := member.Snapshots[i].Revision; revision >= state.Floor {
+				earlier = append(earlier, offer{member, revision})
+			}
+		}
+	}
+	sort.SliceStable(earlier, func(i, j int) bool { return earlier[i].revision > earlier[j].revision })
+	return append(newest, earlier...)
+}
+
 // accept refuses a snapshot that another node offers unless the node has registered it, the log continues after it, and
 // no node has registered another digest at its revision: one of two nodes that differ is wrong, and nobody knows here
 // which. A node that is outvoted is known to be wrong. The other nodes may not have come to that revision yet, so it also refuses
-// all snapshots of a node that most others contest.
+// all snapshots of a node that most others contest, but for one that those have too with whom it differs at another place.
 func (n *Node) accept(ctx context.Context, name string, offered office.Snapshot) error {
 	state, err := n.shared.State(ctx)
 	if err != nil {
@@ -162,7 +186,7 @@ func (n *Node) accept(ctx context.Context, name string, offered office.Snapshot)
 		if member.Name != name {
 			continue
 		}
-		if why := difference(name, member.Snapshots, right); why != "" {
+		if why := difference(name, member.Snapshots, right); why != "" && !sharedByContesting(offered, member, right) {
 			return errors.New(why)
 		}
 		isRegistered = s.Count == offered.Count
@@ -171,4 +195,31 @@ func (n *Node) accept(ctx context.Context, name string, offered office.Snapshot)
 		return fmt.Errorf("the snapshot at revision %d is not registered in etcd", offered.Revision)
 	}
 	return nil
+}
+
+// sharedByContesting reports whether each node has a snapshot that differs from a member at any place: what is wrong with one of them came
+// after it.
+func sharedByContesting(s office.Snapshot, member ledger.Member, others []ledger.Member) bool {
+	for _, other := range others {
+		for _, own := range member.Snapshots {
+			witness, is := snapshotAt(other, own.Revision)
+			if !is || witness.IsSame(own) {
+				continue
+			}
+			if shared, has := snapshotAt(other, s.Revision); !has || !shared.IsSame(s) {
+				return false
+			}
+		}
+	}
+	return true
+}
+
+// makers returns how many nodes have made a snapshot themselves.
+func makers(s office.Snapshot, members []ledger.Member) (count int) {
+	for _, member := range members {
+		if made, is := snapshotAt(member, s.Revision); is && !made.Copied && made.IsSame(s) {
+			count++
+		}
+	}
+	return count
 }

@@ -2,6 +2,7 @@ package node
 
 import (
 	"context"
+	"fmt"
 	"os"
 	"path/filepath"
 	"testing"
@@ -51,6 +52,11 @@ func TestAccept(t *testing.T) {
 		{"nobody has registered it", 5, members(member("b", at(7))), at(9), false},
 		{"others contest an earlier one of it", 5, members(member("a", at(7)), member("b", at(9), other(at(7))), member("c", at(7))), at(9), false},
 		{"one node contests an earlier one of it", 5, members(member("a", at(7)), member("b", at(9), at(7)), member("c", other(at(7)))), at(9), true},
+		{"those that differ later have it", 5, members(member("b", other(at(9)), at(7)), member("c", at(9), at(7))), at(7), true},
+		{"one of those that differ later has it", 5, members(member("b", other(at(9)), at(7)), member("c", at(9))), at(7), false},
+		{"one of those that differ later has fetched it", 5, members(member("b", other(at(9)), at(7)), member("c", at(9), fetched(at(7)))), at(7), true},
+		{"those that differ later differ there too", 5, members(member("b", other(at(9)), at(7)), member("c", at(9), other(at(7)))), at(7), false},
+		{"a third one has it", 5, members(member("b", other(at(9)), at(7)), member("c", at(9)), member("d", at(7))), at(7), false},
 		{"the log begins later", 10, members(member("b", at(9))), at(9), false},
 	} {
 		t.Run(one.name, func(t *testing.T) {
@@ -60,5 +66,18 @@ func TestAccept(t *testing.T) {
 				t.Errorf("%v", err)
 			}
 		})
+	}
+}
+
+// Other nodes are asked for their newest snapshots, and then for earlier ones after which the log continues.
+func TestOffers(t *testing.T) {
+	n, _, _ := newNode(t)
+	state := ledger.State{Floor: 5, Members: members(member("a", at(9)), member("b", at(9), at(7), at(3)), member("c", at(8), at(5)), member("d"))}
+	said := ""
+	for _, one := range n.offers(state) {
+		said += fmt.Sprintf(" %s %d", one.from.Name, one.revision)
+	}
+	if said != " b 0 c 0 d 0 b 7 c 5" {
+		t.Errorf("asked for are%s", said)
 	}
 }

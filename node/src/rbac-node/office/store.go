@@ -33,6 +33,8 @@ const (
 	digester = "sqlite3"
 	// nameField is the field in the head of a reply that names the snapshot.
 	nameField = "Snapshot"
+	// revisionQuery is how another snapshot than the newest one is asked for.
+	revisionQuery = "revision"
 )
 
 // rowsQuery prints all rows of an office of version 2, each table in its order. No name has the character between two
@@ -276,26 +278,37 @@ func (s *Store) Restore(ctx context.Context, snapshot Snapshot, file string) err
 	return nil
 }
 
-// ServeHTTP sends the newest snapshot to another node.
+// ServeHTTP sends the newest snapshot to another node, or that at the revision that it asks for.
 func (s *Store) ServeHTTP(w http.ResponseWriter, r *http.Request) {
 	found, err := s.List()
-	if err != nil || len(found) == 0 {
-		http.Error(w, "there is no snapshot", http.StatusNotFound)
+	if err != nil {
+		found = nil
+	}
+	wanted := r.URL.Query().Get(revisionQuery)
+	for _, one := range found {
+		if wanted != "" && wanted != strconv.FormatInt(one.Revision, 10) {
+			continue
+		}
+		file := s.Path(one)
+		one.Copied = false
+		w.Header().Set(nameField, nameOf(one))
+		w.Header().Set("Content-Type", "application/octet-stream")
+		http.ServeFile(w, r, file)
 		return
 	}
-	file := s.Path(found[0])
-	found[0].Copied = false
-	w.Header().Set(nameField, nameOf(found[0]))
-	w.Header().Set("Content-Type", "application/octet-stream")
-	http.ServeFile(w, r, file)
+	http.Error(w, "there is no snapshot", http.StatusNotFound)
 }
 
-// Fetch copies the newest snapshot of another node into the store if the caller accepts its name, and its rows match
-// the name. A truncated copy has another digest.
+// Fetch copies the newest snapshot of another node into the store, or that at a revision if that is not 0, if the caller accepts its name,
+// and its rows match the name. A truncated copy has another digest.
 func (s *Store) Fetch(
-	ctx context.Context, client *http.Client, peer string, accept func(Snapshot) error,
+	ctx context.Context, client *http.Client, peer string, revision int64, accept func(Snapshot) error,
 ) (Snapshot, error) {
-	request, err := http.NewRequestWithContext(ctx, http.MethodGet, strings.TrimSuffix(peer, "/")+"/snapshot", nil)
+	url := strings.TrimSuffix(peer, "/") + "/snapshot"
+	if revision > 0 {
+		url += "?" + revisionQuery + "=" + strconv.FormatInt(revision, 10)
+	}
+	request, err := http.NewRequestWithContext(ctx, http.MethodGet, url, nil)
 	if err != nil {
 		return Snapshot{}, fmt.Errorf("snapshot: %w", err)
 	}

@@ -103,14 +103,22 @@ func TestFetch(t *testing.T) {
 	from, to := newStore(t), newStore(t)
 	server := httptest.NewServer(from)
 	defer server.Close()
-	if _, err := to.Fetch(context.Background(), server.Client(), server.URL, acceptAny); err == nil {
+	if _, err := to.Fetch(context.Background(), server.Client(), server.URL, 0, acceptAny); err == nil {
 		t.Error("there was nothing to fetch")
 	}
 	wanted := add(t, from, 12)
 	wanted.Copied = true
-	given, err := to.Fetch(context.Background(), server.Client(), server.URL, acceptAny)
+	given, err := to.Fetch(context.Background(), server.Client(), server.URL, 0, acceptAny)
 	if err != nil || given != wanted {
 		t.Errorf("fetched %+v, %v", given, err)
+	}
+	add(t, from, 15)
+	given, err = newStore(t).Fetch(context.Background(), server.Client(), server.URL, 12, acceptAny)
+	if err != nil || given != wanted {
+		t.Errorf("asked for an earlier one, it has fetched %+v, %v", given, err)
+	}
+	if given, err = newStore(t).Fetch(context.Background(), server.Client(), server.URL, 13, acceptAny); err == nil {
+		t.Errorf("asked for one that is not there, it has fetched %+v", given)
 	}
 }
 
@@ -120,7 +128,7 @@ func TestFetchAsksFirst(t *testing.T) {
 	offered, contested := add(t, from, 12), errors.New("contested")
 	server := httptest.NewServer(from)
 	defer server.Close()
-	_, err := to.Fetch(context.Background(), server.Client(), server.URL, func(s Snapshot) error {
+	_, err := to.Fetch(context.Background(), server.Client(), server.URL, 0, func(s Snapshot) error {
 		if s != offered {
 			t.Errorf("offered is %+v and not %+v", s, offered)
 		}
@@ -137,7 +145,7 @@ func TestCopied(t *testing.T) {
 	add(t, first, 12)
 	for _, step := range []struct{ from, to *Store }{{first, second}, {second, third}} {
 		server := httptest.NewServer(step.from)
-		_, err := step.to.Fetch(context.Background(), server.Client(), server.URL, func(s Snapshot) error {
+		_, err := step.to.Fetch(context.Background(), server.Client(), server.URL, 0, func(s Snapshot) error {
 			if s.Copied {
 				t.Error("it is offered as a copy")
 			}
@@ -166,7 +174,7 @@ func TestFetchRefuses(t *testing.T) {
 		"it has no name": func(w http.ResponseWriter, r *http.Request) { http.ServeFile(w, r, path) },
 	} {
 		server := httptest.NewServer(change)
-		if _, err := to.Fetch(context.Background(), server.Client(), server.URL, acceptAny); err == nil {
+		if _, err := to.Fetch(context.Background(), server.Client(), server.URL, 0, acceptAny); err == nil {
 			t.Errorf("%s: it was accepted", what)
 		}
 		server.Close()

@@ -50,10 +50,11 @@ func (t *Tool) Access(ctx context.Context, query AccessQuery) error {
 	case (query.At == "") == (query.Entry == 0):
 		return errPlaceUsage
 	}
-	files, err := t.files()
+	files, release, err := t.files(ctx)
 	if err != nil {
 		return err
 	}
+	defer release()
 	p, err := placeOf(ctx, files, query)
 	if err != nil {
 		return err

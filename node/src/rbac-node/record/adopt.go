@@ -82,7 +82,7 @@ func (t *Tool) Adopt(ctx context.Context, by, reason string) error {
 	case !errors.Is(err, errDiffers) && !errors.Is(err, errNoStart) && !errors.As(err, &wrong):
 		return err
 	}
-	err = r.withCopy(ctx, func(copied, rows string) error {
+	err = r.withCopy(ctx, r.Office, func(copied, rows string) error {
 		changed, err := r.changed(ctx, copied)
 		if err != nil {
 			return err

@@ -30,15 +30,16 @@ const (
 
 // Backup copies an office and its record as a pair into a new folder in a folder, whose path it prints. A front or a node may have them.
 func (t *Tool) Backup(ctx context.Context, folder string) error {
-	files, err := t.files()
+	files, release, err := t.files(ctx)
 	if err != nil {
 		return err
 	}
-	lock, err := waitForFolder(ctx, folder)
+	defer release()
+	free, err := lockDir(ctx, folder, syscall.LOCK_EX) // No other backup is made there meanwhile.
 	if err != nil {
 		return fmt.Errorf("backup: %w", err)
 	}
-	defer lock.Close()
+	defer free()
 	making := filepath.Join(folder, makingBackup)
 	if err := os.RemoveAll(making); err != nil {
 		return fmt.Errorf("backup: %w", err)
@@ -64,26 +65,6 @@ func (t *Tool) Backup(ctx context.Context, folder string) error {
 	}
 	fmt.Fprintln(t.Out, made)
 	return nil
-}
-
-// waitForFolder waits until no other backup is made in a folder.
-func waitForFolder(ctx context.Context, folder string) (*os.File, error) {
-	file, err := os.Open(folder)
-	if err != nil {
-		return nil, err
-	}
-	for {
-		err := syscall.Flock(int(file.Fd()), syscall.LOCK_EX|syscall.LOCK_NB)
-		if err == nil {
-			return file, nil
-		}
-		select {
-		case <-ctx.Done():
-			_ = file.Close()
-			return nil, fmt.Errorf("lock %s: %w", folder, err)
-		case <-time.After(glance):
-		}
-	}
 }
 
 // linkOrCopy copies the file of an earlier part, which never changes. If a backup in the folder has the same, it becomes another name

@@ -84,10 +84,11 @@ func Carry(ctx context.Context, options Options, backup string) (snapshot string
 	if snapshot, _, err = from.newestRecorded(); err != nil {
 		return "", head, fmt.Errorf("backup %s: %w", backup, err)
 	}
-	files, err := from.files()
+	files, release, err := from.files(ctx)
 	if err != nil {
 		return "", head, err
 	}
+	defer release()
 	switch has, err := hasRecord(options.Dir); {
 	case err != nil:
 		return "", head, err
@@ -117,7 +118,7 @@ func carry(ctx context.Context, options Options, files []string, snapshot string
 	if err := r.load(); err != nil {
 		return Head{}, err
 	}
-	err := r.withCopy(ctx, func(copied, rows string) error {
+	err := r.withCopy(ctx, r.Office, func(copied, rows string) error {
 		p := part{why: adopted, rows: rows, adoption: adoption{By: "rbac-node"}, reason: "the office of a backup"}
 		return inTransaction(r.db, func(tx *sql.Tx) error { return r.adopt(ctx, tx, p, copied) })
 	})

@@ -190,9 +190,7 @@ func verifyFile(ctx context.Context, path string, before entry, to int64) (last 
 			return last, ctx.Err()
 		}
 	}
-	var first, named int64
-	_, err = fmt.Sscanf(filepath.Base(path), partPrefix+"%d-%d.db", &first, &named)
-	if err == nil && last.n != named {
+	if _, named, is := namesOf(path); is && last.n != named {
 		return last, &breakError{last.n + 1}
 	}
 	return last, nil

@@ -119,10 +119,11 @@ func (x *exporter) writePlace() error {
 
 // sendNew sends the entries behind the place.
 func (x *exporter) sendNew(ctx context.Context) error {
-	files, err := x.files()
+	files, release, err := x.files(ctx)
 	if err != nil {
 		return err
 	}
+	defer release()
 	for _, path := range files {
 		if err := x.sendFile(ctx, path); err != nil {
 			return err

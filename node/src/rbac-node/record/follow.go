@@ -134,6 +134,11 @@ func (f *Follower) closeBefore(n int64) (has bool, err error) {
 	if err != nil || last >= n {
 		return true, err
 	}
+	release, err := exclude(f.life, f.dir)
+	if err != nil {
+		return true, err
+	}
+	defer release()
 	return false, renamePart(f.dir, first, last)
 }
 
@@ -150,7 +155,7 @@ func endsOf(db querier) (first, last int64, err error) {
 func renamePart(dir string, first, last int64) error {
 	path := filepath.Join(dir, fileName)
 	if _, err := os.Stat(path + walSuffix); !errors.Is(err, os.ErrNotExist) {
-		return errors.New("another program reads the record: try again when it has ended")
+		return errOthersRead
 	}
 	return os.Rename(path, partPath(dir, first, last))
 }
@@ -171,7 +176,7 @@ func (f *Follower) prepare(ctx context.Context) error {
 	if err := os.Mkdir(f.dir, 0o700); err != nil && !errors.Is(err, os.ErrExist) {
 		return err
 	}
-	return f.withCopy(ctx, func(copied, rows string) error {
+	return f.withCopy(ctx, f.Office, func(copied, rows string) error {
 		f.prepared = part{first: 1, why: beginning, rows: rows}
 		return copyFile(copied, filepath.Join(f.dir, preparedName))
 	})
@@ -185,7 +190,7 @@ func (f *Follower) Begin(ctx context.Context, at string, isAsAtResume bool) erro
 	var err error
 	switch {
 	case f.db != nil:
-		err = f.withCopy(ctx, note)
+		err = f.withCopy(ctx, f.Office, note)
 	case isAsAtResume:
 		p = f.prepared
 		err = makeFile(f.dir, p, at, filepath.Join(f.dir, preparedName))

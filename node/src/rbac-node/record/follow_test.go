@@ -138,7 +138,9 @@ func (m *machine) snapshot(revision int64) (path, head string) {
 // entries returns all that the record has as text, without the copies of offices.
 func (m *machine) entries() string {
 	m.Helper()
-	m.flush("NORMAL")
+	if m.db != nil { // Otherwise it has not resumed.
+		m.flush("NORMAL")
+	}
 	out := &bytes.Buffer{}
 	if err := (&Tool{Data: m.data, Out: out, Err: out}).Show(context.Background(), Filter{}, Text); err != nil {
 		m.Fatal(err)
@@ -254,8 +256,8 @@ func TestJoin(t *testing.T) {
 			// A crash has left nothing but an earlier part.
 			second.flush("NORMAL")
 			_ = second.Close()
-			if err := os.Rename(filepath.Join(second.dir, fileName), partPath(second.dir, 1, 2)); err != nil {
-				t.Fatal(err)
+			if has, err := second.closeBefore(1 << 62); has || err != nil {
+				t.Fatal(has, err)
 			}
 			second.start(path)
 			second.resume(head, true)

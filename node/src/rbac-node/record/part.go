@@ -81,32 +81,49 @@ func addPart(tx *sql.Tx, p part, at, copied string) (*entry, error) {
 
 // makeFile makes the file of a record that begins with a mapped copy of the office. After a crash there is a whole file or none.
 func makeFile(dir string, p part, at, copied string) error {
-	making := filepath.Join(dir, fileName+".making")
+	making, err := makeNext(dir, p, at, copied, nil)
+	if err != nil {
+		return err
+	}
+	return putInPlace(dir, making)
+}
+
+// makeNext makes such a file, which has some later entries, beside the one at hand. It returns its path.
+func makeNext(dir string, p part, at, copied string, later []entry) (making string, err error) {
+	making = filepath.Join(dir, fileName+".making")
 	for _, left := range []string{making, making + "-journal"} {
 		if err := os.RemoveAll(left); err != nil {
-			return err
+			return "", err
 		}
 	}
 	db, err := openFile(making, "_txlock=immediate")
 	if err != nil {
-		return err
+		return "", err
 	}
 	err = inTransaction(db, func(tx *sql.Tx) error {
 		if _, err := tx.Exec(schema); err != nil {
 			return err
 		}
-		_, err := addPart(tx, p, at, copied)
-		return err
+		if _, err := addPart(tx, p, at, copied); err != nil {
+			return err
+		}
+		return insertAll(tx, later, "NORMAL")
 	})
 	if closing := db.Close(); err == nil {
 		err = closing
 	}
+	if err == nil {
+		err = syncPath(making)
+	}
 	if err != nil {
-		return err
+		_ = os.Remove(making) // The disk may be full.
+		return "", err
 	}
-	if err := syncPath(making); err != nil {
-		return err
-	}
+	return making, nil
+}
+
+// putInPlace makes a file the one at hand.
+func putInPlace(dir, making string) error {
 	if err := os.Rename(making, filepath.Join(dir, fileName)); err != nil {
 		return err
 	}
@@ -132,6 +149,12 @@ func inTransaction(db *sql.DB, work func(tx *sql.Tx) error) error {
 // partPath returns the path of the file of an earlier part.
 func partPath(dir string, first, last int64) string {
 	return filepath.Join(dir, fmt.Sprintf("%s%d-%d.db", partPrefix, first, last))
+}
+
+// namesOf returns the first and the last entry that the name of the file of an earlier part says, if it is one.
+func namesOf(path string) (first, last int64, is bool) {
+	_, err := fmt.Sscanf(filepath.Base(path), partPrefix+"%d-%d.db", &first, &last)
+	return first, last, err == nil
 }
 
 const (

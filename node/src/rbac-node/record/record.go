@@ -45,6 +45,8 @@ type Options struct {
 	HangTimeout time.Duration
 	// Every is how many commands there are between two base copies.
 	Every int64
+	// PartEntries is from how many entries on a node divides its record at a snapshot. Zero is never.
+	PartEntries int64
 	// VerifyEvery is after how much time the whole chain is verified again while the front runs. Zero is never.
 	VerifyEvery time.Duration
 	Log         *logs.Logger
@@ -213,7 +215,7 @@ func (r *Record) beginWith(
 	if err := os.Mkdir(r.dir, 0o700); err != nil && !errors.Is(err, os.ErrExist) {
 		return err
 	}
-	err := r.withCopy(ctx, func(copied, rows string) error {
+	err := r.withCopy(ctx, r.Office, func(copied, rows string) error {
 		if err := refuse(copied); err != nil {
 			return err
 		}

@@ -12,6 +12,9 @@ import (
 // openAt opens the record, which has to have a head, and expects that the entries after it come again. What is before the head was read
 // when the snapshot was made that has it. It is read again while the node goes on, so that a start takes no longer with a long record.
 func (f *Follower) openAt(ctx context.Context, head Head) error {
+	if err := tidyParts(f.dir); err != nil {
+		return err
+	}
 	if err := f.load(); err != nil {
 		return err
 	}
@@ -56,7 +59,12 @@ func (f *Follower) path() string { return filepath.Join(f.dir, fileName) }
 // checkEarlier reads the file up to an entry, and ends the node if somebody has written it.
 func (f *Follower) checkEarlier(to entry) {
 	defer f.checking.Done()
-	begin, err := beginOf(f.life, f.path())
+	var begin entry
+	release, err := share(f.life, f.dir)
+	if err == nil {
+		defer release()
+		begin, err = beginOf(f.life, f.path())
+	}
 	if err == nil && begin.n < to.n {
 		begin, err = f.check(f.life, f.path(), begin, to.n, func(entry) {})
 	}

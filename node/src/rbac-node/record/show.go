@@ -106,10 +106,11 @@ var entryColumns = []string{"number", "at", "caller", "reason", "request", "answ
 // has found the answer, and the link. In a text an answer that was found has a star, and an entry without an answer has a question mark
 // in its place.
 func (t *Tool) Show(ctx context.Context, filter Filter, format Format) error {
-	files, err := t.files()
+	files, release, err := t.files(ctx)
 	if err != nil {
 		return err
 	}
+	defer release()
 	out, err := newPrinter(t.Out, format, entryColumns...)
 	if err != nil {
 		return err

@@ -40,12 +40,21 @@ func (t *Tool) dir() string {
 	return DirOf(t.Office)
 }
 
-// files returns the paths of the files of the record, in the order of their entries.
-func (t *Tool) files() ([]string, error) {
+// files returns the paths of the files of the record, in the order of their entries, which stay as they are until release is called.
+func (t *Tool) files(ctx context.Context) (files []string, release func(), err error) {
 	if t.Part != "" {
-		return []string{t.Part}, nil
+		return []string{t.Part}, func() {}, nil
 	}
-	return filesOf(t.dir())
+	if _, err := filesOf(t.dir()); err != nil {
+		return nil, nil, err
+	}
+	if release, err = share(ctx, t.dir()); err != nil {
+		return nil, nil, err
+	}
+	if files, err = filesOf(t.dir()); err != nil {
+		release()
+	}
+	return files, release, err
 }
 
 // glance is how long it is looked whether a front has the office.
@@ -148,8 +157,8 @@ func partsIn(dir string) (parts, left []string, err error) {
 	}
 	firsts := map[string]int64{}
 	for _, path := range found {
-		var first, last int64
-		if _, err := fmt.Sscanf(filepath.Base(path), partPrefix+"%d-%d.db", &first, &last); err != nil {
+		first, _, is := namesOf(path)
+		if !is {
 			continue
 		}
 		other, err := os.Stat(path)
@@ -217,9 +226,14 @@ func openViewBy(ctx context.Context, path, options string) (*view, error) {
 	}
 	if err == nil {
 		var count int
-		if err = tx.QueryRowContext(ctx, "SELECT count(*) FROM part").Scan(&count); err == nil {
-			return &view{db, tx}, nil
+		err = tx.QueryRowContext(ctx, "SELECT count(*) FROM part").Scan(&count)
+	}
+	if err == nil {
+		v := &view{db, tx}
+		if err = v.hideLater(ctx, path); err == nil {
+			return v, nil
 		}
+		_ = tx.Rollback()
 	}
 	_ = db.Close()
 	return nil, fmt.Errorf("%s: %w", path, err)
@@ -232,10 +246,11 @@ func (v *view) Close() {
 
 // PrintHead prints the head.
 func (t *Tool) PrintHead(ctx context.Context) error {
-	files, err := t.files()
+	files, release, err := t.files(ctx)
 	if err != nil {
 		return err
 	}
+	defer release()
 	v, err := openView(ctx, files[len(files)-1])
 	if err != nil {
 		return err
@@ -252,15 +267,15 @@ func (t *Tool) PrintHead(ctx context.Context) error {
 	return nil
 }
 
-// withCopy does something with a mapped copy of the office, which no program has open.
-func (r *Record) withCopy(ctx context.Context, work func(copied, rows string) error) error {
+// withCopy does something with a mapped copy of an office, which no program has open.
+func (r *Record) withCopy(ctx context.Context, file string, work func(copied, rows string) error) error {
 	scratch, err := newScratch(r.Office, r.dir, forPart)
 	if err != nil {
 		return err
 	}
 	defer os.RemoveAll(scratch)
 	copied := filepath.Join(scratch, "office")
-	if err := copyOffice(r.Office, copied); err != nil {
+	if err := copyOffice(file, copied); err != nil {
 		return err
 	}
 	rows, err := mapped(ctx, r.Program, copied)
@@ -292,7 +307,7 @@ func (t *Tool) Cut(ctx context.Context) error {
 		return errors.New("there is nothing to cut: the part at hand has no command")
 	}
 	path := partPath(r.dir, first, r.head.n)
-	err = r.withCopy(ctx, func(copied, rows string) error {
+	err = r.withCopy(ctx, r.Office, func(copied, rows string) error {
 		// Its log is merged when it is closed.
 		if err := r.db.Close(); err != nil {
 			return err

@@ -48,10 +48,11 @@ func (t *Tool) verify(ctx context.Context, heads []Head, at *stop) error {
 			return err
 		}
 	}
-	files, err := t.files()
+	files, release, err := t.files(ctx)
 	if err != nil {
 		return err
 	}
+	defer release()
 	scratch, end, err := newSharedScratch(t.Office+t.Data+t.Part, t.dir(), forVerify)
 	if err != nil {
 		return err
@@ -223,10 +224,9 @@ func (v *verifier) file(ctx context.Context, path string) error {
 	if err != nil {
 		return err
 	}
-	var first, last int64
-	_, err = fmt.Sscanf(filepath.Base(path), partPrefix+"%d-%d.db", &first, &last)
+	first, last, is := namesOf(path)
 	switch {
-	case err != nil: // It has another name.
+	case !is: // It has another name.
 	case v.last.n != last:
 		return fmt.Errorf("it ends at entry %d, and its name says %d", v.last.n, last)
 	case parts[0].first != first:

@@ -104,6 +104,8 @@ type Follower interface {
 	// Added returns the head after all that was added, or an empty text. Keep makes the entries up to a head durable.
 	Added() string
 	Keep(ctx context.Context, head string) error
+	// Divide may let the record go on in another file after a head that was kept, with which a snapshot was made.
+	Divide(ctx context.Context, snapshot, head string)
 	// Why says why entries wait instead of being written, or is empty.
 	Why() string
 	// Failed is closed when the record can't go on, and Failure says why.
