@@ -40,7 +40,7 @@ def draw_command(random, sets):
         (1, f"delete{sort}RoleMember", [number, role]),
         (1, f"set{sort}SetCardinality", [number, random.randint(2, 4)]),
         (0.7, f"delete{sort}Set", [number]),
-        (3, "createSession", [user, frozenset([role]), session]),
+        (6, "createSession", [user, frozenset([role, other] if random.random() < 0.5 else [role]), session]),
         (1, "lockUserAccount", [user]),
         (1, "unlockUserAccount", [user]),
     ]
@@ -74,6 +74,53 @@ def fill_sets(random, state, sort):
             state, _ = apply(state, f"create{sort}Set", [f"t{random.randrange(80)}", some, random.randint(2, len(some))])
         except Refused:
             pass
+    return state
+
+
+def tried(state, *commands):
+    """The state after those of some commands that are accepted."""
+    for function, *arguments in commands:
+        try:
+            state, _ = apply(state, function, arguments)
+        except Refused:
+            pass
+    return state
+
+
+def permute_sets(random, state):
+    """The state with the demands of some sets of each sort given to one another, and with some sets renamed."""
+    for part in ("static_sets", "dynamic_sets"):
+        sets = dict(getattr(state, part))
+        names = random.sample(sorted(sets), random.randint(0, len(sets)))
+        others = random.sample(names, len(names))
+        changed = {other: sets[name] for name, other in zip(names, others)}
+        sets.update(changed)
+        for name in random.sample(sorted(sets), min(len(sets), random.randint(0, 2))):
+            sets[f"renamed {name}"] = sets.pop(name)
+        state = state.but(**{part: sets})
+    return state
+
+
+def move_user(random, first, second):
+    """Two states in which a user moves from a role to another one that has the same permission, and a set excludes both."""
+    user, old, new = name(random, "user"), *random.sample([f"r{number}" for number in range(MOST["role"])], 2)
+    ob, op, excluding = name(random, "object"), name(random, "operation"), "moving"
+    both = [("addUser", user), ("addRole", old), ("addRole", new), ("addPermObj", ob), ("addPermission", ob, op)]
+    both += [("grantPermission", ob, op, old), ("grantPermission", ob, op, new)]
+    both += [("deassignUser", user, new), ("createSsdSet", excluding, frozenset([old, new]), 2)]
+    first = tried(first, *both, ("assignUser", user, old), ("createSession", user, frozenset([old]), "moved"))
+    second = tried(second, *both, ("deassignUser", user, old), ("assignUser", user, new))
+    return first, second
+
+
+def replace_roles(random, state):
+    """The state with other roles in some sets, which somebody may have beside those that go."""
+    for sort, sets in (("Ssd", state.static_sets), ("Dsd", state.dynamic_sets)):
+        for one in random.sample(sorted(sets), min(len(sets), 2)):
+            roles = random.sample(sorted(state.roles), min(len(state.roles), random.randint(2, 3)))
+            state = tried(state, (f"delete{sort}Set", one))
+            changed = tried(state, (f"create{sort}Set", one, frozenset(roles), 2))
+            state = changed if one in (changed.static_sets if sort == "Ssd" else changed.dynamic_sets) else state
     return state
 
 

@@ -11,8 +11,11 @@ from program.offices import read_rows
 
 from . import drawing, judging_plans
 
-# How many pairs there are, and how many jobs share them.
-PAIRS, EACH = 300, 50
+# How many jobs share the pairs, and how many pairs each of them tries: 300 with --gate.
+JOBS, EACH, EACH_OF_GATE = 6, 10, 50
+
+# What has to be met in some of the pairs.
+MET = ["plans with a gap", "sets made under a free name", "pairs with 64 sets", "sessions that end", "permissions that are away"]
 
 
 def make_office(bench, name, state):
@@ -46,26 +49,31 @@ def watched(path, start, judge):
 
 
 def draw_pair(random, number):
-    """Two states: another one, or one that was changed; one in six has 64 sets of a sort."""
-    sets = 80 if number % 6 == 0 else 6
-    first = drawing.draw_state(random, 150)
-    if number % 6 == 0:
+    """Two states: the second one is another one, or the first one after some changes. One in six has 64 sets of a sort."""
+    has_many = number % 6 == 0
+    first = drawing.draw_state(random, 250)
+    if has_many:
         first = drawing.fill_sets(random, first, "Ssd" if number % 12 else "Dsd")
-    if number % 3 == 1:
-        return first, drawing.draw_state(random, 150)
-    second = drawing.draw_state(random, 30, first, sets)
-    if number % 12 == 6:
-        second = drawing.fill_sets(random, second, "Ssd")
+    # The second one has no sessions, so that its dynamic sets may end those of the first.
+    start = None if number % 6 == 1 else first.but(sessions={})
+    second = drawing.draw_state(random, 30 if start else 250, start, 80 if has_many else 6)
+    if number % 2:
+        first, second = drawing.move_user(random, first, second)
+    if number % 3 != 1:
+        second = drawing.replace_roles(random, second)
+    if number % 4 < 2:
+        second = drawing.permute_sets(random, second)
     return first, second
 
 
 @pytest.mark.slow
-@pytest.mark.parametrize("part", range(PAIRS // EACH))
+@pytest.mark.parametrize("part", range(JOBS))
 @pytest.mark.seeds()
 def check_pairs(bench, part, seed):
     """Each plan is accepted; after each command nobody has what neither gives, and no set that both have is missing."""
     met = Counter()
-    for number in range(part * EACH, (part + 1) * EACH):
+    each = EACH_OF_GATE if bench.is_gate or bench.is_long else EACH
+    for number in range(part * each, (part + 1) * each):
         drawn = random.Random(f"{seed} {number}")
         first, second = draw_pair(drawn, number)
         turn(bench, f"pair {number} of seed {seed}", first, second, met)
@@ -99,19 +107,28 @@ def turn(bench, what, first, second, met):
     target = watched(path, first, judge)
     plan, effects = plan_for(policy, target)
     has_gap = bool(plan.gaps)
-    lost, gained = compare_effects(bench, what, effects, first, second)
+    compare_effects(bench, what, effects, first, second)
     with redirect_stdout(StringIO()) as out, redirect_stderr(StringIO()) as err:
         status = do(plan, target)
-        bench.same(f"{what}: the status of apply", (status, err.getvalue()), (0, ""))
-        bench.same(f"{what}: plan says no difference", (main(["plan", text, "--file", path]), out.getvalue().split("\n")[-2]),
-                   (0, "No difference."))
+        said = [line for line in err.getvalue().splitlines() if not line.startswith("commands: ")]
+        bench.same(f"{what}: the status of apply", (status, said), (0, []))
+        status = main(["plan", text, "--file", path])
+        bench.same(f"{what}: plan afterwards", (status, out.getvalue().splitlines()[-1]), (0, "No difference."))
     bench.judge(f"{what}: after each command", faults)
     bench.same(f"{what}: the rows", rows_of(path), rows_of(make_office(bench, f"{what} other", judging_plans.but_sessions(second))))
     pull_again(bench, what, path)
-    met.update({"commands": len(plan.commands), "gaps": has_gap, "away": bool(effects.away), "lost": lost, "gained": gained})
-    met["sets made under a free name"] += any("rbac-policy" in command.get("set", "") for command in plan.commands)
-    met["with 64 sets"] += max(len(first.static_sets), len(first.dynamic_sets)) == 64
-    met["ended sessions"] += len(effects.ended)
+    met["pairs"] += 1
+    met["commands"] += len(plan.commands)
+    met["plans with a gap"] += has_gap
+    met["permissions that are away"] += sum(map(len, effects.away.values()))
+    met["sets made under a free name"] += sum(is_free(command) for command in plan.commands)
+    met["pairs with 64 sets"] += max(len(first.static_sets), len(first.dynamic_sets)) == 64
+    met["sessions that end"] += len(effects.ended)
+
+
+def is_free(command):
+    """Whether a command makes a set under a free name."""
+    return command["fn"] in ("createSsdSet", "createDsdSet") and command["set"].startswith("rbac-policy ")
 
 
 def compare_effects(bench, what, effects, first, second):
@@ -124,7 +141,6 @@ def compare_effects(bench, what, effects, first, second):
                 wanted[is_gain][user] = changed
     bench.same(f"{what}: who gains", effects.gained, wanted[True])
     bench.same(f"{what}: who loses", effects.lost, wanted[False])
-    return bool(wanted[False]), bool(wanted[True])
 
 
 def rows_of(path):
