@@ -19,11 +19,11 @@ class Early:
         self._n = Numbering(start, wanted)
         self._masks = Masks(start, self._n)
         after = Masks(wanted, self._n)
-        users: dict[int, int] = {}
-        for user in range(len(self._n.users)):
-            allowed = self._masks.permissions(user) | after.permissions(user)
-            users[allowed] = users.get(allowed, 0) | 1 << user
-        self._allowed = users
+        # What each user may have, and the users who may have the same.
+        self._caps = [self._masks.permissions(user) | after.permissions(user) for user in range(len(self._n.users))]
+        self._allowed: dict[int, int] = {}
+        for user, allowed in enumerate(self._caps):
+            self._allowed[allowed] = self._allowed.get(allowed, 0) | 1 << user
         self._may: dict[int, int] = {}
         self._counts = start.counts()
         self._sets = {sort: [self._numbered(duty) for duty in start.sets(sort).values()] for sort in ("static", "dynamic")}
@@ -105,7 +105,7 @@ class Early:
 
     def _is_safe_assignment(self, user: str, role: str) -> bool:
         number, place = self._n.users.of(user), self._n.roles.of(role)
-        if not self._may_get(self._masks.has[place], 1 << number):
+        if self._masks.has[place] & ~self._caps[number]:
             return False
         self._work += len(self._sets["static"])
         had = self._masks.authorized(number)

@@ -56,12 +56,19 @@ class Masks:
         self.has = [0] * count
         self.users = [0] * count
         self.assigned: list[int] = [0] * len(numbering.users)
-        for asc, desc in state.edges:
-            self.add_edge(asc, desc)
         for ob, op, role in state.grants:
-            self.add_grant(ob, op, role)
+            self.has[numbering.roles.of(role)] |= 1 << numbering.permissions.of((ob, op))
         for user, role in state.assignments:
-            self.add_assignment(user, role)
+            number, place = numbering.users.of(user), numbering.roles.of(role)
+            self.assigned[number] |= 1 << place
+            self.users[place] |= 1 << number
+        edges = [(numbering.roles.of(asc), numbering.roles.of(desc)) for asc, desc in state.edges]
+        for senior, junior in reversed(_from_the_top(edges)):
+            self.below[senior] |= self.below[junior]
+            self.has[senior] |= self.has[junior]
+        for senior, junior in _from_the_top(edges):
+            self.above[junior] |= self.above[senior]
+            self.users[junior] |= self.users[senior]
 
     def add_grant(self, ob: str, op: str, role: str) -> None:
         permission = 1 << self._n.permissions.of((ob, op))
@@ -105,6 +112,24 @@ class Masks:
     def holders(self, duty: DutySet) -> int:
         """The users who are authorized for too many roles of a set."""
         return too_many([self.users[self._n.roles.of(role)] for role in duty.roles], duty.cardinality)
+
+
+def _from_the_top(edges: list[tuple[int, int]]) -> list[tuple[int, int]]:
+    """Edges in an order in which those to a role come before those from it."""
+    juniors: dict[int, list[int]] = {}
+    waits: dict[int, int] = {}
+    for senior, junior in edges:
+        juniors.setdefault(senior, []).append(junior)
+        waits[junior] = waits.get(junior, 0) + 1
+    ahead = [senior for senior in juniors if senior not in waits]
+    ordered = []
+    for senior in ahead:
+        for junior in juniors.get(senior, ()):
+            ordered.append((senior, junior))
+            waits[junior] -= 1
+            if not waits[junior]:
+                ahead.append(junior)
+    return ordered
 
 
 def too_many(masks: Iterable[int], most: int) -> int:
