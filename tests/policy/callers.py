@@ -44,6 +44,12 @@ def check_refused(bench):
         ends(bench, said, policy(bench, "callers", "p.toml"), 2, err=said)
     bench.write("p.jsonl", b'{"fn":"addRole","role":"a"}\n{"fn":"addRole","role":"a"}\n')
     done = policy(bench, "callers", "--back", "p.jsonl")
-    ends(bench, "a line that is refused", done, 2, err='p.jsonl:2: the program refuses this line: {"code":5,"error":"RoleExists"}')
+    ends(
+        bench,
+        "a line that is refused",
+        done,
+        2,
+        err='p.jsonl:2: the program refuses this line: {"code":5,"error":"RoleExists"}',
+    )
     bench.write("p.jsonl", b'{"fn":"addUser","user":"a"}\n{"fn":"lockUserAccount","user":"a"}\n')
     ends(bench, "a lock", policy(bench, "callers", "--back", "p.jsonl"), 2, err="callers have no dynamic sets and no locks")

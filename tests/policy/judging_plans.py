@@ -25,9 +25,7 @@ def permissions(state, user):
 def beyond(state, first, second):
     """The users who have a permission that neither of two states gives them."""
     users = state.users | first.users | second.users
-    return {
-        user for user in users if permissions(state, user) - permissions(first, user) - permissions(second, user)
-    }
+    return {user for user in users if permissions(state, user) - permissions(first, user) - permissions(second, user)}
 
 
 def missing_sets(state, first, second):

@@ -32,14 +32,26 @@ may_not = { vault = ["audit"] }
 
 # A text of the good policy, what is there instead, and the beginning of the only line that is printed then.
 MISTAKES = {
-    "an unknown key": ("inherits =", "inherit =", "p.toml:8: roles.teller.inherit: unknown key; allowed here: inherits, grants"),
-    "an unknown section": ("[static.audit]", "[statics.audit]", "p.toml:14: statics: unknown key; allowed here: objects, roles, "),
+    "an unknown key": (
+        "inherits =",
+        "inherit =",
+        "p.toml:8: roles.teller.inherit: unknown key; allowed here: inherits, grants",
+    ),
+    "an unknown section": (
+        "[static.audit]",
+        "[statics.audit]",
+        "p.toml:14: statics: unknown key; allowed here: objects, roles, ",
+    ),
     "a cycle": (
         "[roles.employee]",
         '[roles.employee]\ninherits = ["teller"]',
         "p.toml:9: roles.teller.inherits[0]: a role would inherit from itself: teller > employee > teller",
     ),
-    "an unknown junior": ('["employee"]', '["employe"]', "p.toml:8: roles.teller.inherits[0]: there is no role employe; is employee"),
+    "an unknown junior": (
+        '["employee"]',
+        '["employe"]',
+        "p.toml:8: roles.teller.inherits[0]: there is no role employe; is employee",
+    ),
     "an unknown operation": (
         '{ vault = ["open"] }\n\n',
         '{ vault = ["opne"] }\n\n',
@@ -50,21 +62,57 @@ MISTAKES = {
         '\nvalt = ["audit"]',
         "p.toml:12: roles.auditor.grants.valt[0]: there is no object valt; is vault meant?",
     ),
-    "a role twice": ("[roles.auditor.grants]", "[roles.teller]\n[roles.auditor.grants]", "p.toml: Cannot declare ('roles', 'teller')"),
-    "a name twice in a list": ('["open", "audit"]', '["open", "open", "audit"]', "p.toml:3: objects.vault[1]: open is in this list"),
-    "a name that is too long": ("[roles.employee]", f"[roles.employee]\n[roles.{'e' * 65}]", f"p.toml:6: roles.{'e' * 65}: a name has"),
-    "a name with a control character": ("[roles.employee]", '[roles.employee]\n[roles."a\\tb"]', 'p.toml:6: roles."a\\tb": a name has no'),
-    "a text in place of a list": ('["employee"]', '"employee"', "p.toml:8: roles.teller.inherits: this has to be a list of names"),
-    "a set of one role": ('["auditor", "teller"]', '["auditor"]', "p.toml:16: static.audit.cardinality: a set needs at least 2 roles"),
-    "a cardinality that is too large": ("cardinality = 2", "cardinality = 3", "p.toml:16: static.audit.cardinality: it has to be from 2"),
+    "a role twice": (
+        "[roles.auditor.grants]",
+        "[roles.teller]\n[roles.auditor.grants]",
+        "p.toml: Cannot declare ('roles', 'teller')",
+    ),
+    "a name twice in a list": (
+        '["open", "audit"]',
+        '["open", "open", "audit"]',
+        "p.toml:3: objects.vault[1]: open is in this list",
+    ),
+    "a name that is too long": (
+        "[roles.employee]",
+        f"[roles.employee]\n[roles.{'e' * 65}]",
+        f"p.toml:6: roles.{'e' * 65}: a name has",
+    ),
+    "a name with a control character": (
+        "[roles.employee]",
+        '[roles.employee]\n[roles."a\\tb"]',
+        'p.toml:6: roles."a\\tb": a name has no',
+    ),
+    "a text in place of a list": (
+        '["employee"]',
+        '"employee"',
+        "p.toml:8: roles.teller.inherits: this has to be a list of names",
+    ),
+    "a set of one role": (
+        '["auditor", "teller"]',
+        '["auditor"]',
+        "p.toml:16: static.audit.cardinality: a set needs at least 2 roles",
+    ),
+    "a cardinality that is too large": (
+        "cardinality = 2",
+        "cardinality = 3",
+        "p.toml:16: static.audit.cardinality: it has to be from 2",
+    ),
     "a set without a cardinality": ("cardinality = 2\n", "", "p.toml:14: static.audit: the key cardinality is missing"),
-    "an unknown role in a set": ('["auditor", "teller"]', '["auditor", "tellers"]', "p.toml:15: static.audit.roles: there is no role"),
+    "an unknown role in a set": (
+        '["auditor", "teller"]',
+        '["auditor", "tellers"]',
+        "p.toml:15: static.audit.roles: there is no role",
+    ),
     "a set that the users violate": (
         '["teller"]\n\n[[tests]]',
         '["teller", "auditor"]\n\n[[tests]]',
         "p.toml:19: users.ann[1]: ann would have too many roles of a set: the static set audit has auditor, teller, of which nobody",
     ),
-    "a test of nobody": ('user = "ann"\n', "", "p.toml:21: tests[0]: a test has either a user of the policy, at user, or a list"),
+    "a test of nobody": (
+        'user = "ann"\n',
+        "",
+        "p.toml:21: tests[0]: a test has either a user of the policy, at user, or a list",
+    ),
     "a wrong type in a test": ("may = {", "may = 3 #", "p.toml:23: tests[0].may: this has to be a table of objects"),
     "no TOML": ("[roles.teller]", "[roles.teller", "p.toml: Expected ']' at the end of a table declaration (at line 7"),
 }
@@ -92,7 +140,9 @@ def check_mistake(bench, what):
 def check_all_at_once(bench):
     """Mistakes of several kinds in two files are all printed, in their order."""
     bench.write("a.toml", b'[objects]\nsafe = ["open"]\n[roles.clerk]\ngrants = { safe = ["shut"] }\nage = 3\n')
-    bench.write("b.toml", b'[roles.clerk]\n[roles.boss]\ninherits = ["boss", "clark"]\n[static.one]\nroles = []\ncardinality = 2\n')
+    bench.write(
+        "b.toml", b'[roles.clerk]\n[roles.boss]\ninherits = ["boss", "clark"]\n[static.one]\nroles = []\ncardinality = 2\n'
+    )
     done = policy(bench, "validate", "a.toml", "b.toml")
     wanted = [
         "a.toml:4: roles.clerk.grants.safe[0]: the object safe has no operation shut",

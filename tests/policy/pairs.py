@@ -15,7 +15,13 @@ from . import drawing, judging_plans
 JOBS, EACH, EACH_OF_GATE = 6, 10, 50
 
 # What has to be met in some of the pairs.
-MET = ["plans with a gap", "sets made under a free name", "pairs with 64 sets", "sessions that end", "permissions that are away"]
+MET = [
+    "plans with a gap",
+    "sets made under a free name",
+    "pairs with 64 sets",
+    "sessions that end",
+    "permissions that are away",
+]
 
 
 def make_office(bench, name, state):
@@ -115,7 +121,9 @@ def turn(bench, what, first, second, met):
         status = main(["plan", text, "--file", path])
         bench.same(f"{what}: plan afterwards", (status, out.getvalue().splitlines()[-1]), (0, "No difference."))
     bench.judge(f"{what}: after each command", faults)
-    bench.same(f"{what}: the rows", rows_of(path), rows_of(make_office(bench, f"{what} other", judging_plans.but_sessions(second))))
+    bench.same(
+        f"{what}: the rows", rows_of(path), rows_of(make_office(bench, f"{what} other", judging_plans.but_sessions(second)))
+    )
     pull_again(bench, what, path)
     met["pairs"] += 1
     met["commands"] += len(plan.commands)
@@ -164,5 +172,3 @@ def pull_again(bench, what, path):
     with redirect_stdout(StringIO()) as again:
         main(["pull", "--users", "--file", path])
     bench.same(f"{what}: pulled again", again.getvalue(), first.getvalue())
-
-

@@ -30,7 +30,9 @@ def check_forms(bench, what):
     bench.write("people.csv", SAME[what])
     done = people(bench, "plan", "people.csv", "--file", "office")
     bench.same("the plan", (done.status, done.out.decode().splitlines()[1:], done.err), (1, COMMANDS, b""))
-    ends(bench, "apply", people(bench, "apply", "people.csv", "--file", "office", "--yes"), 0, "Done: 6 commands. Refused: 0.\n")
+    ends(
+        bench, "apply", people(bench, "apply", "people.csv", "--file", "office", "--yes"), 0, "Done: 6 commands. Refused: 0.\n"
+    )
     pulled = policy(bench, "pull", "--users", "--file", "office").out.decode().partition("[users]\n")[2]
     bench.same("the users", pulled, 'ann = ["auditor"]\nbob = { roles = ["employee", "teller"], locked = true }\n')
     ends(bench, "again", people(bench, "apply", "people.csv", "--file", "office", "--yes"), 0, "No difference.\n")
@@ -53,7 +55,8 @@ def check_mistakes(bench):
     """All mistakes of a file are printed with their lines, and nothing is done."""
     good_office(bench)
     bench.write(
-        "people.csv", b"user,roles,locked\nann,teller,maybe\n,teller,\nbob\n" + b"n" * 65 + b",teller,\ncat,teller,\ncat,,no\nok,,\n"
+        "people.csv",
+        b"user,roles,locked\nann,teller,maybe\n,teller,\nbob\n" + b"n" * 65 + b",teller,\ncat,teller,\ncat,,no\nok,,\n",
     )
     done = people(bench, "apply", "people.csv", "--file", "office", "--yes")
     wanted = [
@@ -69,7 +72,7 @@ def check_mistakes(bench):
         (b"name,roles\nann,teller\n", "people.csv:1: the first line has no column user"),
         (b"", "people.csv:1: the first line has no column user"),
         (b"user,roles,roles\n", "people.csv:1: there are two columns roles"),
-        (b"user,roles\n\"ann,teller\n", "people.csv:2: unexpected end of data"),
+        (b'user,roles\n"ann,teller\n', "people.csv:2: unexpected end of data"),
         (b"user\nm\xe4x\n", "people.csv: it is not UTF-8"),
     ):
         bench.write("people.csv", text)

@@ -27,10 +27,19 @@ def check_server(bench):
         ends(bench, "plan by a new copy with its log", policy(bench, "plan", "changed.toml", *at), 0, "No difference.\n")
         bench.write("people.csv", b"user,roles\nbob,employee\nann,auditor;teller\n")
         done = people(bench, "apply", "people.csv", *at, "--yes")
-        ends(bench, "people", done, 1, "Done: 2 commands. Refused: 1.\n", "people.csv:3: refused: assign the user ann to the role auditor")
+        ends(
+            bench,
+            "people",
+            done,
+            1,
+            "Done: 2 commands. Refused: 1.\n",
+            "people.csv:3: refused: assign the user ann to the role auditor",
+        )
     bench.run(["check", "office"])
     names = [name for kind, name in rows_of(bench.path("office"))["name_row"] if kind == 1]
     bench.same("the users", names, ["ann", "bob"])
-    ends(bench, "without a copy", policy(bench, "plan", "good.toml", "--server", "http://127.0.0.1:1"), 2, err="belong together")
+    ends(
+        bench, "without a copy", policy(bench, "plan", "good.toml", "--server", "http://127.0.0.1:1"), 2, err="belong together"
+    )
     done = policy(bench, "plan", "good.toml", "--server", "http://127.0.0.1:1", "--copy", "copy")
     ends(bench, "without a server", done, 2, err="the server does not answer")

@@ -88,7 +88,7 @@ def saved(plan: Plan, effects: Effects) -> str:
         key: [[user, *one] for user, permissions in sorted(users.items()) for one in sorted(permissions)]
         for key, users in what.items()
     }
-    value = {"found": plan.found.digest(), "wanted": plan.wanted.digest(), "commands": commands, **changes}
+    value: dict[str, object] = {"found": plan.found.digest(), "wanted": plan.wanted.digest(), "commands": commands, **changes}
     return json.dumps(value, indent=1, ensure_ascii=False) + "\n"
 
 

@@ -114,7 +114,8 @@ class Early:
     def _keeps(self, sort: str, roles: int, had: int) -> bool:
         """Whether somebody with these roles violates no set that had kept those before."""
         return not any(
-            (roles & members).bit_count() >= cardinality and (roles & ~had & members) for members, cardinality in self._sets[sort]
+            (roles & members).bit_count() >= cardinality and (roles & ~had & members)
+            for members, cardinality in self._sets[sort]
         )
 
     def _is_safe_edge(self, asc: int, desc: int) -> bool:

@@ -63,7 +63,8 @@ def _samples(plan: Plan) -> dict[str, list[str]]:
     alike: dict[object, list[str]] = {}
     for user in sorted({*plan.found.users, *plan.wanted.users}):
         locks = plan.found.users.get(user), plan.wanted.users.get(user)
-        alike.setdefault((*map(tuple, roles.get(user, ())), locks), []).append(user)
+        kinds = tuple(tuple(names) for names in roles.get(user, ()))
+        alike.setdefault((kinds, locks), []).append(user)
     return {users[0]: users for users in alike.values()}
 
 

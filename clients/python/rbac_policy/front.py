@@ -64,7 +64,9 @@ class Connection:
         except (OSError, ValueError) as error:
             raise Stop(str(error)) from None
 
-    def ask(self, method: str, path: str, body: bytes | None, fields: dict[str, str]) -> tuple[int, http.client.HTTPMessage, bytes]:
+    def ask(
+        self, method: str, path: str, body: bytes | None, fields: dict[str, str]
+    ) -> tuple[int, http.client.HTTPMessage, bytes]:
         """The status, the fields and the body of an answer. Raises `OSError` or `HTTPException` if there is none."""
         if self._open is None:
             self._open = self._connect()
@@ -226,7 +228,9 @@ def _state(lists: dict[str, list[object]]) -> State:
     rows = {name: list(_rows(lists[name], keys)) for name, keys in _LISTS.items() if keys}
     locked = {user for (user,) in rows["locked"]}
     sets = [{str(one["set"]): _duty(one) for one in map(_table, lists[name])} for name in ("staticSets", "dynamicSets")]
-    sessions = {str(one["session"]): (str(one["user"]), frozenset(_texts(one["roles"]))) for one in map(_table, lists["sessions"])}
+    sessions = {
+        str(one["session"]): (str(one["user"]), frozenset(_texts(one["roles"]))) for one in map(_table, lists["sessions"])
+    }
     return State(
         users={user: user in locked for (user,) in rows["users"]},
         roles={role for (role,) in rows["roles"]},

@@ -31,7 +31,9 @@ def main(words: Sequence[str]) -> int:
         found = target.read()
         changes = changes_of(found, people.people, arguments.leavers)
         refusals = _tried(found, changes)
-        return _apply(arguments, target, found, changes, refusals) if arguments.is_apply else _plan(arguments, changes, refusals)
+        return (
+            _apply(arguments, target, found, changes, refusals) if arguments.is_apply else _plan(arguments, changes, refusals)
+        )
     finally:
         target.close()
 
@@ -101,7 +103,9 @@ def _apply(
     if count and arguments.confirm != count:
         verb = {"lock": "locked", "delete": "deleted"}[arguments.leavers]
         some = ", ".join(map(shown, changes.leavers[:5]))
-        raise Stop(f"{count:,} of {len(found.users):,} users would be {verb} ({some}, ..): nothing was done. Use --confirm {count}")
+        raise Stop(
+            f"{count:,} of {len(found.users):,} users would be {verb} ({some}, ..): nothing was done. Use --confirm {count}"
+        )
     _show(arguments, changes, refusals)
     if not changes.commands:
         return 0
@@ -131,7 +135,10 @@ def _do(arguments: argparse.Namespace, target: Target, changes: Changes) -> int:
     meter.end()
     print(f"Done: {done - refused:,} commands. Refused: {refused:,}.")
     if broken is not None:
-        print(f"{broken}: {len(changes.commands) - done:,} commands are left. The same command line does the rest.", file=sys.stderr)
+        print(
+            f"{broken}: {len(changes.commands) - done:,} commands are left. The same command line does the rest.",
+            file=sys.stderr,
+        )
     return 1 if refused or broken is not None else 0
 
 

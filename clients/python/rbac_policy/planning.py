@@ -117,7 +117,9 @@ def _remove(plan: Plan, start: State) -> State:
 
 def _after_additions(start: State, commands: Iterable[Command]) -> State:
     """The roles, users, edges and assignments after the first commands of a plan."""
-    state = start.but(roles=set(start.roles), users=dict(start.users), edges=set(start.edges), assignments=set(start.assignments))
+    state = start.but(
+        roles=set(start.roles), users=dict(start.users), edges=set(start.edges), assignments=set(start.assignments)
+    )
     for command in commands:
         match command:
             case {"fn": "addRole", "role": role}:

@@ -41,7 +41,9 @@ def _parser() -> argparse.ArgumentParser:
             command.add_argument("policy", nargs="+", metavar="POLICY", help="a file in TOML; several files make one policy")
         if name in ("plan", "apply"):
             command.add_argument("--all", action="store_true", help="show all lines of the plan")
-            command.add_argument("--gap", action="store_true", help="allow that a set which both policies have is away for a moment")
+            command.add_argument(
+                "--gap", action="store_true", help="allow that a set which both policies have is away for a moment"
+            )
         if name in ("plan", "apply", "pull"):
             add_target(command)
     choices = commands.choices

@@ -12,6 +12,9 @@ from .model import Command, State, Stop, line_of
 
 OK = b'{"ok":true'
 
+# How many bytes a pipe holds at least, on Linux.
+_OF_PIPE = 60_000
+
 
 def program() -> str:
     """The path of the program: that of the variable RBAC_PROGRAM, else `rbac` of PATH, else that of this repository."""
@@ -41,15 +44,20 @@ class Replay:
     def ask(self, lines: Sequence[bytes]) -> list[bytes]:
         """The answers to lines, each without LF. Raises `Stop` if the child ends before it has answered all of them."""
         assert self._child.stdin is not None and self._child.stdout is not None
+        # What a pipe holds is written at once. More is written while the answers are read.
         writer = threading.Thread(target=self._write, args=(lines,), daemon=True)
-        writer.start()
+        if len(lines) < 100 and sum(map(len, lines)) < _OF_PIPE:
+            self._write(lines)
+        else:
+            writer.start()
         answers = []
         for _ in lines:
             answer = self._child.stdout.readline()
             if not answer.endswith(b"\n"):
                 raise Stop(f"the program ended: {self._said()}")
             answers.append(answer[:-1])
-        writer.join()
+        if writer.ident is not None:
+            writer.join()
         return answers
 
     def do(self, commands: Iterable[Command]) -> list[bytes]:

@@ -2,7 +2,7 @@
 
 import tomllib
 from collections.abc import Iterator, Sequence
-from dataclasses import dataclass, field
+from dataclasses import dataclass, field, replace
 from pathlib import Path as File
 from typing import Any
 
@@ -54,7 +54,7 @@ class Policy:
 
     def file_of(self, path: Path) -> str:
         """The file that has the beginning of a path."""
-        return self.files.get(path[:2]) or self.files.get(path[:1]) or next(iter(self.texts), "")
+        return self.files.get(path[:2], "") or self.files.get(path[:1], "") or next(iter(self.texts), "")
 
 
 def read_policy(paths: Sequence[str], is_of_callers: bool = False) -> Policy:
@@ -254,18 +254,18 @@ def _test(policy: Policy, path: Path, value: Any) -> None:
     _has_keys(policy, path, value, allowed)
     if ("user" in value) == ("roles" in value):
         policy.note(path, "a test has either a user of the policy, at user, or a list of roles, at roles")
-    texts = {key: value[key] for key in ("user", "refused_by") if key in value}
-    if not all(_is(policy, (*path, key), text, str, "a name in quotes") for key, text in texts.items()):
-        return
-    lists = {
-        key: tuple(name for name, _ in _names(policy, (*path, key), value[key])) for key in ("roles", "session") if key in value
-    }
-    tables = {
-        key: tuple(found for found, _ in _permissions(policy, (*path, key), value[key]))
-        for key in ("may", "may_not")
-        if key in value
-    }
-    policy.tests.append(Test(path, **texts, **lists, **tables))
+    for key in ("user", "refused_by"):
+        if key in value and not _is(policy, (*path, key), value[key], str, "a name in quotes"):
+            return
+
+    def names(key: str) -> tuple[str, ...] | None:
+        return tuple(name for name, _ in _names(policy, (*path, key), value[key])) if key in value else None
+
+    def permissions(key: str) -> tuple[tuple[str, str], ...]:
+        return tuple(found for found, _ in _permissions(policy, (*path, key), value.get(key, {})))
+
+    test = Test(path, value.get("user"), names("roles"), names("session"), permissions("may"), permissions("may_not"))
+    policy.tests.append(replace(test, refused_by=value.get("refused_by")))
 
 
 # The order in which the steps of a policy are done: each uses what is there before.

@@ -18,7 +18,9 @@ class Sets:
     without a free name there is no other way.
     """
 
-    def __init__(self, sort: str, found: dict[str, DutySet], wanted: dict[str, DutySet], is_kept: Callable[[DutySet], bool]) -> None:
+    def __init__(
+        self, sort: str, found: dict[str, DutySet], wanted: dict[str, DutySet], is_kept: Callable[[DutySet], bool]
+    ) -> None:
         self._sort, self._now, self._wanted, self._is_kept = sort, dict(found), wanted, is_kept
         self._create, self._add, self._remove, self._set, self._delete = SET_FUNCTIONS[sort]
         self._borrowed: set[str] = set()
@@ -71,8 +73,8 @@ class Sets:
         widest = DutySet(old.roles | new.roles, min(old.cardinality, new.cardinality))
         if len(widest.roles) > LIMITS["member"] or not self._is_kept(widest):
             return None
-        lower = [{"fn": self._set, "set": name, "cardinality": new.cardinality}]
-        steps = [{"fn": self._add, "set": name, "role": role} for role in sorted(new.roles - old.roles)]
+        lower: list[Command] = [{"fn": self._set, "set": name, "cardinality": new.cardinality}]
+        steps: list[Command] = [{"fn": self._add, "set": name, "role": role} for role in sorted(new.roles - old.roles)]
         if new.cardinality < old.cardinality:
             steps += lower
         steps += [{"fn": self._remove, "set": name, "role": role} for role in sorted(old.roles - new.roles)]

@@ -96,7 +96,11 @@ def violation_text(state: State, command: Command, name: str, sort: str) -> str:
     duty = state.sets(sort).get(name)
     if duty is None:
         return f"the {sort} set {shown(name)} would be violated"
-    most = f"of which nobody may have {duty.cardinality}" if sort == "static" else f"of which no session may have {duty.cardinality}"
+    most = (
+        f"of which nobody may have {duty.cardinality}"
+        if sort == "static"
+        else f"of which no session may have {duty.cardinality}"
+    )
     what = f"the {sort} set {shown(name)} has {listed(duty.roles, 32)}, {most}"
     if "user" in command:
         return f"{shown(command['user'])} would have too many roles of a set: {what}"
