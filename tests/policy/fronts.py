@@ -83,7 +83,7 @@ def check_others_write(bench):
             "apply",
             policy(bench, "apply", "changed.toml", *at, "--yes"),
             0,
-            ["delete the user eve", "Done: 3 commands.\n"],
+            ["delete the user eve", "Done: 3 changes.\n"],
         )
 
 
@@ -132,11 +132,9 @@ def check_rights(bench):
         desk = [*at, "--token-file", "secret.token"]
         ends(bench, "the desk plans", policy(bench, "plan", "good.toml", *desk), 1)
         done = policy(bench, "apply", "good.toml", *desk, "--yes")
-        ends(bench, "the desk applies", done, 1, err=["403 63 Forbidden", "0 commands are done"])
+        ends(bench, "the desk applies", done, 1, err=["403 63 Forbidden", "0 changes are done"])
         admin = [*at, "--token-file", "another.token"]
-        ends(
-            bench, "the administrator applies", policy(bench, "apply", "good.toml", *admin, "--yes"), 0, "Done: 12 commands.\n"
-        )
+        ends(bench, "the administrator applies", policy(bench, "apply", "good.toml", *admin, "--yes"), 0, "Done: 12 changes.\n")
         bench.same("no token is shown", b"another" in done.out + done.err or b"secret\n" in done.out + done.err, False)
 
 
@@ -157,7 +155,7 @@ def check_people(bench):
             "people.csv:2: refused: assign the user ann to the role auditor: 24 StaticSeparation set audit",
             "people.csv:4: refused: assign the user cat to the role nobody: 4 NoRole",
         ]
-        ends(bench, "apply", done, 1, "Done: 503 commands. Refused: 2.\n", refused)
+        ends(bench, "apply", done, 1, "Done: 503 changes. Refused: 2.\n", refused)
         bench.same("the lines of refusals", done.err.decode().splitlines(), refused)
         pulled = policy(bench, "pull", "--users", *at).out.decode()
         bench.same("the users", pulled.count('= ["employee"]'), 251)

@@ -30,9 +30,7 @@ def check_forms(bench, what):
     bench.write("people.csv", SAME[what])
     done = people(bench, "plan", "people.csv", "--file", "office")
     bench.same("the plan", (done.status, done.out.decode().splitlines()[1:], done.err), (1, COMMANDS, b""))
-    ends(
-        bench, "apply", people(bench, "apply", "people.csv", "--file", "office", "--yes"), 0, "Done: 6 commands. Refused: 0.\n"
-    )
+    ends(bench, "apply", people(bench, "apply", "people.csv", "--file", "office", "--yes"), 0, "Done: 6 changes. Refused: 0.\n")
     pulled = policy(bench, "pull", "--users", "--file", "office").out.decode().partition("[users]\n")[2]
     bench.same("the users", pulled, 'ann = ["auditor"]\nbob = { roles = ["employee", "teller"], locked = true }\n')
     ends(bench, "again", people(bench, "apply", "people.csv", "--file", "office", "--yes"), 0, "No difference.\n")
@@ -42,9 +40,9 @@ def check_columns(bench):
     """Without the column roles no role changes, without the column locked no lock, and an empty cell leaves a lock."""
     good_office(bench)
     bench.write("people.csv", b"user\nann\nbob\n")
-    ends(bench, "users alone", people(bench, "apply", "people.csv", "--file", "office", "--yes"), 0, "Done: 1 commands.")
+    ends(bench, "users alone", people(bench, "apply", "people.csv", "--file", "office", "--yes"), 0, "Done: 1 changes.")
     bench.write("people.csv", b"user,locked\nann,yes\nbob,\n")
-    ends(bench, "a lock", people(bench, "apply", "people.csv", "--file", "office", "--yes"), 0, "Done: 1 commands.")
+    ends(bench, "a lock", people(bench, "apply", "people.csv", "--file", "office", "--yes"), 0, "Done: 1 changes.")
     bench.write("people.csv", b"user,locked\nann,\nbob,no\n")
     ends(bench, "an empty cell", people(bench, "apply", "people.csv", "--file", "office", "--yes"), 0, "No difference.")
     pulled = policy(bench, "pull", "--users", "--file", "office").out.decode().partition("[users]\n")[2]
@@ -89,13 +87,15 @@ def check_leavers(bench):
     done = people(bench, "plan", "people.csv", "--file", "office")
     ends(bench, "kept", done, 0, ["No difference.", "Users who are not in the file, and stay: 5"])
     done = people(bench, "apply", "people.csv", "--file", "office", "--yes", "--leavers", "lock")
-    ends(bench, "five of 101 are locked", done, 0, "Done: 5 commands. Refused: 0.\n")
+    ends(bench, "five of 101 are locked", done, 0, "Done: 5 changes. Refused: 0.\n")
     bench.write("people.csv", "\n".join(["user", "ann", *lines[11:]]).encode())
     words = ["apply", "people.csv", "--file", "office", "--yes", "--leavers", "lock"]
-    ends(bench, "six more of 101", people(bench, *words), 2, err="6 of 101 users would be locked (user 10, user 5, user 6")
+    ends(
+        bench, "six more of 101", people(bench, *words), 2, err='6 of 101 users would be locked ("user 10", "user 5", "user 6"'
+    )
     ends(bench, "another number", people(bench, *words, "--confirm", "5"), 2, err="nothing was done. Use --confirm 6")
-    ends(bench, "confirmed", people(bench, *words, "--confirm", "6"), 0, "Done: 6 commands. Refused: 0.\n")
+    ends(bench, "confirmed", people(bench, *words, "--confirm", "6"), 0, "Done: 6 changes. Refused: 0.\n")
     words[-1] = "delete"
-    ends(bench, "deleted", people(bench, *words, "--confirm", "11"), 0, "Done: 11 commands. Refused: 0.\n")
+    ends(bench, "deleted", people(bench, *words, "--confirm", "11"), 0, "Done: 11 changes. Refused: 0.\n")
     pulled = policy(bench, "pull", "--users", "--file", "office").out.decode()
     bench.same("the users that are left", pulled.count('"user '), 89)

@@ -23,13 +23,13 @@ def good_office(bench):
     bench.write("changed.toml", CHANGED.encode())
     bench.ends(["init", "office"], makes=["office"])
     done = policy(bench, "apply", "good.toml", "--file", "office", "--yes")
-    ends(bench, "the first apply", done, 0, ["Users who gain permissions:\n  ann: open on vault\n", "Done: 12 commands.\n"])
+    ends(bench, "the first apply", done, 0, ["Users who gain permissions:\n  ann: open on vault\n", "Done: 12 changes.\n"])
 
 
 def check_plan(bench):
     """A plan says who gains and who loses, its status that there is a difference, and apply does it only after a yes."""
     good_office(bench)
-    wanted = """Commands:
+    wanted = """Changes:
   revoke open on vault from the role teller
   grant audit on vault to the role teller
 Users who gain permissions:
@@ -50,7 +50,7 @@ Users who lose permissions:
         err="nothing was done. Use --yes",
     )
     bench.same("the rows after it", rows_of(bench.path("office")), before)
-    ends(bench, "apply", policy(bench, "apply", "changed.toml", "--file", "office", "--yes"), 0, "Done: 2 commands.\n")
+    ends(bench, "apply", policy(bench, "apply", "changed.toml", "--file", "office", "--yes"), 0, "Done: 2 changes.\n")
     ends(bench, "plan afterwards", policy(bench, "plan", "changed.toml", "--file", "office"), 0, "No difference.\n")
     ends(bench, "apply again", policy(bench, "apply", "changed.toml", "--file", "office", "--yes"), 0, "No difference.\n")
 
@@ -81,7 +81,7 @@ def check_saved_plan(bench):
         err="plan: the plan was made for another policy: nothing was done",
     )
     words[1] = "changed.toml"
-    ends(bench, "for this one", policy(bench, *words), 0, "Done: 2 commands.\n")
+    ends(bench, "for this one", policy(bench, *words), 0, "Done: 2 changes.\n")
     bench.write("plan", b"{}")
     ends(bench, "no plan", policy(bench, *words), 2, err="plan: this is no plan that rbac-policy has saved")
 

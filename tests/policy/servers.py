@@ -17,7 +17,7 @@ def check_server(bench):
     with Server(bench, bench.path("office"), 10_000) as server:
         at = ["--server", f"http://{HOST}:{server.port}", "--copy", "copy"]
         ends(bench, "no difference", policy(bench, "plan", "good.toml", *at), 0, "No difference.\n")
-        ends(bench, "apply", policy(bench, "apply", "changed.toml", *at, "--yes"), 0, "Done: 2 commands.\n")
+        ends(bench, "apply", policy(bench, "apply", "changed.toml", *at, "--yes"), 0, "Done: 2 changes.\n")
         bench.same("the copy is as it was", (bench.folder / "copy").read_bytes(), before)
         wanted = "copy: the copy is no longer what the server has: the roles that may"
         for words in (["plan"], ["apply", "--yes"]):
@@ -32,7 +32,7 @@ def check_server(bench):
             "people",
             done,
             1,
-            "Done: 2 commands. Refused: 1.\n",
+            "Done: 2 changes. Refused: 1.\n",
             "people.csv:3: refused: assign the user ann to the role auditor",
         )
     bench.run(["check", "office"])

@@ -49,7 +49,7 @@ def show(plan: Plan, effects: Effects, names_sessions: bool, is_whole: bool) -> 
     def command_text(command: Command) -> str:
         return sentence({**command, "session": session_text(command["session"])} if "session" in command else command)
 
-    _show("Commands:", map(command_text, plan.commands), is_whole)
+    _show("Changes:", map(command_text, plan.commands), is_whole)
     _show("Users who gain permissions:", _permissions(effects.gained), is_whole)
     _show("Users who lose permissions:", _permissions(effects.lost), is_whole)
     _show("Permissions that users have before and after, but not all the time:", _permissions(effects.away), is_whole)
@@ -118,7 +118,7 @@ def do(plan: Plan, target: Target) -> int:
     """Does a plan until a command is refused, and returns the exit status."""
     done = 0
     refused: list[str] = []
-    meter = Meter("commands", len(plan.commands))
+    meter = Meter("changes", len(plan.commands))
 
     def judge(command: Command, refusal: dict[str, object] | None) -> bool:
         nonlocal done
@@ -132,14 +132,14 @@ def do(plan: Plan, target: Target) -> int:
     broken = run(target, plan.commands, judge)
     meter.end()
     if broken is None and not refused:
-        print(f"Done: {done:,} commands.")
+        print(f"Done: {done:,} changes.")
         return 0
     left = len(plan.commands) - done
     if refused:
         print(f"refused: {refused[0]}", file=sys.stderr)
     if broken is not None:
         print(f"{broken}{_may_be_done(broken)}", file=sys.stderr)
-    print(f"{done:,} commands are done, and {left:,} are left. The same command line does the rest.", file=sys.stderr)
+    print(f"{done:,} changes are done, and {left:,} are left. The same command line does the rest.", file=sys.stderr)
     return 1
 
 
@@ -154,7 +154,7 @@ def run(target: Target, commands: list[Command], judge: Callable[[Command, dict[
 
 
 def _may_be_done(broken: Broken) -> str:
-    return f": up to {broken.sent:,} more commands may be done" if broken.sent else ""
+    return f": up to {broken.sent:,} more may be done" if broken.sent else ""
 
 
 def is_needless(command: Command, refusal: dict[str, object]) -> bool:

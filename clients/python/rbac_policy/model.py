@@ -137,7 +137,7 @@ def sentence(command: Command) -> str:
 
 def shown(name: str) -> str:
     """A name as a reader can take it from a text."""
-    plain = name.isprintable() and name == name.strip() and not set(name) & set("\"'\\,:;()") and name
+    plain = name.isprintable() and name == name.strip() and not set(name) & set("\"'\\,:;() ") and name
     return name if plain else json.dumps(name, ensure_ascii=not name.isprintable())
 
 

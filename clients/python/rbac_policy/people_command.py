@@ -81,7 +81,7 @@ def _show(arguments: argparse.Namespace, changes: Changes, refusals: dict[int, d
         print("No difference.")
         return
     kinds = Counter(command["fn"] for place, command in enumerate(changes.commands) if place not in refusals)
-    print("Commands:", ", ".join(f"{count:,} {function}" for function, count in sorted(kinds.items())) or "none")
+    print("Changes:", ", ".join(f"{count:,} {function}" for function, count in sorted(kinds.items())) or "none")
     accepted = [sentence(command) for place, command in enumerate(changes.commands) if place not in refusals]
     most = len(accepted) if arguments.all else _MOST_SHOWN
     for text in accepted[:most]:
@@ -120,7 +120,7 @@ def _apply(
 
 def _do(arguments: argparse.Namespace, target: Target, changes: Changes) -> int:
     refused, done = 0, 0
-    meter = Meter("commands", len(changes.commands))
+    meter = Meter("changes", len(changes.commands))
 
     def judge(command: Command, refusal: dict[str, object] | None) -> bool:
         nonlocal refused, done
@@ -133,10 +133,10 @@ def _do(arguments: argparse.Namespace, target: Target, changes: Changes) -> int:
 
     broken = apply_to(target, changes.commands, judge)
     meter.end()
-    print(f"Done: {done - refused:,} commands. Refused: {refused:,}.")
+    print(f"Done: {done - refused:,} changes. Refused: {refused:,}.")
     if broken is not None:
         print(
-            f"{broken}: {len(changes.commands) - done:,} commands are left. The same command line does the rest.",
+            f"{broken}: {len(changes.commands) - done:,} changes are left. The same command line does the rest.",
             file=sys.stderr,
         )
     return 1 if refused or broken is not None else 0
