@@ -2,12 +2,17 @@
 
 import argparse
 import sys
-from collections.abc import Sequence
+from collections.abc import Callable, Sequence
 from pathlib import Path
 
 from .applying import agrees, check_saved, do, plan_for, saved, show
 from .arguments import add_target, run, target_of
 from .callers import compile_callers, read_callers
+from .from_casbin import from_casbin
+from .from_keycloak import from_keycloak
+from .from_ldif import from_ldif
+from .from_postgresql import from_postgresql
+from .imported import Imported
 from .model import Stop
 from .reading import Policy, read_policy
 from .testing import run_tests
@@ -16,6 +21,14 @@ from .writing import write_policy
 
 _STATUSES = """The status is 0 if all is done, valid or passed, or if nothing differs; 1 if there are mistakes, a test failed, a plan
 has a difference, or a command was refused; 2 if nothing could be done. docs/POLICY.md describes the files."""
+
+
+_SYSTEMS: dict[str, Callable[..., Imported]] = {
+    "casbin": from_casbin,
+    "keycloak": from_keycloak,
+    "ldif": from_ldif,
+    "postgresql": from_postgresql,
+}
 
 
 def main(words: Sequence[str]) -> int:
@@ -54,8 +67,40 @@ def _parser() -> argparse.ArgumentParser:
     callers.set_defaults(does=_callers)
     callers.add_argument("policy", nargs="+", metavar="FILE", help="files in TOML; with --back a file of lines")
     callers.add_argument("--back", action="store_true", help="write the lines of a file as a policy in TOML")
+    _add_importers(
+        commands.add_parser("from", help="makes a policy, a file of people and a list of what is left from another system")
+    )
     choices["pull"].add_argument("--users", action="store_true", help="write the users, their roles and their locks too")
     return parser
+
+
+def _add_importers(parser: argparse.ArgumentParser) -> None:
+    """Adds the systems from which a policy can be made."""
+    systems = parser.add_subparsers(required=True, metavar="SYSTEM")
+    for name, places, what in (
+        ("casbin", ("MODEL", "RULES"), "a model of Casbin, and its rules in CSV"),
+        ("keycloak", ("REALM",), "a realm that Keycloak has exported as JSON"),
+        ("ldif", ("FILE",), "groups and users of a directory"),
+        ("postgresql", ("ADDRESS",), "the roles of a database, and what is granted on its tables, by psql"),
+    ):
+        system = systems.add_parser(name, help=what, description=f"Reads {what}.", epilog=_STATUSES)
+        system.set_defaults(does=_import, system=name)
+        for place in places:
+            system.add_argument("places", metavar=place, action="append")
+        system.add_argument(
+            "--out", metavar="FOLDER", required=True, help="a new folder for policy.toml, people.csv and left.txt"
+        )
+
+
+def _import(arguments: argparse.Namespace) -> int:
+    found: Imported = _SYSTEMS[arguments.system](*arguments.places)
+    found.finish()
+    found.write(arguments.out)
+    policy, is_valid = _read(argparse.Namespace(policy=[str(Path(arguments.out) / "policy.toml")]))
+    counts = policy.state.counts()
+    sizes = f"{counts['role']:,} roles, {counts['grant']:,} grants, {len(found.users):,} users"
+    print(f"{arguments.out}: {sizes}; {len(found.left):,} lines in left.txt say what is left out, and why")
+    return 0 if is_valid else 1
 
 
 def _read(arguments: argparse.Namespace, is_of_callers: bool = False) -> tuple[Policy, bool]:
