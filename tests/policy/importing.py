@@ -6,8 +6,6 @@ import subprocess
 
 import pytest
 
-from needs import GOCODE
-
 from .commands import ends, people, policy
 
 MODEL = """[request_definition]
@@ -84,8 +82,7 @@ def casbin(built):
     return built("casbin", make) / "asking"
 
 
-@pytest.mark.skipif(not (GOCODE / "github.com/casbin/casbin").is_dir(), reason="needs casbin-go")
-@pytest.mark.needs("go")
+@pytest.mark.needs("go", "casbin-go")
 @pytest.mark.parametrize("effect", EFFECTS)
 @pytest.mark.seeds()
 def check_casbin(bench, casbin, effect, seed):
