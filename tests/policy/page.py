@@ -16,7 +16,7 @@ from .conftest import OF_FRONT
 PAGE = markdown.page("POLICY.md")
 
 # The most bytes that the page may have.
-MOST_BYTES = 14_000
+MOST_BYTES = 16_000
 
 
 @pytest.mark.needs("curl", *OF_FRONT)
@@ -30,8 +30,10 @@ def check_commands(bench):
             ("examples", TESTS.parent / "examples"),
         ):
             (bench.folder / name).symlink_to(path)
-        (text,) = markdown.blocks(PAGE, "toml")
-        bench.write("policy.toml", "".join(f"{line}\n" for line in text).encode())
+        for name, language in (("policy.toml", "toml"), ("model.conf", "ini")):
+            (text,) = markdown.blocks(PAGE, language)
+            bench.write(name, "".join(f"{line}\n" for line in text).encode())
+            bench.same(f"the page names {name}", f"as `{name}`" in PAGE, True)
         for line, shown in runs([line for block in markdown.blocks(PAGE, "console") for line in block]):
             reader.shows(line, shown)
 
