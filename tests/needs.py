@@ -81,6 +81,8 @@ NEEDS = {name: Need(program(name), package) for package, names in PROGRAMS.items
         lambda: all(map(Path.is_dir, (GOCODE / "go.etcd.io/etcd/clientv3", GOCODE / "go.uber.org/zap", GOCODE / "golang.org/x/sync"))),
         "golang-etcd-server-dev golang-go.uber-zap-dev golang-golang-x-sync-dev",
     ),
+    "casbin-go": Need(library_of_go("github.com/casbin/casbin"), "golang-github-casbin-casbin-dev"),
+    "postgresql": Need(lambda: any(Path("/usr/lib/postgresql").glob("*/bin/initdb")), "postgresql"),
     "junit": Need(Path("/usr/share/java/junit-jupiter-api.jar").exists, "junit5"),
     "python-headers": Need(lambda: Path(sysconfig.get_paths()["include"], "Python.h").is_file(), "python3-dev"),
     "pip": Need(

@@ -36,10 +36,12 @@ MOVED = {
     "usr/sbin/rbac-backup": "deploy/backup",
     "usr/bin/rbac-health": "deploy/health",
     "usr/bin/rbac-why": "deploy/why",
+    "usr/bin/rbac-policy": "bin/rbac-policy",
+    "usr/bin/rbac-people": "bin/rbac-people",
 }
 
 # The pages of man of the package.
-MANUALS = ["rbac.1", "rbac-backup.8", "rbac-health.1", "rbac-why.1"]
+MANUALS = ["rbac.1", "rbac-backup.8", "rbac-health.1", "rbac-people.1", "rbac-policy.1", "rbac-why.1"]
 
 pytestmark = pytest.mark.needs("dpkg-buildpackage", "dh", "dh_installsysusers")
 
@@ -253,6 +255,16 @@ def check_places(bench, packages):
         paths = {path.rstrip(".-") for path in re.findall(PATHS, text)}
         missing = sorted(path for path in paths if not (root / path).exists() and not path.startswith(LEFT_OUT))
         bench.same(f"paths of {page.name} that are missing", missing, [])
+
+
+def check_policy(bench, packages):
+    """rbac-policy and rbac-people of the package find their modules, and the program in PATH."""
+    path = bench.write("policy.toml", b"[roles.clerk]\n")
+    settings = {"PATH": f"{packages.root / 'usr/bin'}:{os.environ['PATH']}", "RBAC_PROGRAM": "", "PYTHONDONTWRITEBYTECODE": "1"}
+    done = run([packages.root / "usr/bin/rbac-policy", "validate", path], **settings)
+    bench.same("rbac-policy", done, (0, "valid: 1 roles, 0 permissions, 0 users\n", ""))
+    done = run([packages.root / "usr/bin/rbac-people", "--help"], **settings)
+    bench.same("rbac-people", (done[0], done[1].partition("\n")[0]), (0, "usage: rbac-people [-h] COMMAND ..."))
 
 
 @pytest.mark.needs("sqlite3")

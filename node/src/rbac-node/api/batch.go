@@ -47,7 +47,7 @@ func parseBatchLine(line []byte) (*Call, error) {
 	if err != nil {
 		return nil, err
 	}
-	name, err := textOf(found["fn"])
+	name, err := textAt(found, "fn")
 	if err != nil {
 		return nil, err
 	}
@@ -56,7 +56,7 @@ func parseBatchLine(line []byte) (*Call, error) {
 	}
 	call := NewOther(name)
 	for _, key := range others[name] {
-		if call.Texts[key], err = textOf(found[key]); err != nil {
+		if call.Texts[key], err = textAt(found, key); err != nil {
 			return nil, err
 		}
 	}

@@ -60,7 +60,7 @@ func ParseLine(line []byte) (*Call, error) {
 	if err != nil {
 		return nil, err
 	}
-	name, err := textOf(found["fn"])
+	name, err := textAt(found, "fn")
 	if err != nil {
 		return nil, err
 	}
@@ -98,19 +98,42 @@ func newCall(name string, found map[string]json.RawMessage) (*Call, error) {
 		switch value := found[key]; key {
 		case "cardinality":
 			if len(value) == 0 || len(bytes.Trim(value, "0123456789")) > 0 {
-				return nil, badRequestSince(http.StatusBadRequest, "%s has to be a number", key)
+				return nil, wrongKey(found, key, "a number")
 			}
 		case "roles":
 			if call.Roles, err = textsOf(value); err != nil {
-				return nil, badRequestSince(http.StatusBadRequest, "%s has to be a list of texts", key)
+				return nil, wrongKey(found, key, "a list of texts")
 			}
 		default:
-			if call.Texts[key], err = textOf(value); err != nil {
-				return nil, badRequestSince(http.StatusBadRequest, "%s has to be a text", key)
+			if call.Texts[key], err = textAt(found, key); err != nil {
+				return nil, err
 			}
 		}
 	}
 	return call, call.write(found["cardinality"])
+}
+
+// textAt returns the text at a key, or a refusal that names the key.
+func textAt(found map[string]json.RawMessage, key string) (string, error) {
+	text, err := textOf(found[key])
+	if err != nil {
+		return "", wrongKey(found, key, "a text")
+	}
+	return text, nil
+}
+
+// wrongKey is the refusal of a request with a key that is missing or has a value of another type. It names one that is there and
+// differs in the case of its letters alone.
+func wrongKey(found map[string]json.RawMessage, key, wanted string) Refusal {
+	if _, has := found[key]; has {
+		return badRequestSince(http.StatusBadRequest, "%s has to be %s", key, wanted)
+	}
+	for other := range found {
+		if strings.EqualFold(other, key) {
+			return badRequestSince(http.StatusBadRequest, "%s is missing, and has to be %s: in %+q the case differs", key, wanted, other)
+		}
+	}
+	return badRequestSince(http.StatusBadRequest, "%s is missing, and has to be %s", key, wanted)
 }
 
 // write makes the line.
@@ -148,7 +171,7 @@ func fieldsOf(text []byte) (found map[string]json.RawMessage, err error) {
 		return found, nil
 	}
 	if !isStrict(text) || json.Unmarshal(text, &found) != nil || found == nil {
-		return nil, badRequest(http.StatusBadRequest)
+		return nil, badRequestSince(http.StatusBadRequest, "this is no object of JSON")
 	}
 	return found, nil
 }

@@ -203,11 +203,25 @@ func (o oddLines) line() []byte {
 	return line
 }
 
+// A line of a batch is refused with the key that is wrong.
+func TestWhyOfBatch(t *testing.T) {
+	_, err := ParseBatch([]byte(`{"fn":"addUser","user":"ann"}` + "\n" + `{"fn":"decideByUser","user":"ann","operation":"open"}`))
+	refused := Refusal{}
+	if !errors.As(err, &refused) || refused.Why != "object is missing, and has to be a text" {
+		t.Errorf("%q, %v", refused.Why, err)
+	}
+}
+
 // A refusal names the key that is wrong, or the limit.
 func TestWhy(t *testing.T) {
 	for line, why := range map[string]string{
-		`{"fn":"addUser","user":7}`:                                                           "user has to be a text",
-		`{"fn":"assignUser","user":"ann","Role":"clerk"}`:                                     "role has to be a text",
+		`{"fn":"addUser","user":7}`:                       "user has to be a text",
+		`{"fn":"assignUser","user":"ann","Role":"clerk"}`: "role is missing, and has to be a text: in \"Role\" the case differs",
+		`{"fn":"assignUser","user":"ann"}`:                "role is missing, and has to be a text",
+		`{"fn":"createDsdSet","set":"s","roles":["r"]}`:   "cardinality is missing, and has to be a number",
+		`{"user":"ann"}`:                                  "fn is missing, and has to be a text",
+		`{"fn":7}`:                                        "fn has to be a text",
+		`["addUser"]`:                                     "this is no object of JSON",
 		`{"fn":"createSession","user":"a","session":"s","roles":"r"}`:                         "roles has to be a list of texts",
 		`{"fn":"setSsdSetCardinality","set":"s","cardinality":"2"}`:                           "cardinality has to be a number",
 		`{"fn":"importAssignments","csv":"` + strings.Repeat("x", office.MaxLineBytes) + `"}`: "the request makes a line of more than 65536 bytes",

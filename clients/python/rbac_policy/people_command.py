@@ -1,0 +1,151 @@
+"""The command `rbac-people`."""
+
+import argparse
+import json
+import sys
+from collections import Counter
+from collections.abc import Sequence
+
+from .applying import agrees, is_needless, run as apply_to
+from .arguments import add_target, run, target_of
+from .model import Command, State, Stop, sentence, shown
+from .people import Changes, changes_of, needs_confirmation, read_people
+from .program import OK, memory_office
+from .target import Meter, Target, refusal_text
+
+_MOST_SHOWN = 40
+_STATUSES = """The status is 0 if all is done, or nothing differs; 1 if a plan has a difference, or a command was refused; 2 if nothing could
+be done. docs/POLICY.md describes the file."""
+
+
+def main(words: Sequence[str]) -> int:
+    """Does what a command line says, and returns the exit status."""
+    arguments = _parser().parse_args(words)
+    people = read_people(arguments.people)
+    for line, text in sorted(people.mistakes):
+        print(f"{arguments.people}:{line}: {text}", file=sys.stderr)
+    if people.mistakes:
+        raise Stop("the file has mistakes: nothing was done")
+    target, _ = target_of(arguments)
+    try:
+        found = target.read()
+        changes = changes_of(found, people.people, arguments.leavers)
+        refusals = _tried(found, changes)
+        return (
+            _apply(arguments, target, found, changes, refusals) if arguments.is_apply else _plan(arguments, changes, refusals)
+        )
+    finally:
+        target.close()
+
+
+def _parser() -> argparse.ArgumentParser:
+    parser = argparse.ArgumentParser("rbac-people", description="The people of an office from a file in CSV.", epilog=_STATUSES)
+    commands = parser.add_subparsers(required=True, metavar="COMMAND")
+    for name, what in (
+        ("plan", "shows what the people of a file would change"),
+        ("apply", "gives an office the people of a file, with their roles and locks"),
+    ):
+        command = commands.add_parser(name, help=what, description=f"{name} {what}.", epilog=_STATUSES)
+        command.set_defaults(is_apply=name == "apply")
+        command.add_argument("people", metavar="PEOPLE", help="a file in CSV with the columns user, roles and locked")
+        command.add_argument("--all", action="store_true", help="show all lines")
+        words = "what becomes of users who aren't in the file (keep)"
+        command.add_argument("--leavers", choices=("keep", "lock", "delete"), default="keep", help=words)
+        if name == "apply":
+            words = "how many users may be locked or deleted, if they are above 5 of 100"
+            command.add_argument("--confirm", type=int, metavar="NUMBER", help=words)
+            command.add_argument("--yes", action="store_true", help="do it without a question")
+        add_target(command)
+    return parser
+
+
+def _tried(found: State, changes: Changes) -> dict[int, dict[str, object]]:
+    """The refusals of the commands, by their places: the program does them over a copy of the office in memory."""
+    with memory_office(found) as office:
+        answers = office.do(changes.commands)
+    return {place: json.loads(answer) for place, answer in enumerate(answers) if not answer.startswith(OK)}
+
+
+def _plan(arguments: argparse.Namespace, changes: Changes, refusals: dict[int, dict[str, object]]) -> int:
+    """Shows what would be done."""
+    _show(arguments, changes, refusals)
+    for place, refusal in refusals.items():
+        _print_refusal(arguments.people, changes, place, refusal)
+    if arguments.leavers == "keep" and changes.absent:
+        print(f"Users who are not in the file, and stay: {len(changes.absent):,}")
+    return 1 if changes.commands else 0
+
+
+def _show(arguments: argparse.Namespace, changes: Changes, refusals: dict[int, dict[str, object]]) -> None:
+    if not changes.commands:
+        print("No difference.")
+        return
+    kinds = Counter(command["fn"] for place, command in enumerate(changes.commands) if place not in refusals)
+    print("Changes:", ", ".join(f"{count:,} {function}" for function, count in sorted(kinds.items())) or "none")
+    accepted = [sentence(command) for place, command in enumerate(changes.commands) if place not in refusals]
+    most = len(accepted) if arguments.all else _MOST_SHOWN
+    for text in accepted[:most]:
+        print(f"  {text}")
+    if len(accepted) > most:
+        print(f"  and {len(accepted) - most:,} more (--all shows them)")
+
+
+def _print_refusal(path: str, changes: Changes, place: int, refusal: dict[str, object]) -> None:
+    line = f":{changes.lines[place]}" if changes.lines[place] else ""
+    print(f"{path}{line}: refused: {refusal_text(changes.commands[place], refusal)}", file=sys.stderr)
+
+
+def _apply(
+    arguments: argparse.Namespace, target: Target, found: State, changes: Changes, refusals: dict[int, dict[str, object]]
+) -> int:
+    """Does what is accepted, and says what isn't."""
+    count = needs_confirmation(found, changes)
+    if count and arguments.confirm != count:
+        verb = {"lock": "locked", "delete": "deleted"}[arguments.leavers]
+        some = ", ".join(map(shown, changes.leavers[:5]))
+        raise Stop(
+            f"{count:,} of {len(found.users):,} users would be {verb} ({some}, ..): nothing was done. Use --confirm {count}"
+        )
+    _show(arguments, changes, refusals)
+    if not changes.commands:
+        return 0
+    if not arguments.yes:
+        for place, refusal in refusals.items():
+            _print_refusal(arguments.people, changes, place, refusal)
+        if not agrees():
+            print("Nothing was done.")
+            return 1
+    return _do(arguments, target, changes)
+
+
+def _do(arguments: argparse.Namespace, target: Target, changes: Changes) -> int:
+    refused, done = 0, 0
+    meter = Meter("changes", len(changes.commands))
+
+    def judge(command: Command, refusal: dict[str, object] | None) -> bool:
+        nonlocal refused, done
+        if refusal is not None and not is_needless(command, refusal):
+            _print_refusal(arguments.people, changes, done, refusal)
+            refused += 1
+        done += 1
+        meter(done)
+        return True
+
+    broken = apply_to(target, changes.commands, judge)
+    meter.end()
+    print(f"Done: {done - refused:,} changes. Refused: {refused:,}.")
+    if broken is not None:
+        print(
+            f"{broken}: {len(changes.commands) - done:,} changes are left. The same command line does the rest.",
+            file=sys.stderr,
+        )
+    return 1 if refused or broken is not None else 0
+
+
+def start() -> None:
+    """Runs the command line of this process."""
+    run(main, "rbac-people")
+
+
+if __name__ == "__main__":
+    start()

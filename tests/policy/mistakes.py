@@ -1,0 +1,214 @@
+"""Each mistake in a policy is found, all at once, with its line and the path of its key, and what is allowed there."""
+
+import pytest
+
+from .commands import ends, policy
+
+GOOD = """
+[objects]
+vault = ["open", "audit"]
+
+[roles.employee]
+
+[roles.teller]
+inherits = ["employee"]
+grants = { vault = ["open"] }
+
+[roles.auditor.grants]
+vault = ["audit"]
+
+[static.audit]
+roles = ["auditor", "teller"]
+cardinality = 2
+
+[users]
+ann = ["teller"]
+
+[[tests]]
+user = "ann"
+may = { vault = ["open"] }
+may_not = { vault = ["audit"] }
+"""
+
+# A text of the good policy, what is there instead, and the beginning of the only line that is printed then.
+MISTAKES = {
+    "an unknown key": (
+        "inherits =",
+        "inherit =",
+        "p.toml:8: roles.teller.inherit: unknown key; allowed here: inherits, grants",
+    ),
+    "an unknown section": (
+        "[static.audit]",
+        "[statics.audit]",
+        "p.toml:14: statics: unknown key; allowed here: objects, roles, ",
+    ),
+    "a cycle": (
+        "[roles.employee]",
+        '[roles.employee]\ninherits = ["teller"]',
+        "p.toml:9: roles.teller.inherits[0]: a role would inherit from itself: teller > employee > teller",
+    ),
+    "an unknown junior": (
+        '["employee"]',
+        '["employe"]',
+        "p.toml:8: roles.teller.inherits[0]: there is no role employe; is employee",
+    ),
+    "an unknown operation": (
+        '{ vault = ["open"] }\n\n',
+        '{ vault = ["opne"] }\n\n',
+        "p.toml:9: roles.teller.grants.vault[0]: the object vault has no operation opne; is open meant?",
+    ),
+    "an unknown object": (
+        '\nvault = ["audit"]',
+        '\nvalt = ["audit"]',
+        "p.toml:12: roles.auditor.grants.valt[0]: there is no object valt; is vault meant?",
+    ),
+    "a role twice": (
+        "[roles.auditor.grants]",
+        "[roles.teller]\n[roles.auditor.grants]",
+        "p.toml: Cannot declare ('roles', 'teller')",
+    ),
+    "a name twice in a list": (
+        '["open", "audit"]',
+        '["open", "open", "audit"]',
+        "p.toml:3: objects.vault[1]: open is in this list",
+    ),
+    "a name that is too long": (
+        "[roles.employee]",
+        f"[roles.employee]\n[roles.{'e' * 65}]",
+        f"p.toml:6: roles.{'e' * 65}: a name has",
+    ),
+    "a name with a control character": (
+        "[roles.employee]",
+        '[roles.employee]\n[roles."a\\tb"]',
+        'p.toml:6: roles."a\\tb": a name has no',
+    ),
+    "a text in place of a list": (
+        '["employee"]',
+        '"employee"',
+        "p.toml:8: roles.teller.inherits: this has to be a list of names",
+    ),
+    "a set of one role": (
+        '["auditor", "teller"]',
+        '["auditor"]',
+        "p.toml:16: static.audit.cardinality: a set needs at least 2 roles",
+    ),
+    "a cardinality that is too large": (
+        "cardinality = 2",
+        "cardinality = 3",
+        "p.toml:16: static.audit.cardinality: it has to be from 2",
+    ),
+    "a set without a cardinality": ("cardinality = 2\n", "", "p.toml:14: static.audit: the key cardinality is missing"),
+    "an unknown role in a set": (
+        '["auditor", "teller"]',
+        '["auditor", "tellers"]',
+        "p.toml:15: static.audit.roles: there is no role",
+    ),
+    "a set that the users violate": (
+        '["teller"]\n\n[[tests]]',
+        '["teller", "auditor"]\n\n[[tests]]',
+        "p.toml:19: users.ann[1]: ann would have too many roles of a set: the static set audit has auditor, teller, of which nobody",
+    ),
+    "a test of nobody": (
+        'user = "ann"\n',
+        "",
+        "p.toml:21: tests[0]: a test has either a user of the policy, at user, or a list",
+    ),
+    "a wrong type in a test": ("may = {", "may = 3 #", "p.toml:23: tests[0].may: this has to be a table of objects"),
+    "no TOML": ("[roles.teller]", "[roles.teller", "p.toml: Expected ']' at the end of a table declaration (at line 7"),
+}
+
+
+@pytest.mark.parametrize("what", MISTAKES)
+def check_mistake(bench, what):
+    """validate prints it, and nothing else; plan and apply do nothing."""
+    bench.write("good.toml", GOOD.encode())
+    ends(bench, "the good policy", policy(bench, "validate", "good.toml"), 0, "valid: 3 roles, 2 permissions, 1 users\n")
+    before, after, wanted = MISTAKES[what]
+    text = GOOD.replace(before, after, 1)
+    bench.same("the text occurs", text != GOOD, True)
+    bench.write("p.toml", text.encode())
+    done = policy(bench, "validate", "p.toml")
+    said = done.err.decode().splitlines()
+    bench.same("the status and the number of lines", (done.status, len(said), done.out), (1, 1, b""))
+    bench.same("the line", said[0][: len(wanted)] if said else "", wanted)
+    bench.ends(["init", "office"], makes=["office"])
+    for words in (["plan"], ["apply", "--yes"]):
+        done = policy(bench, words[0], "p.toml", "--file", "office", *words[1:])
+        ends(bench, words[0], done, 2, err=[wanted, "rbac-policy: the policy has mistakes: nothing was done\n"])
+
+
+def check_all_at_once(bench):
+    """Mistakes of several kinds in two files are all printed, in their order."""
+    bench.write("a.toml", b'[objects]\nsafe = ["open"]\n[roles.clerk]\ngrants = { safe = ["shut"] }\nage = 3\n')
+    bench.write(
+        "b.toml", b'[roles.clerk]\n[roles.boss]\ninherits = ["boss", "clark"]\n[static.one]\nroles = []\ncardinality = 2\n'
+    )
+    done = policy(bench, "validate", "a.toml", "b.toml")
+    wanted = [
+        "a.toml:4: roles.clerk.grants.safe[0]: the object safe has no operation shut",
+        "a.toml:5: roles.clerk.age: unknown key; allowed here: inherits, grants",
+        "b.toml:1: roles.clerk: a.toml has it too",
+        "b.toml:3: roles.boss.inherits[0]: a role would inherit from itself: boss > boss",
+        "b.toml:3: roles.boss.inherits[1]: there is no role clark; is clerk meant?",
+        "b.toml:6: static.one.cardinality: a set needs at least 2 roles, and this one has 0",
+    ]
+    bench.same("what is printed", (done.status, done.err.decode().splitlines()), (1, wanted))
+
+
+def check_limits(bench):
+    """More than a limit allows is one mistake for each kind, with the limit."""
+    roles = "".join(f"[roles.r{number}]\n" for number in range(1025))
+    objects = "".join(f"o{number} = []\n" for number in range(2001))
+    sets = "".join(f'[dynamic.s{number}]\nroles = ["r1", "r2"]\ncardinality = 2\n' for number in range(65))
+    some = ", ".join(f'"r{number}"' for number in range(33))
+    bench.write("p.toml", f"[objects]\n{objects}{roles}{sets}[static.all]\nroles = [{some}]\ncardinality = 2\n".encode())
+    done = policy(bench, "validate", "p.toml")
+    wanted = {
+        "p.toml:2003: roles: an office has at most 1,024 roles, and these are 1,025",
+        "p.toml:1: objects: an office has at most 2,000 objects, and these are 2,001",
+        "p.toml:3028: dynamic: an office has at most 64 dynamic sets, and these are 65",
+        "p.toml:3224: static.all.roles: a set has at most 32 roles, and this one has 33",
+    }
+    bench.same("what is printed", (done.status, set(done.err.decode().splitlines())), (1, wanted))
+
+
+def check_tests(bench):
+    """Tests pass, fail, and find names that nobody has, with their lines."""
+    bench.write("p.toml", GOOD.encode())
+    more = """
+[[tests]]
+user = "ann"
+may_not = { vault = ["open"] }
+[[tests]]
+roles = ["auditor", "teller"]
+refused_by = "audit"
+[[tests]]
+roles = ["teller"]
+refused_by = "audit"
+[[tests]]
+roles = ["auditor", "teller"]
+may = { vault = ["open"] }
+[[tests]]
+roles = ["teller"]
+session = ["employee"]
+may = { vault = ["open"] }
+[[tests]]
+roles = ["teller"]
+may = { safe = ["open"], vault = ["opem"] }
+[[tests]]
+user = "anne"
+"""
+    bench.write("tests.toml", more.encode())
+    ends(bench, "the policy's own tests", policy(bench, "test", "p.toml"), 0, "1 tests, all passed\n")
+    done = policy(bench, "test", "p.toml", "tests.toml")
+    wanted = [
+        "tests.toml:2: tests[0]: ann may open on vault",
+        "tests.toml:8: tests[2]: nothing is refused by the set audit",
+        "tests.toml:11: tests[3]: the roles or the session are refused: 24 StaticSeparation audit",
+        "tests.toml:14: tests[4]: a user with these roles may not open on vault",
+        "tests.toml:18: tests[5]: there is no object safe",
+        "tests.toml:18: tests[5]: the object vault has no operation opem; is open meant?",
+        "tests.toml:21: tests[6]: there is no user anne; is ann meant?",
+    ]
+    bench.same("what is printed", (done.status, done.err.decode().splitlines()), (1, wanted))
+    bench.same("the count", done.out, b"8 tests, 7 faults\n")

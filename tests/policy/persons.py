@@ -1,0 +1,101 @@
+"""People from CSV: files as spreadsheets write them, each mistake with its line, and what becomes of those who have left."""
+
+import pytest
+
+from .commands import ends, people, policy
+from .plans import good_office
+
+# Files that say the same.
+SAME = {
+    "commas": b"user,roles,locked\nann,auditor,\nbob,employee;teller,yes\n",
+    "CR LF, a byte order mark and semicolons": b'\xef\xbb\xbfuser;roles;locked\r\nann;auditor;\r\nbob;"employee;teller";yes\r\n',
+    "another order, more columns and spaces": b"Mail,Locked,Roles, User \nx,no,auditor,ann\ny, TRUE , employee ; teller ,bob\n\n",
+    "quotes": b'"user","roles","locked"\n"ann","auditor","0"\n"bob","employee;teller","1"\n',
+}
+
+COMMANDS = [
+    "  deassign the user ann from the role teller",
+    "  assign the user ann to the role auditor",
+    "  add the user bob",
+    "  lock the user bob",
+    "  assign the user bob to the role employee",
+    "  assign the user bob to the role teller",
+]
+
+
+@pytest.mark.parametrize("what", SAME)
+def check_forms(bench, what):
+    """Each form of a file is read alike, and done; afterwards nothing differs."""
+    good_office(bench)
+    bench.write("people.csv", SAME[what])
+    done = people(bench, "plan", "people.csv", "--file", "office")
+    bench.same("the plan", (done.status, done.out.decode().splitlines()[1:], done.err), (1, COMMANDS, b""))
+    ends(bench, "apply", people(bench, "apply", "people.csv", "--file", "office", "--yes"), 0, "Done: 6 changes. Refused: 0.\n")
+    pulled = policy(bench, "pull", "--users", "--file", "office").out.decode().partition("[users]\n")[2]
+    bench.same("the users", pulled, 'ann = ["auditor"]\nbob = { roles = ["employee", "teller"], locked = true }\n')
+    ends(bench, "again", people(bench, "apply", "people.csv", "--file", "office", "--yes"), 0, "No difference.\n")
+
+
+def check_columns(bench):
+    """Without the column roles no role changes, without the column locked no lock, and an empty cell leaves a lock."""
+    good_office(bench)
+    bench.write("people.csv", b"user\nann\nbob\n")
+    ends(bench, "users alone", people(bench, "apply", "people.csv", "--file", "office", "--yes"), 0, "Done: 1 changes.")
+    bench.write("people.csv", b"user,locked\nann,yes\nbob,\n")
+    ends(bench, "a lock", people(bench, "apply", "people.csv", "--file", "office", "--yes"), 0, "Done: 1 changes.")
+    bench.write("people.csv", b"user,locked\nann,\nbob,no\n")
+    ends(bench, "an empty cell", people(bench, "apply", "people.csv", "--file", "office", "--yes"), 0, "No difference.")
+    pulled = policy(bench, "pull", "--users", "--file", "office").out.decode().partition("[users]\n")[2]
+    bench.same("the users", pulled, 'ann = { roles = ["teller"], locked = true }\nbob = []\n')
+
+
+def check_mistakes(bench):
+    """All mistakes of a file are printed with their lines, and nothing is done."""
+    good_office(bench)
+    bench.write(
+        "people.csv",
+        b"user,roles,locked\nann,teller,maybe\n,teller,\nbob\n" + b"n" * 65 + b",teller,\ncat,teller,\ncat,,no\nok,,\n",
+    )
+    done = people(bench, "apply", "people.csv", "--file", "office", "--yes")
+    wanted = [
+        "people.csv:2: locked is maybe: it has to be yes or no, or empty to leave it as it is",
+        "people.csv:3: user: a name has 1 to 64 bytes, and this one has 0",
+        "people.csv:4: the line has 1 fields, and the first line has 3",
+        "people.csv:5: user: a name has 1 to 64 bytes, and this one has 65",
+        "people.csv:7: cat is in the file 2 times, first in line 6",
+        "rbac-people: the file has mistakes: nothing was done",
+    ]
+    bench.same("what is printed", (done.status, done.out, done.err.decode().splitlines()), (2, b"", wanted))
+    for text, said in (
+        (b"name,roles\nann,teller\n", "people.csv:1: the first line has no column user"),
+        (b"", "people.csv:1: the first line has no column user"),
+        (b"user,roles,roles\n", "people.csv:1: there are two columns roles"),
+        (b'user,roles\n"ann,teller\n', "people.csv:2: unexpected end of data"),
+        (b"user\nm\xe4x\n", "people.csv: it is not UTF-8"),
+    ):
+        bench.write("people.csv", text)
+        ends(bench, said, people(bench, "plan", "people.csv", "--file", "office"), 2, err=said)
+
+
+def check_leavers(bench):
+    """Who is missing in the file is kept, locked or deleted; many only if their number is confirmed."""
+    good_office(bench)
+    lines = [f"user {number}" for number in range(100)]
+    bench.write("people.csv", "\n".join(["user", "ann", *lines]).encode())
+    ends(bench, "all", people(bench, "apply", "people.csv", "--file", "office", "--yes"), 0)
+    bench.write("people.csv", "\n".join(["user", "ann", *lines[5:]]).encode())
+    done = people(bench, "plan", "people.csv", "--file", "office")
+    ends(bench, "kept", done, 0, ["No difference.", "Users who are not in the file, and stay: 5"])
+    done = people(bench, "apply", "people.csv", "--file", "office", "--yes", "--leavers", "lock")
+    ends(bench, "five of 101 are locked", done, 0, "Done: 5 changes. Refused: 0.\n")
+    bench.write("people.csv", "\n".join(["user", "ann", *lines[11:]]).encode())
+    words = ["apply", "people.csv", "--file", "office", "--yes", "--leavers", "lock"]
+    ends(
+        bench, "six more of 101", people(bench, *words), 2, err='6 of 101 users would be locked ("user 10", "user 5", "user 6"'
+    )
+    ends(bench, "another number", people(bench, *words, "--confirm", "5"), 2, err="nothing was done. Use --confirm 6")
+    ends(bench, "confirmed", people(bench, *words, "--confirm", "6"), 0, "Done: 6 changes. Refused: 0.\n")
+    words[-1] = "delete"
+    ends(bench, "deleted", people(bench, *words, "--confirm", "11"), 0, "Done: 11 changes. Refused: 0.\n")
+    pulled = policy(bench, "pull", "--users", "--file", "office").out.decode()
+    bench.same("the users that are left", pulled.count('"user '), 89)
