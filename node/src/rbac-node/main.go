@@ -9,6 +9,7 @@
 //	rbac-node record verify|show|access|export|head|cut --data FOLDER
 //	rbac-node record sign --url URL --key FILE --heads FILE
 //	rbac-node backup --office FILE|--data FOLDER FOLDER
+//	rbac-node setup [--dns NAME,..] OFFICE
 //	rbac-node health SOCKET
 //	rbac-node --version
 //	rbac-node --help
@@ -33,13 +34,14 @@ const version = "1.0.0"
 // mostMemory is from how much memory on garbage is collected more often.
 const mostMemory = 1 << 30
 
-var errUsage = errors.New("usage: rbac-node serve|adopt|callers|record|backup|health [options]; see rbac-node --help")
+var errUsage = errors.New("usage: rbac-node serve|setup|adopt|callers|record|backup|health [options]; see rbac-node --help")
 
 // help is what --help prints.
 const help = `rbac-node answers clients from an office.
 
   rbac-node serve --office FILE [options]        serves an office of this machine; it is made if it doesn't exist
   rbac-node serve --etcd URL,.. [options]        serves an office of several machines
+  rbac-node setup [options] OFFICE               makes the files of its callers, two tokens, a key and a certificate
   rbac-node adopt --etcd URL,.. [options] FILE   makes an office the beginning of one of several machines
   rbac-node callers FILE                         prints who may do what
   rbac-node callers --check [options]            checks the files of the callers
@@ -88,6 +90,10 @@ func run(words []string) error {
 	case "--help", "-help", "-h", "help":
 		fmt.Print(help)
 		return nil
+	}
+	if words[0] == "setup" {
+		syscall.Umask(0o077)
+		return setUp(words)
 	}
 	if words[0] == "record" || words[0] == "backup" {
 		syscall.Umask(0o077)

@@ -37,6 +37,15 @@ func IsOther(name string) bool {
 	return is
 }
 
+// Others returns the names of these operations in their order.
+func Others() (names []string) {
+	for name := range others {
+		names = append(names, name)
+	}
+	sort.Strings(names)
+	return names
+}
+
 // Keys returns the keys of a function or of such an operation, in their order.
 func Keys(name string) []string {
 	if called, known := functions[name]; known {
