@@ -88,7 +88,8 @@ def fill(disk):
 
 @pytest.mark.needs("mounts")
 def check_full_disk(bench):
-    """A node whose disk is full starts, answers questions, and does what is asked of others. Its entries wait until there is room."""
+    """A node whose disk is full starts, answers questions, and does what is asked of others. Its entries wait until there is room. If there
+    is none for the office either, it ends, and goes on later without a loss."""
     with Disks(bench.folder, build(bench.shared), every=EVERY) as cluster:
         data = Path(cluster.data("node1"))
         add_users(cluster, "before", EVERY + 10)
@@ -107,6 +108,10 @@ def check_full_disk(bench):
         bench.same("it says why", "full" in cluster.status(1).get("record", ""), True)
         metrics = cluster.get(1, "/metrics", 8081)[1].decode().splitlines()
         bench.judge("metrics", [one for one in ("rbac_node_record_failing 1", "rbac_node_snapshot_failing 1") if one not in metrics])
+        ended = cluster.nodes[1].ends
+        fill(cluster.disk("node", 1))
+        add_users(cluster, "without room", MEANWHILE)
+        cluster.until(lambda: cluster.nodes[1].ends > ended, "the node ends without room for the office")
         filler.unlink()
         cluster.until(lambda: same_head(cluster), "all have the same head")
         add_users(cluster, "after", EVERY)
