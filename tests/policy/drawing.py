@@ -113,6 +113,15 @@ def move_user(random, first, second):
     return first, second
 
 
+def forbid_session(random, first, second):
+    """Two states of which the second has a dynamic set that a session of the first violates."""
+    user, (one, other) = name(random, "user"), random.sample([f"r{number}" for number in range(MOST["role"])], 2)
+    both = [("addUser", user), ("addRole", one), ("addRole", other), ("assignUser", user, one), ("assignUser", user, other)]
+    first = tried(first, *both, ("unlockUserAccount", user), ("createSession", user, frozenset([one, other]), "both"))
+    second = tried(second, *both, ("unlockUserAccount", user), ("createDsdSet", "forbidding", frozenset([one, other]), 2))
+    return first, second
+
+
 def replace_roles(random, state):
     """The state with other roles in some sets, which somebody may have beside those that go."""
     for sort, sets in (("Ssd", state.static_sets), ("Dsd", state.dynamic_sets)):

@@ -14,7 +14,7 @@ from . import drawing, judging_plans
 from .commands import ends, people, policy
 from .conftest import OF_FRONT
 from .mistakes import GOOD
-from .pairs import make_office, rows_of
+from .pairs import draw_pair, make_office, rows_of
 from .plans import CHANGED
 
 pytestmark = pytest.mark.needs(*OF_FRONT)
@@ -28,8 +28,7 @@ def check_pairs(bench, seed):
     """Each of some plans turns the office of a front into another one; pull, plan and apply then find no difference."""
     for number in range(PAIRS):
         drawn = random.Random(f"{seed} {number}")
-        first = drawing.draw_state(drawn, 150)
-        second = drawing.draw_state(drawn, 60, first)
+        first, second = draw_pair(drawn, number)
         name = f"office {number}"
         path = make_office(bench, name, first)
         bench.write("second.toml", drawing.toml(second).encode())

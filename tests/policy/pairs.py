@@ -20,6 +20,7 @@ MET = [
     "sets made under a free name",
     "pairs with 64 sets",
     "sessions that end",
+    "sessions that are ended",
     "permissions that are away",
 ]
 
@@ -65,6 +66,8 @@ def draw_pair(random, number):
     second = drawing.draw_state(random, 30 if start else 250, start, 80 if has_many else 6)
     if number % 2:
         first, second = drawing.move_user(random, first, second)
+    if number % 5 == 2:
+        first, second = drawing.forbid_session(random, first, second)
     if number % 3 != 1:
         second = drawing.replace_roles(random, second)
     if number % 4 < 2:
@@ -132,6 +135,7 @@ def turn(bench, what, first, second, met):
     met["sets made under a free name"] += sum(is_free(command) for command in plan.commands)
     met["pairs with 64 sets"] += max(len(first.static_sets), len(first.dynamic_sets)) == 64
     met["sessions that end"] += len(effects.ended)
+    met["sessions that are ended"] += sum(command["fn"] == "deleteSession" for command in plan.commands)
 
 
 def is_free(command):

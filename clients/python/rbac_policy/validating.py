@@ -54,12 +54,12 @@ def reasons(state: State, command: Command, path: Path, refusal: dict[str, objec
         yield path, f"the object {shown(command['object'])} has {absent('operation', command['operation'], known, 'no')}"
     elif code == 16:
         yield path, f"a role would inherit from itself: {cycle_text(state, command['asc'], command['desc'])}"
-    elif code == 23:
+    elif code == 23 and "roles" in command:
         count = len(set(command["roles"]))
         yield (*path, "cardinality"), f"it has to be from 2 to the number of roles, which is {count}" if count > 1 else (
             f"a set needs at least 2 roles, and this one has {count}"
         )
-    elif code == 32:
+    elif code == 32 and "roles" in command:
         yield (*path, "roles"), f"a set has at most {LIMITS['member']} roles, and this one has {len(set(command['roles']))}"
     elif code in (24, 25):
         yield path, violation_text(state, command, str(refusal["set"]), "static" if code == 24 else "dynamic")
