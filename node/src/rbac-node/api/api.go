@@ -60,6 +60,8 @@ func (p Point) SetHead(head http.Header) {
 	}
 	switch {
 	case p.Newest > 0:
+		// The age is that at this time or a later one, also if the process is paused before the answer is written.
+		head.Set("Date", time.Now().UTC().Format(http.TimeFormat))
 		head.Set("Office-Age", strconv.FormatFloat(boottime.Since(p.Newest).Seconds(), 'f', 3, 64))
 	case p.Revision > 0:
 		head.Set("Office-Place", strconv.Itoa(p.Place))

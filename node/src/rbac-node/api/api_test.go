@@ -72,6 +72,26 @@ func TestAge(t *testing.T) {
 	}
 }
 
+// The time of an answer is not after that of its age, if the process is paused before the answer is written.
+func TestPausedAnswer(t *testing.T) {
+	var reckoned time.Time
+	server := httptest.NewServer(http.HandlerFunc(func(w http.ResponseWriter, _ *http.Request) {
+		Point{Revision: 1, Newest: boottime.Now()}.SetHead(w.Header())
+		reckoned = time.Now()
+		time.Sleep(1100 * time.Millisecond) // The time has whole seconds.
+	}))
+	defer server.Close()
+	reply, err := server.Client().Get(server.URL)
+	if err != nil {
+		t.Fatal(err)
+	}
+	defer reply.Body.Close()
+	at, err := http.ParseTime(reply.Header.Get("Date"))
+	if err != nil || at.After(reckoned) {
+		t.Errorf("%v is after %v, %v", at, reckoned, err)
+	}
+}
+
 // Keys that the office ignores don't get into the log.
 func TestIgnoredKeys(t *testing.T) {
 	office := &fakeOffice{}
