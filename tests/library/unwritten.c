@@ -66,7 +66,10 @@ static const char *const lines[] = {
     "{\"fn\":\"createSession\",\"user\":\"ann\",\"session\":\"s1\",\"roles\":[\"boss\"]}",
     "{\"fn\":\"createSession\",\"user\":\"bob\",\"session\":\"s2\",\"roles\":[]}",
     "{\"fn\":\"createDsdSet\",\"set\":\"d\",\"roles\":[\"clerk\",\"auditor\"],\"cardinality\":2}",
-    "{\"fn\":\"addInheritance\",\"asc\":\"boss\",\"desc\":\"auditor\"}",
+    "{\"fn\":\"addRole\",\"role\":\"chief\"}",
+    "{\"fn\":\"addInheritance\",\"asc\":\"chief\",\"desc\":\"clerk\"}",
+    "{\"fn\":\"addInheritance\",\"asc\":\"chief\",\"desc\":\"auditor\"}",
+    "{\"fn\":\"assignUser\",\"user\":\"ann\",\"role\":\"chief\"}",
     "{\"fn\":\"lockUserAccount\",\"user\":\"bob\"}",
 };
 enum { LINES = sizeof lines / sizeof *lines };
