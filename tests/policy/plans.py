@@ -86,6 +86,26 @@ def check_saved_plan(bench):
     ends(bench, "no plan", policy(bench, *words), 2, err="plan: this is no plan that rbac-policy has saved")
 
 
+def check_sessions(bench):
+    """The name of a session is shown nowhere: neither in a plan that ends it nor in a plan that is saved, only its digest."""
+    from rbac_client import session_digest
+
+    good_office(bench)
+    name = "0123456789abcdef0123456789abcdef"
+    bench.run(["replay", "office"], b'{"fn":"createSession","user":"ann","roles":["teller"],"session":"%s"}\n' % name.encode())
+    bench.write("less.toml", GOOD.replace('ann = ["teller"]', 'ann = ["employee"]').partition("[[tests]]")[0].encode())
+    bench.write("dynamic.toml", (GOOD + '[dynamic.one]\nroles = ["employee", "teller"]\ncardinality = 2\n').encode())
+    said = b""
+    for path in ("dynamic.toml", "less.toml"):
+        done = policy(bench, "plan", path, "--file", "office", "--save", "plan.json")
+        ends(bench, f"plan {path}", done, 1, f"Sessions that end:\n  {session_digest(name)} of ann\n")
+        said += done.out + done.err + (bench.folder / "plan.json").read_bytes()
+    ends(
+        bench, "apply", policy(bench, "apply", "dynamic.toml", "--file", "office", "--yes"), 0, "end a session of the user ann"
+    )
+    bench.same("the name is shown", name.encode() in said, False)
+
+
 def check_users_stay(bench):
     """A policy without users leaves them as they are; a set that they violate is refused with who violates it, and nothing is done."""
     good_office(bench)
@@ -196,8 +216,9 @@ def check_killed(bench):
     bench.ends(["init", "office"], makes=["office"])
     words = [PYTHON, BIN / "rbac-policy", "apply", "many.toml", "--file", "office", "--yes"]
     with subprocess.Popen(words, cwd=bench.folder, stdout=subprocess.PIPE) as child:
-        child.stdout.readline()
-        time.sleep(0.05)
+        log = bench.folder / "office-wal"
+        while child.poll() is None and not (log.exists() and log.stat().st_size > 200_000):
+            time.sleep(0.002)
         child.send_signal(signal.SIGKILL)
     # The program that it had started ends when its input does.
     for _ in range(100):

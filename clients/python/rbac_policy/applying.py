@@ -46,10 +46,7 @@ def show(plan: Plan, effects: Effects, names_sessions: bool, is_whole: bool) -> 
     def session_text(name: str) -> str:
         return session_digest(name) if names_sessions else name
 
-    def command_text(command: Command) -> str:
-        return sentence({**command, "session": session_text(command["session"])} if "session" in command else command)
-
-    _show("Changes:", map(command_text, plan.commands), is_whole)
+    _show("Changes:", map(sentence, plan.commands), is_whole)
     _show("Users who gain permissions:", _permissions(effects.gained), is_whole)
     _show("Users who lose permissions:", _permissions(effects.lost), is_whole)
     _show("Permissions that users have before and after, but not all the time:", _permissions(effects.away), is_whole)
@@ -118,6 +115,7 @@ def do(plan: Plan, target: Target) -> int:
     """Does a plan until a command is refused, and returns the exit status."""
     done = 0
     refused: list[str] = []
+    sys.stdout.flush()
     meter = Meter("changes", len(plan.commands))
 
     def judge(command: Command, refusal: dict[str, object] | None) -> bool:

@@ -4,7 +4,7 @@ import json
 from collections.abc import Iterable
 from dataclasses import dataclass, field
 
-from .model import Command, State
+from .model import Command
 from .planning import Plan
 from .program import OK, Replay, memory_office
 
@@ -31,6 +31,8 @@ class Effects:
 def effects_of(plan: Plan) -> Effects:
     """Does a plan over a copy of the office in memory, and asks who may do what before, in between and after."""
     effects = Effects()
+    if not plan.commands:
+        return effects
     samples = _samples(plan)
     found, wanted = plan.found.users, plan.wanted.users
     with memory_office(plan.found) as office:
@@ -90,8 +92,3 @@ def _do(office: Replay, commands: list[Command], effects: Effects) -> None:
             refusal = json.loads(answer)
             if not (command["fn"] == "deleteSession" and refusal["code"] == 26):
                 effects.refused.append((command, refusal))
-
-
-def is_same(first: State, second: State) -> bool:
-    """Whether two states differ in nothing but sessions."""
-    return first.digest() == second.digest()

@@ -128,7 +128,7 @@ def line_of(command: Command) -> bytes:
 
 
 def sentence(command: Command) -> str:
-    """A command in words. A name is in double quotes if a reader could miss where it ends."""
+    """A command in words, without the name of a session. A name is in double quotes if a reader could miss where it ends."""
     values = {key: shown(value) for key, value in command.items() if isinstance(value, str)}
     if "roles" in command:
         values["roles"] = ", ".join(map(shown, command["roles"])) or "no role"
@@ -165,7 +165,7 @@ _SENTENCES = {
     "deleteInheritance": "let the role {asc} no longer inherit from {desc}",
     "lockUserAccount": "lock the user {user}",
     "unlockUserAccount": "unlock the user {user}",
-    "deleteSession": "end the session {session} of the user {user}",
+    "deleteSession": "end a session of the user {user}",
 } | {
     function: text.replace("SORT", sort)
     for sort, functions in SET_FUNCTIONS.items()

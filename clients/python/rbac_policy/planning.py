@@ -33,6 +33,8 @@ def make_plan(found: State, wanted: State) -> Plan:
         kept = {pair for pair in found.assignments if pair[1] in wanted.roles}
         wanted = wanted.but(users=dict(found.users), assignments=kept, has_users=True)
     plan = Plan(found, wanted)
+    if found.digest() == wanted.digest():
+        return plan
     start = _begin(plan)
     early = Early(start, wanted)
     late: dict[str, list[Command]] = {}

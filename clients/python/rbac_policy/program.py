@@ -99,7 +99,7 @@ def memory_office(state: State) -> Replay:
     for command, answer in zip(commands, replay.do(commands)):
         if not answer.startswith(OK):
             replay.close()
-            raise Stop(f"the office has {line_of(command).decode().strip()}, which the program refuses with {answer.decode()}")
+            raise Stop(f"the program refuses what was read of the office: {command['fn']}: {ascii(answer)[2:-1]}")
     return replay
 
 

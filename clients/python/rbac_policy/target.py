@@ -6,7 +6,7 @@ import time
 from collections.abc import Callable, Sequence
 from typing import Protocol
 
-from .model import Command, State, sentence
+from .model import Command, State, sentence, shown
 
 # What is called with how many commands are done.
 Progress = Callable[[int], None]
@@ -41,7 +41,7 @@ class Target(Protocol):
 
 def refusal_text(command: Command, refusal: dict[str, object]) -> str:
     """A command and its refusal in words."""
-    details = [f"{key} {value}" for key, value in refusal.items() if key not in ("code", "error")]
+    details = [f"{key} {shown(str(value))}" for key, value in refusal.items() if key not in ("code", "error")]
     return f"{sentence(command)}: {refusal['code']} {' '.join([str(refusal['error']), *details])}"
 
 

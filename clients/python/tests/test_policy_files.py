@@ -60,6 +60,11 @@ def test_odd_names(tmp_path):
     assert write_policy(policy.state) == path.read_text(encoding="utf-8")
 
 
+def test_escaped():
+    """No key of a message has a sign that a terminal could obey."""
+    assert path_text(("roles", "a\x1b[31m\u009b\u202e\U000e0001é")) == 'roles."a\\u001b[31m\\u009b\\u202e\\U000e0001é"'
+
+
 def test_lines():
     lines = Lines('[roles."a b"] # one\n\n[roles.c.grants]\n"x y" = [\n  "open",\n]\n[[tests]]\n[[tests]]\nmay = {}\n')
     wanted = {
