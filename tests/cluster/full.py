@@ -70,7 +70,7 @@ def check_bytes(bench):
 
 
 # Commands from one snapshot to the next, and how many come while the disk is full.
-EVERY, MEANWHILE = 50, 70
+EVERY, MEANWHILE = 50, 300
 
 
 def fill(disk):
@@ -102,7 +102,9 @@ def check_full_disk(bench):
             cluster.nodes[1].process.wait()
             cluster.until(lambda: cluster.status(1).get("ready"), f"the node starts, turn {turn}")
             bench.same(f"turn {turn}: what was kept is free", reserve.exists(), False)
+            ended = cluster.nodes[1].ends
             add_users(cluster, f"turn{turn}-", MEANWHILE)
+            bench.same(f"turn {turn}: the node goes on", cluster.nodes[1].ends, ended)
             judge_answers(bench, cluster, f"turn{turn}-{MEANWHILE - 1}")
         bench.same("entries wait", len(entries_of(data)) < len(entries_of(cluster.data("node0"))) - MEANWHILE, True)
         bench.same("it says why", "full" in cluster.status(1).get("record", ""), True)

@@ -7,6 +7,7 @@ import (
 	"crypto/sha256"
 	"encoding/hex"
 	"encoding/json"
+	"errors"
 	"os"
 	"path/filepath"
 	"strings"
@@ -94,11 +95,11 @@ func TestFollowBounded(t *testing.T) {
 	}
 }
 
-// tryReserve makes the next write try to make the room that is kept.
-func (m *machine) tryReserve() {
+// tryReserve makes the next write try to make the room that is kept, if so much is free besides.
+func (m *machine) tryReserve(besides int64) {
 	m.writing.Lock()
 	defer m.writing.Unlock()
-	m.hasReserve, m.triedReserve = false, time.Time{}
+	m.hasReserve, m.triedReserve, m.besides = false, time.Time{}, besides
 }
 
 // While there is no room for what is kept for a full disk, entries wait and no snapshot is made. A start frees what is kept.
@@ -113,7 +114,7 @@ func TestFollowReserve(t *testing.T) {
 		t.Fatalf("%v, %v", about, err)
 	}
 	// A start on a full disk has freed it, and something is in the way of another one.
-	m.tryReserve()
+	m.tryReserve(disk.Reserve)
 	if err := os.Remove(reserve); err != nil {
 		t.Fatal(err)
 	}
@@ -130,7 +131,12 @@ func TestFollowReserve(t *testing.T) {
 	if err := os.RemoveAll(reserve + ".making"); err != nil {
 		t.Fatal(err)
 	}
-	m.tryReserve()
+	// With less room than the office may need besides, it isn't tried.
+	m.tryReserve(1 << 60)
+	if err := m.Keep(context.Background(), m.Added()); !errors.Is(err, errNoRoom) || m.Failure() != nil {
+		t.Errorf("%v, %v", err, m.Failure())
+	}
+	m.tryReserve(disk.Reserve)
 	if err := m.Keep(context.Background(), m.Added()); err != nil || m.Why() != "" || !strings.Contains(m.entries(), "addRole") {
 		t.Errorf("%v, %q, it has\n%s", err, m.Why(), m.entries())
 	}

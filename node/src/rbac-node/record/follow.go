@@ -15,6 +15,7 @@ import (
 	sqlite3 "github.com/mattn/go-sqlite3"
 
 	"rbac-node/api"
+	"rbac-node/disk"
 	"rbac-node/recorded"
 )
 
@@ -65,7 +66,8 @@ func NewFollower(options Options) *Follower {
 	f := &Follower{
 		Record: newRecord(options), wake: make(chan struct{}, 1), failed: make(chan struct{}), ended: make(chan struct{}),
 	}
-	f.keepsReserve = true
+	// What the replay needs for the commands of all nodes must not become a part of it.
+	f.keepsReserve, f.besides = true, disk.Reserve
 	if err := freeReserve(f.dir); err != nil {
 		f.Log.Error("the room that is kept for a full disk can't be freed", "why", err)
 	}

@@ -22,7 +22,7 @@ const (
 )
 
 // errNoRoom says why no command is recorded.
-var errNoRoom = errors.New("the disk is full: a command needs 16 MiB of free room, which a start needs too")
+var errNoRoom = errors.New("the disk is full: too little is free besides the 16 MiB that are kept for a start")
 
 // FreeReserve deletes the reserve of the record of an office if its disk is full. The office is locked.
 func FreeReserve(office string) error { return freeReserve(DirOf(office)) }
@@ -38,11 +38,15 @@ func freeReserve(dir string) error {
 	return nil
 }
 
-// makeReserve makes the reserve if it isn't there. A disk without room for it is full.
-func makeReserve(dir string) error {
+// makeReserve makes the reserve if it isn't there, and if so much room is left besides. A disk without that is full. It isn't tried
+// then, since an attempt takes up what is free for a moment.
+func makeReserve(dir string, besides int64) error {
 	path := filepath.Join(dir, reserveName)
 	if about, err := os.Stat(path); err == nil && about.Size() == disk.Reserve {
 		return nil
+	}
+	if free, err := disk.Free(dir); err == nil && free < disk.Reserve+besides {
+		return errNoRoom
 	}
 	making := path + ".making"
 	file, err := os.OpenFile(making, os.O_WRONLY|os.O_CREATE|os.O_TRUNC, 0o600)
@@ -90,7 +94,7 @@ func (r *Record) keepReserve() error {
 		return errNoRoom
 	}
 	r.triedReserve = time.Now()
-	if err := makeReserve(r.dir); err != nil {
+	if err := makeReserve(r.dir, r.besides); err != nil {
 		return err
 	}
 	r.hasReserve = true
