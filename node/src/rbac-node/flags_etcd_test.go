@@ -28,6 +28,7 @@ func TestClusterCheck(t *testing.T) {
 		{"snapshots after nothing", "--data d --every 0", "--every"},
 		{"snapshots after no bytes", "--data d --every-bytes 0", "--every-bytes"},
 		{"a replay that may never wait", "--data d --hang-timeout 0s", "--hang-timeout"},
+		{"parts of a record that end before they begin", "--data d --record-part -1", "--record-part"},
 	} {
 		t.Run(one.name, func(t *testing.T) {
 			common, s := &settings{}, &clusterSettings{}
