@@ -15,13 +15,13 @@ CHAIN, GRANTED = 500, 480
 
 
 def with_sets(count: int, members: int) -> Iterator[Command]:
-    """Yields the commands of the usual office and of some dynamic sets, whose cardinality is 2. None of its roles violates one alone."""
-    policy = Policy()
-    yield from policy.commands()
-    leaves = range(policy.roles // 2, policy.roles)
+    """Yields the commands of the usual office and of some dynamic sets, which no session violates: of each it has one role at most."""
+    yield from Policy().commands()
+    others = [f"x{number}" for number in range(members - 1)]
+    for role in others:
+        yield "addRole", {"role": role}
     for number in range(count):
-        roles = [f"r{leaves[(number * 7 + at * 11) % len(leaves)]}" for at in range(members)]
-        yield "createDsdSet", {"set": f"d{number}", "roles": sorted(set(roles)), "cardinality": members}
+        yield "createDsdSet", {"set": f"d{number}", "roles": sorted([f"r{99 - number % 50}", *others]), "cardinality": 2}
 
 
 def worst() -> Iterator[Command]:
