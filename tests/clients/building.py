@@ -141,7 +141,15 @@ def check_python_form(bench):
     for words in (["rbac_client"], [ROOT / "bin/clients"], ["--python-version", "3.11", "rbac_policy"]):
         found = run("mypy", "--strict", "--cache-dir", bench.path("types"), *words, cwd=PYTHON)
         bench.same("what mypy finds", (found[0], found[1].partition(":")[0]), (0, "Success"))
-    sources = [PYTHON / "rbac_client", PYTHON / "rbac_policy", TESTS / "policy", PYTHON / "tests", ROOT / "bin/clients", TESTS / "clients", ROOT / "examples/web/app.py"]
+    sources = [
+        PYTHON / "rbac_client",
+        PYTHON / "rbac_policy",
+        TESTS / "policy",
+        PYTHON / "tests",
+        ROOT / "bin/clients",
+        TESTS / "clients",
+        ROOT / "examples/web/app.py",
+    ]
     bench.same("what black would change", run("black", "-q", "--check", "-l", WIDTH, *sources), (0, ""))
 
 
