@@ -141,7 +141,15 @@ def check_python_form(bench):
     for words in (["rbac_client"], [ROOT / "bin/clients"], ["--python-version", "3.11", "rbac_policy"]):
         found = run("mypy", "--strict", "--cache-dir", bench.path("types"), *words, cwd=PYTHON)
         bench.same("what mypy finds", (found[0], found[1].partition(":")[0]), (0, "Success"))
-    sources = [PYTHON / "rbac_client", PYTHON / "rbac_policy", TESTS / "policy", PYTHON / "tests", ROOT / "bin/clients", TESTS / "clients", ROOT / "examples/web/app.py"]
+    sources = [
+        PYTHON / "rbac_client",
+        PYTHON / "rbac_policy",
+        TESTS / "policy",
+        PYTHON / "tests",
+        ROOT / "bin/clients",
+        TESTS / "clients",
+        ROOT / "examples/web/app.py",
+    ]
     bench.same("what black would change", run("black", "-q", "--check", "-l", WIDTH, *sources), (0, ""))
 
 
@@ -178,6 +186,8 @@ def check_python_installed(bench):
     (folder / "asking.py").write_text(ASKING["python"], encoding="utf-8")
     clean = {name: value for name, value in os.environ.items() if name != "PYTHONPATH"}
     asked(bench, "the installed client in Python", own, "asking.py", cwd=folder, env=clean)
+    for name in ("rbac-policy", "rbac-people"):
+        bench.same(f"the first word of {name}", run(folder / "new/bin" / name, "--help", env=clean)[1][:6], "usage:")
     found = run("mypy", "--strict", "--python-executable", own, "--cache-dir", "types", "asking.py", cwd=folder, env=clean)
     bench.same("what mypy finds in a program that uses it", (found[0], found[1].partition(":")[0]), (0, "Success"))
 

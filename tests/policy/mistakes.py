@@ -169,7 +169,8 @@ def check_limits(bench):
         "p.toml:3028: dynamic: an office has at most 64 dynamic sets, and these are 65",
         "p.toml:3224: static.all.roles: a set has at most 32 roles, and this one has 33",
     }
-    bench.same("what is printed", (done.status, set(done.err.decode().splitlines())), (1, wanted))
+    said = {line for line in done.err.decode().splitlines() if not line.startswith("answers of the program: ")}
+    bench.same("what is printed", (done.status, said), (1, wanted))
 
 
 def check_tests(bench):

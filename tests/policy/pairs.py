@@ -119,7 +119,7 @@ def turn(bench, what, first, second, met):
     compare_effects(bench, what, effects, first, second)
     with redirect_stdout(StringIO()) as out, redirect_stderr(StringIO()) as err:
         status = do(plan, target)
-        said = [line for line in err.getvalue().splitlines() if not line.startswith("changes: ")]
+        said = [line for line in err.getvalue().splitlines() if not line.startswith(("changes: ", "answers "))]
         bench.same(f"{what}: the status of apply", (status, said), (0, []))
         status = main(["plan", text, "--file", path])
         bench.same(f"{what}: plan afterwards", (status, out.getvalue().splitlines()[-1]), (0, "No difference."))

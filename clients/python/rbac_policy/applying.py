@@ -8,11 +8,12 @@ from pathlib import Path
 from rbac_client._values import session_digest
 
 from .effects import Effects, Permission, effects_of
+from .meter import Meter
 from .mistakes import Mistake
 from .model import SET_FUNCTIONS, Command, Stop, listed, sentence, shown
 from .planning import Plan, make_plan
 from .reading import Policy
-from .target import Broken, Meter, Target, refusal_text
+from .target import Broken, Target, refusal_text
 from .validating import reasons
 
 # How many lines of a kind are shown unless all are wanted.

@@ -8,10 +8,11 @@ from collections.abc import Sequence
 
 from .applying import agrees, is_needless, run as apply_to
 from .arguments import add_target, run, target_of
+from .meter import Meter
 from .model import Command, State, Stop, sentence, shown
 from .people import Changes, changes_of, needs_confirmation, read_people
 from .program import OK, memory_office
-from .target import Meter, Target, refusal_text
+from .target import Target, refusal_text
 
 _MOST_SHOWN = 40
 _STATUSES = """The status is 0 if all is done, or nothing differs; 1 if a plan has a difference, or a command was refused; 2 if nothing could

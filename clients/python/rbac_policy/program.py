@@ -8,9 +8,13 @@ from collections.abc import Iterable, Sequence
 from pathlib import Path
 from types import TracebackType
 
+from .meter import Meter
 from .model import Command, State, Stop, line_of
 
 OK = b'{"ok":true'
+
+# After how many answers it is said how far it is.
+_MANY = 1_000
 
 # How many bytes a pipe holds at least, on Linux.
 _OF_PIPE = 60_000
@@ -51,11 +55,15 @@ class Replay:
         else:
             writer.start()
         answers = []
+        meter = Meter("answers of the program", len(lines))
         for _ in lines:
             answer = self._child.stdout.readline()
             if not answer.endswith(b"\n"):
                 raise Stop(f"the program ended: {self._said()}")
             answers.append(answer[:-1])
+            if len(answers) % _MANY == 0:
+                meter(len(answers))
+        meter.end()
         if writer.ident is not None:
             writer.join()
         return answers

@@ -1,15 +1,10 @@
 """What a plan is made for: an office behind a front, behind `rbac serve`, or in a file."""
 
 import json
-import sys
-import time
 from collections.abc import Callable, Sequence
 from typing import Protocol
 
 from .model import Command, State, sentence, shown
-
-# What is called with how many commands are done.
-Progress = Callable[[int], None]
 
 # Whether to go on after a refusal, which is given with its command; it is also called for commands that are accepted, with None.
 Judge = Callable[[Command, dict[str, object] | None], bool]
@@ -43,26 +38,6 @@ def refusal_text(command: Command, refusal: dict[str, object]) -> str:
     """A command and its refusal in words."""
     details = [f"{key} {shown(str(value))}" for key, value in refusal.items() if key not in ("code", "error")]
     return f"{sentence(command)}: {refusal['code']} {' '.join([str(refusal['error']), *details])}"
-
-
-class Meter:
-    """A line on standard error that says how far something is, if it takes over a second."""
-
-    def __init__(self, what: str, total: int) -> None:
-        self._what, self._total, self._is_terminal = what, total, sys.stderr.isatty()
-        self._next, self._is_shown = time.monotonic() + 1, False
-
-    def __call__(self, count: int) -> None:
-        if time.monotonic() < self._next:
-            return
-        self._next, self._is_shown = time.monotonic() + 1, True
-        end = "\r" if self._is_terminal else "\n"
-        print(f"{self._what}: {count:,} of {self._total:,}", end=end, file=sys.stderr, flush=True)
-
-    def end(self) -> None:
-        """Ends the line."""
-        if self._is_shown and self._is_terminal:
-            print(file=sys.stderr)
 
 
 def refusal_of(answer: bytes) -> dict[str, object]:

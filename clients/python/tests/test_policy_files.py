@@ -7,6 +7,7 @@ import pytest
 if sys.version_info < (3, 11):
     pytest.skip("rbac_policy needs Python 3.11", allow_module_level=True)
 
+from rbac_policy.meter import Meter
 from rbac_policy.mistakes import Lines, path_text
 from rbac_policy.model import DutySet, State, shown
 from rbac_policy.reading import read_policy
@@ -58,6 +59,16 @@ def test_odd_names(tmp_path):
     assert policy.mistakes == []
     assert policy.state == odd_state()
     assert write_policy(policy.state) == path.read_text(encoding="utf-8")
+
+
+def test_meter(capsys, monkeypatch):
+    """What takes over a second says how far it is, once a second."""
+    moments = iter([0.0, 0.5, 1.2, 1.2, 1.9, 2.5, 2.5])
+    monkeypatch.setattr("time.monotonic", lambda: next(moments))
+    meter = Meter("changes", 4000)
+    for count in (1000, 2000, 3000, 3500):
+        meter(count)
+    assert capsys.readouterr().err == "changes: 2,000 of 4,000\nchanges: 3,500 of 4,000\n"
 
 
 def test_escaped():
