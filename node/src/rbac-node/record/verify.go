@@ -52,7 +52,7 @@ func (t *Tool) verify(ctx context.Context, heads []Head, at *stop) error {
 	if err != nil {
 		return err
 	}
-	scratch, end, err := newSharedScratch(t.Office+t.Data+t.Part, t.dir(), forVerify)
+	scratch, end, err := newScratch(t.Office+t.Data+t.Part, t.dir(), forVerify)
 	if err != nil {
 		return err
 	}
