@@ -154,7 +154,7 @@ def check_left_copies(bench):
     front = made(bench)
     part = hashlib.sha256(front.office.encode()).hexdigest()[:16]
     for purpose in ("start", "base", "part"):
-        for path in (f"/dev/shm/rbac-record-{os.getuid()}-{part}-{purpose}", path_of(front.office, f"scratch-{purpose}")):
+        for path in (f"/dev/shm/rbac-record-{os.getuid()}-{part}-{purpose}-1", path_of(front.office, f"scratch-{purpose}-2")):
             os.mkdir(path)
             shutil.copy(front.office, path)
     with front:

@@ -59,7 +59,7 @@ func (t *Tool) Access(ctx context.Context, query AccessQuery) error {
 	if err != nil {
 		return err
 	}
-	scratch, end, err := newSharedScratch(t.Office+t.Data+t.Part, t.dir(), forAccess)
+	scratch, end, err := newScratch(t.Office+t.Data+t.Part, t.dir(), forAccess)
 	if err != nil {
 		return err
 	}

@@ -150,11 +150,11 @@ func (r *Record) adopt(ctx context.Context, tx *sql.Tx, p part, copied string) e
 
 // changed compares a mapped copy of the office with what the entries that have an answer give, if the program can do them again.
 func (r *Record) changed(ctx context.Context, copied string) (*changes, error) {
-	scratch, err := newScratch(r.Office, r.dir, forStart)
+	scratch, end, err := newScratch(r.Office, r.dir, forStart)
 	if err != nil {
 		return nil, err
 	}
-	defer os.RemoveAll(scratch)
+	defer end()
 	file := filepath.Join(scratch, rerunFile)
 	n, err := startOf(ctx, r.db, r.dir, file, r.head.n)
 	if errors.Is(err, errNoStart) {

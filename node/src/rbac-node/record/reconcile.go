@@ -24,11 +24,11 @@ func (r *Record) Before(ctx context.Context) error {
 		return err
 	}
 	r.hasReserve, r.triedReserve = false, time.Time{} // The next command makes it again, once a replay has opened the office.
-	scratch, err := newScratch(r.Office, r.dir, forStart)
+	scratch, end, err := newScratch(r.Office, r.dir, forStart)
 	if err != nil {
 		return fmt.Errorf("record: %w", err)
 	}
-	defer os.RemoveAll(scratch)
+	defer end()
 	if err := r.reconcile(ctx, scratch); err != nil {
 		return fmt.Errorf("record: %w", err)
 	}

@@ -411,7 +411,7 @@ func (r *Record) IsDue() bool {
 // Rest implements feed.Keeper. No command is at the replay, so the office doesn't change while it is copied. The rest is done
 // while commands go on.
 func (r *Record) Rest() {
-	scratch, err := newScratch(r.Office, r.dir, forBase)
+	scratch, end, err := newScratch(r.Office, r.dir, forBase)
 	if err == nil {
 		err = copyOffice(r.Office, filepath.Join(scratch, "office"))
 	}
@@ -422,6 +422,7 @@ func (r *Record) Rest() {
 	r.making.Add(1)
 	go func() {
 		defer r.making.Done()
+		defer end()
 		if err == nil {
 			err = r.makeBase(r.life, scratch, n)
 		}
@@ -434,9 +435,8 @@ func (r *Record) Rest() {
 	}()
 }
 
-// makeBase makes the copy of the office in a scratch folder, which it removes, a base.
+// makeBase makes the copy of the office in a scratch folder a base.
 func (r *Record) makeBase(ctx context.Context, scratch string, n int64) error {
-	defer os.RemoveAll(scratch)
 	copied := filepath.Join(scratch, "office")
 	rows, err := mapped(ctx, r.Program, copied)
 	if err != nil {
@@ -474,10 +474,11 @@ func (r *Record) Close(isInOrder bool) error {
 
 // makeLastBase makes a base after the last replay has ended.
 func (r *Record) makeLastBase() error {
-	scratch, err := newScratch(r.Office, r.dir, forBase)
+	scratch, end, err := newScratch(r.Office, r.dir, forBase)
 	if err != nil {
 		return err
 	}
+	defer end()
 	if err := copyOffice(r.Office, filepath.Join(scratch, "office")); err != nil {
 		return err
 	}

@@ -22,8 +22,7 @@ const (
 	walSuffix   = "-wal"
 )
 
-// Folders for copies, by what they are for. Those of verify and access have more than one, each of which is locked while it is used. All
-// others belong to whoever has the lock of the office.
+// Folders for copies, by what they are for. Each is locked while it is used.
 const (
 	forStart  = "start"
 	forBase   = "base"
@@ -32,7 +31,7 @@ const (
 	forAccess = "access"
 )
 
-// scratchPaths returns where a folder for copies of an office may be: in memory, and beside the record. The names depend on the
+// scratchPaths returns how the paths of folders for copies of an office begin: in memory, and beside the record. They depend on the
 // office and on what they are for, so that what a crash leaves is found again.
 func scratchPaths(office, dir, purpose string) ([]string, error) {
 	absolute, err := filepath.Abs(office)
@@ -44,35 +43,17 @@ func scratchPaths(office, dir, purpose string) ([]string, error) {
 	return []string{filepath.Join(memory, name), filepath.Join(dir, "scratch-"+purpose)}, nil
 }
 
-// newScratch returns a new empty folder for copies of an office, in memory if there is room.
-func newScratch(office, dir, purpose string) (string, error) {
-	paths, err := scratchPaths(office, dir, purpose)
-	if err != nil {
-		return "", err
-	}
-	if !hasRoom(office) {
-		paths = paths[1:]
-	}
-	for _, path := range paths {
-		if err = os.RemoveAll(path); err != nil {
-			continue // Somebody else may have made it in memory.
-		}
-		if err = os.Mkdir(path, 0o700); err == nil {
-			return path, nil
-		}
-	}
-	return "", fmt.Errorf("copies: %w", err)
-}
-
 // mostTries is how often it is tried to make a folder that somebody else takes for one that a crash has left.
 const mostTries = 5
 
-// newSharedScratch returns a new empty folder for copies of an office which may be in use, and what ends its use. What a crash has left
-// of others is removed.
-func newSharedScratch(office, dir, purpose string) (path string, end func(), err error) {
+// newScratch returns a new empty folder for copies of an office, in memory if there is room, and what ends its use. What a crash has left
+// of others is removed. None has the name of another one: `rbac check` that a crash of the front has left goes on, and removes the log of
+// its copy by the name when it ends.
+func newScratch(office, dir, purpose string) (path string, end func(), err error) {
+	end = func() {}
 	paths, err := scratchPaths(office, dir, purpose)
 	if err != nil {
-		return "", nil, err
+		return "", end, err
 	}
 	removeLeft(paths)
 	if !hasRoom(office) {
@@ -89,7 +70,7 @@ func newSharedScratch(office, dir, purpose string) (path string, end func(), err
 			}
 		}
 	}
-	return "", nil, fmt.Errorf("copies: %w", err)
+	return "", end, fmt.Errorf("copies: %w", err)
 }
 
 // lockFolder locks a folder that is there, if nobody else has.
@@ -121,15 +102,9 @@ func removeLeft(paths []string) {
 	}
 }
 
-// removeScratch removes what a crash has left of copies of an office, which have the names of sessions. The office is locked.
+// removeScratch removes what a crash has left of copies of an office, which have the names of sessions.
 func removeScratch(office, dir string) {
-	for _, purpose := range []string{forStart, forBase, forPart} {
-		paths, _ := scratchPaths(office, dir, purpose)
-		for _, path := range paths {
-			_ = os.RemoveAll(path) // What somebody else has made is no copy.
-		}
-	}
-	for _, purpose := range []string{forVerify, forAccess} {
+	for _, purpose := range []string{forStart, forBase, forPart, forVerify, forAccess} {
 		paths, _ := scratchPaths(office, dir, purpose)
 		removeLeft(paths)
 	}

@@ -36,12 +36,12 @@ func TestSharedScratch(t *testing.T) {
 		}
 	}
 	leave()
-	one, endOne, err := newSharedScratch(b.Office, b.dir, forVerify)
+	one, endOne, err := newScratch(b.Office, b.dir, forVerify)
 	if err != nil {
 		t.Fatal(err)
 	}
 	isLeft("another verify")
-	other, endOther, err := newSharedScratch(b.Office, b.dir, forVerify)
+	other, endOther, err := newScratch(b.Office, b.dir, forVerify)
 	if err != nil || one == other {
 		t.Fatalf("%s and %s: %v", one, other, err)
 	}
@@ -83,5 +83,23 @@ func TestNoCopyLeft(t *testing.T) {
 	}
 	if found, _ := filepath.Glob(copied + "*"); len(found) > 0 {
 		t.Errorf("%v are left", found)
+	}
+}
+
+// A copy never has the path of an earlier one. A front that is killed leaves `rbac check`, which goes on with its copy, and removes the log
+// by the name when it ends: another copy at that path would lack what its log has.
+func TestLaterCopy(t *testing.T) {
+	b := open(t)
+	for _, purpose := range []string{forStart, forBase, forPart, forVerify, forAccess} {
+		first, end, err := newScratch(b.Office, b.dir, purpose)
+		if err != nil {
+			t.Fatal(err)
+		}
+		end()
+		second, end, err := newScratch(b.Office, b.dir, purpose)
+		if err != nil || first == second {
+			t.Errorf("%s: %v, %s", purpose, err, second)
+		}
+		end()
 	}
 }

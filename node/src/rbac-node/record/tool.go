@@ -269,11 +269,11 @@ func (t *Tool) PrintHead(ctx context.Context) error {
 
 // withCopy does something with a mapped copy of an office, which no program has open.
 func (r *Record) withCopy(ctx context.Context, file string, work func(copied, rows string) error) error {
-	scratch, err := newScratch(r.Office, r.dir, forPart)
+	scratch, end, err := newScratch(r.Office, r.dir, forPart)
 	if err != nil {
 		return err
 	}
-	defer os.RemoveAll(scratch)
+	defer end()
 	copied := filepath.Join(scratch, "office")
 	if err := copyOffice(file, copied); err != nil {
 		return err

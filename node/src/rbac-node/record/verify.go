@@ -53,7 +53,7 @@ func (t *Tool) verify(ctx context.Context, heads []Head, at *stop) error {
 		return err
 	}
 	defer release()
-	scratch, end, err := newSharedScratch(t.Office+t.Data+t.Part, t.dir(), forVerify)
+	scratch, end, err := newScratch(t.Office+t.Data+t.Part, t.dir(), forVerify)
 	if err != nil {
 		return err
 	}
