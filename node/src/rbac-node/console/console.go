@@ -21,9 +21,12 @@ const (
 //go:embed site
 var site embed.FS
 
-// Has reports whether a request is for a file of the console, or for the root, which leads there.
+// Has reports whether a request is for a file of the console, or reads the root, which leads there.
 func Has(r *http.Request) bool {
-	return r.URL.Path == "/" || r.URL.Path == strings.TrimSuffix(Path, "/") || strings.HasPrefix(r.URL.Path, Path)
+	if r.URL.Path == "/" {
+		return r.Method == http.MethodGet || r.Method == http.MethodHead
+	}
+	return r.URL.Path == strings.TrimSuffix(Path, "/") || strings.HasPrefix(r.URL.Path, Path)
 }
 
 // Serve answers a request with a file, and returns the status.
