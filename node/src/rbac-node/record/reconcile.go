@@ -30,7 +30,7 @@ func (r *Record) Before(ctx context.Context) error {
 	}
 	defer end()
 	if err := r.reconcile(ctx, scratch); err != nil {
-		return fmt.Errorf("record: %w", err)
+		return fmt.Errorf("record: %w", &copyError{err: err, scratch: scratch, office: r.Office})
 	}
 	r.announces.Do(func() {
 		go r.announce()

@@ -10,6 +10,7 @@ import (
 	"io"
 	"os"
 	"path/filepath"
+	"strings"
 	"syscall"
 )
 
@@ -72,6 +73,19 @@ func newScratch(office, dir, purpose string) (path string, end func(), err error
 	}
 	return "", end, fmt.Errorf("copies: %w", err)
 }
+
+// A copyError is an error over a copy of an office. It names the office and not the copy, whose path is another one each time: the log
+// has one line for all errors of the same text.
+type copyError struct {
+	err             error
+	scratch, office string
+}
+
+func (e *copyError) Error() string {
+	return strings.NewReplacer(filepath.Join(e.scratch, "office"), e.office, e.scratch, "a copy").Replace(e.err.Error())
+}
+
+func (e *copyError) Unwrap() error { return e.err }
 
 // lockFolder locks a folder that is there, if nobody else has.
 func lockFolder(path string) (*os.File, error) {

@@ -4,6 +4,8 @@ package record
 
 import (
 	"context"
+	"errors"
+	"fmt"
 	"os"
 	"path/filepath"
 	"testing"
@@ -101,5 +103,20 @@ func TestLaterCopy(t *testing.T) {
 			t.Errorf("%s: %v, %s", purpose, err, second)
 		}
 		end()
+	}
+}
+
+// An error over a copy has the same text whatever the path of the copy is.
+func TestCopyError(t *testing.T) {
+	texts := map[string]bool{}
+	for _, scratch := range []string{"/dev/shm/start-1", "/dev/shm/start-22"} {
+		err := error(&copyError{err: fmt.Errorf("check %s/office: %w of %s/rerun", scratch, errDiffers, scratch), scratch: scratch, office: "/o/office"})
+		if !errors.Is(err, errDiffers) {
+			t.Error(err)
+		}
+		texts[err.Error()] = true
+	}
+	if len(texts) != 1 || !texts["check /o/office: "+errDiffers.Error()+" of a copy/rerun"] {
+		t.Error(texts)
 	}
 }
