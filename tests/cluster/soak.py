@@ -266,7 +266,9 @@ def soaked(bench, folder, node, seed):
             faults.run_some(RARE)
             cluster.heal()
             cluster.until(lambda: trial.recorder.floor, "the log is trimmed")
+            copy_records(cluster)
             contest(cluster, faults)
+            copy_records(cluster)
             outvote(bench, cluster, faults)
         except Exception:
             wrong.append(traceback.format_exc())
@@ -278,6 +280,17 @@ def soaked(bench, folder, node, seed):
         if wrong + unordered:
             keep(cluster, trial)
         return faults.counts, counts, wrong + unordered
+
+
+def copy_records(cluster):
+    """Copies the records of the nodes for the judge, since what comes next empties folders."""
+    for i, node in enumerate(cluster.nodes):
+        node.stop(signal.SIGTERM)
+        copy = cluster.folder / f"copy{len(cluster.copies)}"
+        shutil.copytree(Path(cluster.data(f"node{i}"), "record"), copy / "record")
+        cluster.copies.append(copy)
+        node.start()
+    cluster.until(cluster.ready, "all are ready again")
 
 
 def keep(cluster, trial):
