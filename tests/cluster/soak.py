@@ -272,7 +272,11 @@ def soaked(bench, folder, node, seed):
             outvote(bench, cluster, faults)
         except Exception:
             wrong.append(traceback.format_exc())
-        wrong += bench.faults[before:] + faults.faults + trial.judge()
+        wrong += bench.faults[before:] + faults.faults
+        try:
+            wrong += trial.judge()
+        except Exception:
+            wrong.append(traceback.format_exc())
         histories = [client.history for client in trial.clients]
         counts, unordered = judged(histories, PREFIX)
         asked = [one for history in histories for one in history]
