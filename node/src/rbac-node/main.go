@@ -14,7 +14,7 @@
 //	rbac-node --version
 //	rbac-node --help
 //
-// See docs/FRONT.md, and docs/CLUSTER.md for several machines.
+// See docs/reference/front.md, and docs/howto/cluster.md for several machines.
 package main
 
 import (
@@ -51,7 +51,7 @@ const help = `rbac-node answers clients from an office.
   rbac-node health SOCKET                        asks whether the front at a socket is ready
   rbac-node --version                            prints the version
 
-rbac-node COMMAND --help prints the options of a command. The page FRONT.md explains them.
+rbac-node COMMAND --help prints the options of a command. The page front.md explains them.
 `
 
 func main() {
