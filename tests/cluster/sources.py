@@ -5,7 +5,7 @@ import re
 
 from program.bench import TESTS
 
-SOURCES = TESTS.parent / "node/src/rbac-node"
+SOURCES = TESTS.parent / "server/internal"
 
 
 def check_functions(bench):

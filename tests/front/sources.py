@@ -5,7 +5,7 @@ import re
 from pages import markdown
 from program.bench import TESTS
 
-SOURCES = TESTS.parent / "node/src/rbac-node"
+SOURCES = TESTS.parent / "server/internal"
 PAGE = markdown.page("reference/front.md") + markdown.page("howto/callers.md")
 LISTS = markdown.page("reference/lists.md")
 

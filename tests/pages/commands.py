@@ -11,14 +11,14 @@ PAGE = markdown.page("howto/extend.md")
 # Files outside crates/ that are written by hand, and files in it: `bin/commands` finds both if they lack a command. The front's copy
 # of the office and the random lines have some commands by a part of their names.
 FOUND = ["crates/admin_mgr/specs/Verdict.antt", "crates/role_json/src/calls.rt", "docs/reference/api.md", "tests/machine/commands.py"]
-FOUND += ["node/src/rbac-node/state/apply.go", "tests/machine/drawing.py"]
+FOUND += ["server/internal/state/apply.go", "tests/machine/drawing.py"]
 
 # What writes each of these files.
 WRITTEN = {
     "docs/openapi.json": "bin/openapi",
     "clients/python/rbac_client/_functions.py": "bin/clients",
     "clients/javascript/types/functions.d.ts": "tsc -p clients/javascript",
-    "node/src/rbac-node/api/table.go": "bin/commands",
+    "server/internal/api/table.go": "bin/commands",
     "tests/office/requests/keys.rt.test": "bin/commands",
 }
 
