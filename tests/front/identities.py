@@ -17,7 +17,6 @@ from program.bench import PROGRAM as RBAC
 from program.bench import TESTS
 
 from .program import HOST, Front, over_tls, refused_start, until
-from .running import features
 from .sources import keys_of_functions
 
 # Makes two authorities of the same name, and certificates: CN by the first name, and what is wrong by the second.

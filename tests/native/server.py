@@ -8,9 +8,7 @@ import json
 import pytest
 
 from front.running import SERVER, TAGS, build, go
-from program.bench import PROGRAM, TESTS
-
-LOAD = TESTS.parent / "bench/load"
+from program.bench import PROGRAM
 
 PACKAGES = sorted({path.parent for path in SERVER.rglob("*_test.go") if SERVER / "vendor" not in path.parents})
 
@@ -69,6 +67,5 @@ def check_races(bench):
 @pytest.mark.xdist_group("go")
 def check_form(bench):
     """gofmt would change nothing, and `go vet` finds nothing."""
-    bench.same("what gofmt would change", go("gofmt", "-l", "cmd", "internal", LOAD), ("", 0))
+    bench.same("what gofmt would change", go("gofmt", "-l", "cmd", "internal"), ("", 0))
     bench.same("what go vet finds", go("go", "vet", "-trimpath", "-tags", TAGS, "./..."), ("", 0))
-    bench.same("what go vet finds in bench/load", go("go", "vet", "-trimpath", ".", folder=LOAD, GO111MODULE="off", GOFLAGS=""), ("", 0))
