@@ -2,6 +2,7 @@ package main
 
 import (
 	"flag"
+	"fmt"
 	"os"
 	"strings"
 
@@ -36,8 +37,14 @@ func setUp(words []string) error {
 			o.Listen += ",0.0.0.0:8443"
 		}
 	}
-	if _, err := front.ParseAddresses(o.Listen); err != nil {
+	addresses, err := front.ParseAddresses(o.Listen)
+	if err != nil {
 		return err
+	}
+	for _, address := range addresses {
+		if !address.IsLocal() && len(o.Hosts) == 0 {
+			return fmt.Errorf("%s can be reached by other machines: give --dns with the names by which they find this one", address)
+		}
 	}
 	return setup.Run(o, os.Stdout)
 }
