@@ -70,19 +70,19 @@ func (c *withoutCluster) adopt(*settings, string) error { return errWithoutClust
 
 // define defines the flags, and where their values go.
 func (s *settings) define(flags *flag.FlagSet) {
-	flags.StringVar(&s.office, "office", "", "file of the office, which is made if it doesn't exist, for one machine")
+	flags.StringVar(&s.office, "office", "", "`file` of the office, which is made if it doesn't exist, for one machine")
 	flags.StringVar(&s.listen, "listen", "", "where clients connect: HOST:PORT or unix:PATH, separated by commas")
 	flags.StringVar(&s.program, "program", "rbac", "the proved program, a path or a name that is looked up in PATH")
 	flags.DurationVar(&s.answerTimeout, "timeout", 10*time.Second, "how long a request waits for its answer")
 	flags.DurationVar(&s.hangTimeout, "hang-timeout", time.Minute, "how long the replay may answer nothing before it is killed")
 	flags.IntVar(&s.connections, "connections", allowedConnections(), "how many connections of clients there may be at once")
 	flags.IntVar(&s.callerRequests, "caller-requests", defaultCallerRequests, "how many requests of one caller there may be at once")
-	flags.StringVar(&s.tls.Cert, "tls-cert", "", "certificate for clients")
-	flags.StringVar(&s.tls.Key, "tls-key", "", "key of that certificate")
-	flags.StringVar(&s.tls.CA, "tls-ca", "", "authority of the certificates of clients")
-	flags.StringVar(&s.callers.Callers, "callers", "", "file that says who may do what; without it everybody may do everything")
-	flags.StringVar(&s.callers.Tokens, "tokens", "", "file with the SHA-256 and the name of each token")
-	flags.StringVar(&s.callers.Keys, "oidc-keys", "", "file with the public keys of JWTs")
+	flags.StringVar(&s.tls.Cert, "tls-cert", "", "`FILE` of the certificate for clients")
+	flags.StringVar(&s.tls.Key, "tls-key", "", "`FILE` of the key of that certificate")
+	flags.StringVar(&s.tls.CA, "tls-ca", "", "`FILE` of the authority of the certificates of clients")
+	flags.StringVar(&s.callers.Callers, "callers", "", "`file` that says who may do what; without it everybody may do everything")
+	flags.StringVar(&s.callers.Tokens, "tokens", "", "`file` with the SHA-256 and the name of each token")
+	flags.StringVar(&s.callers.Keys, "oidc-keys", "", "`file` with the public keys of JWTs")
 	flags.StringVar(&s.callers.Issuer, "oidc-issuer", "", "who has to have issued JWTs")
 	flags.StringVar(&s.callers.Audience, "oidc-audience", "", "for whom JWTs have to be")
 	flags.StringVar(&s.callers.Subject, "oidc-claim", "sub", "claim of a JWT that names its caller")
@@ -90,12 +90,11 @@ func (s *settings) define(flags *flag.FlagSet) {
 	flags.DurationVar(&s.sessionIdle, "session-idle", 0, "after how much time without a use a session ends (default: never), for one machine")
 	flags.StringVar(&s.publicURL, "public-url", "", "where clients find the front: https://HOST:PORT, for AuthZEN's metadata")
 	flags.StringVar(&s.origins, "origin", "", "origins from which browsers may send requests, separated by commas; it sets no CORS fields")
-	flags.StringVar(&s.refused, "refused", "", "file for requests that are refused with 401, 403 or 421 (default: OFFICE.refused)")
+	flags.StringVar(&s.refused, "refused", "", "`file` for requests that are refused with 401, 403 or 421 (default: OFFICE.refused)")
 	flags.BoolVar(&s.record.isOff, "no-record", false, "don't record commands")
 	flags.DurationVar(&s.record.verifyEvery, "record-verify", 6*time.Hour,
 		"after how much time the whole chain of the record is verified again; 0 is never")
 	flags.Int64Var(&s.record.every, "record-base", 10_000, "commands between two copies of the office, from which a start does them again")
-	flags.BoolVar(&s.isCheck, "check", false, "with callers: only check the files of the callers")
 }
 
 // allowedConnections returns the default of --connections.

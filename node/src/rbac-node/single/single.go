@@ -94,8 +94,25 @@ func Open(ctx context.Context, options Options) (*Office, error) {
 	return o, nil
 }
 
+// RestoringSuffix is added to the path of an office for the folder in which a restore prepares what it puts in place of the office.
+const RestoringSuffix = ".restoring"
+
+// PlanOf returns the path of a file that is there while a restore of an office isn't finished.
+func PlanOf(office string) string { return filepath.Join(office+RestoringSuffix, "plan") }
+
+// CheckRestored refuses an office that is locked and whose restore isn't finished: it may have another record than its own.
+func CheckRestored(office string) error {
+	if _, err := os.Lstat(PlanOf(office)); !errors.Is(err, os.ErrNotExist) {
+		return fmt.Errorf("a restore of %s was interrupted: run its command, rbac-node restore, again", office)
+	}
+	return nil
+}
+
 // open opens the record and the office. The office is locked.
 func (o *Office) open(ctx context.Context) error {
+	if err := CheckRestored(o.File); err != nil {
+		return err
+	}
 	if o.CheckRecord != nil {
 		if err := o.CheckRecord(); err != nil {
 			return err
