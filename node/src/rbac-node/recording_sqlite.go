@@ -138,30 +138,30 @@ func (c *recordCommand) define(flags *flag.FlagSet, name string) {
 		flags.StringVar(&c.Part, "part", "", "`file` of an earlier part alone, in place of --office")
 	}
 	if name != "show" && name != "head" && name != "export" {
-		flags.StringVar(&c.Program, "program", "rbac", "the proved program, a path or a name that is looked up in PATH")
+		flags.StringVar(&c.Program, "program", "rbac", "the proved `program`, a path or a name that is looked up in PATH")
 	}
 	if name == "verify" || name == "access" {
-		flags.StringVar(&c.head, "head", "", "a head N:HASH that is known from elsewhere")
+		flags.StringVar(&c.head, "head", "", "a `head` N:HASH that is known from elsewhere")
 		flags.StringVar(&c.heads, "heads", "", "`file` of such heads, one in a line, or the log of a front")
 		flags.StringVar(&c.signers, "signers", "", "`file` of who may have signed these heads: as ssh-keygen(1) describes it, or public keys of minisign")
 	}
 	if name == "show" || name == "access" {
-		flags.Var(&c.format, "format", "text, csv or json")
+		flags.Var(&c.format, "format", "`format` of the lines: text, csv or json")
 	}
 	switch name {
 	case "adopt":
-		flags.StringVar(&c.by, "by", "", "who adopts the office")
-		flags.StringVar(&c.reason, "reason", "", "why, such as the number of a ticket")
+		flags.StringVar(&c.by, "by", "", "`who` adopts the office")
+		flags.StringVar(&c.reason, "reason", "", "`why`, such as the number of a ticket")
 	case "export":
-		flags.StringVar(&c.export.To, "syslog", "", "receiver: unix:PATH, udp:HOST:PORT or tcp:HOST:PORT")
+		flags.StringVar(&c.export.To, "syslog", "", "`receiver`: unix:PATH, udp:HOST:PORT or tcp:HOST:PORT")
 		flags.StringVar(&c.export.Place, "place", "", "`file` that has up to where was sent")
 		flags.BoolVar(&c.export.IsFollowing, "follow", false, "send new entries too, until SIGTERM")
 	case "access":
-		flags.Func("at", "at this time, such as 2026-11-27T09:30, in UTC", timeOf(&c.access.At))
-		flags.Int64Var(&c.access.Entry, "entry", 0, "after the entry with this number, in place of --at")
-		flags.StringVar(&c.access.User, "user", "", "only this user")
-		flags.StringVar(&c.access.Operation, "operation", "", "only this operation")
-		flags.StringVar(&c.access.Object, "object", "", "only this object")
+		flags.Func("at", "at this `time`, such as 2026-11-27T09:30, in UTC", timeOf(&c.access.At))
+		flags.Int64Var(&c.access.Entry, "entry", 0, "after the entry with this `number`, in place of --at")
+		flags.StringVar(&c.access.User, "user", "", "only this `user`")
+		flags.StringVar(&c.access.Operation, "operation", "", "only this `operation`")
+		flags.StringVar(&c.access.Object, "object", "", "only this `object`")
 	case "show":
 		c.defineFilter(flags)
 	}
@@ -169,17 +169,17 @@ func (c *recordCommand) define(flags *flag.FlagSet, name string) {
 
 // defineFilter defines the flags that choose entries.
 func (c *recordCommand) defineFilter(flags *flag.FlagSet) {
-	flags.StringVar(&c.filter.User, "user", "", "only commands that name this user")
-	flags.StringVar(&c.filter.Role, "role", "", "only commands that name this role")
-	flags.StringVar(&c.filter.Object, "object", "", "only commands that name this object")
-	flags.StringVar(&c.filter.Operation, "operation", "", "only commands that name this operation")
-	flags.StringVar(&c.filter.Set, "set", "", "only commands that name this separation of duty set")
-	flags.StringVar(&c.filter.Session, "session", "", "only commands that name the session with this digest")
-	flags.StringVar(&c.filter.Reason, "reason", "", "only commands with this text in their reason")
-	flags.StringVar(&c.filter.Function, "function", "", "only commands of this function")
-	flags.StringVar(&c.filter.Caller, "caller", "", "only commands of this caller")
-	flags.Func("since", "only commands from this time on, such as 2026-11-27T09", timeOf(&c.filter.Since))
-	flags.Func("until", "only commands before this time", timeOf(&c.filter.Until))
+	flags.StringVar(&c.filter.User, "user", "", "only commands that name this `user`")
+	flags.StringVar(&c.filter.Role, "role", "", "only commands that name this `role`")
+	flags.StringVar(&c.filter.Object, "object", "", "only commands that name this `object`")
+	flags.StringVar(&c.filter.Operation, "operation", "", "only commands that name this `operation`")
+	flags.StringVar(&c.filter.Set, "set", "", "only commands that name this separation of duty `set`")
+	flags.StringVar(&c.filter.Session, "session", "", "only commands that name the session with this `digest`")
+	flags.StringVar(&c.filter.Reason, "reason", "", "only commands with this `text` in their reason")
+	flags.StringVar(&c.filter.Function, "function", "", "only commands of this `function`")
+	flags.StringVar(&c.filter.Caller, "caller", "", "only commands of this `caller`")
+	flags.Func("since", "only commands from this `time` on, such as 2026-11-27T09", timeOf(&c.filter.Since))
+	flags.Func("until", "only commands before this `time`", timeOf(&c.filter.Until))
 	flags.BoolVar(&c.filter.IsRefused, "refused", false, "only commands that were refused")
 }
 

@@ -26,12 +26,12 @@ type restoreCommand struct {
 
 func (c *restoreCommand) define(flags *flag.FlagSet) {
 	flags.StringVar(&c.Office, "office", "", "`file` of the office")
-	flags.StringVar(&c.by, "by", "", "who restores the office")
-	flags.StringVar(&c.reason, "reason", "", "why, such as the number of a ticket")
+	flags.StringVar(&c.by, "by", "", "`who` restores the office")
+	flags.StringVar(&c.reason, "reason", "", "`why`, such as the number of a ticket")
 	flags.BoolVar(&c.Replaces, "replace", false, "move away the office that is there, with its record, and keep them beside it")
 	flags.StringVar(&c.unit, "unit", "", "`unit` of systemd that is stopped before and started after that, such as rbac-node@office")
 	flags.BoolVar(&c.isUnrecorded, "no-record", false, "the backup has no record, and none is begun")
-	flags.StringVar(&c.program, "program", "rbac", "the proved program, a path or a name that is looked up in PATH")
+	flags.StringVar(&c.program, "program", "rbac", "the proved `program`, a path or a name that is looked up in PATH")
 }
 
 // prepareRestore defines the flags of `restore`, and returns what does it.

@@ -14,9 +14,9 @@ import (
 func prepareSetup(flags *flag.FlagSet) func([]string) error {
 	var o setup.Options
 	var hosts string
-	flags.StringVar(&hosts, "dns", "", "`NAME,..`: names and addresses by which clients find this machine; without it there is no TLS")
+	flags.StringVar(&hosts, "dns", "", "names and addresses by which clients find this machine, as `NAME,..`; without it there is no TLS")
 	flags.StringVar(&o.Folder, "folder", "/etc/rbac", "`folder` in which the files are made")
-	flags.StringVar(&o.Listen, "listen", "", "`ADDRESS,..`: where clients connect, each HOST:PORT or unix:PATH "+
+	flags.StringVar(&o.Listen, "listen", "", "where clients connect, as `ADDRESS,..`: each HOST:PORT or unix:PATH "+
 		"(default: unix:/run/rbac/OFFICE.sock, and with --dns also 0.0.0.0:8443)")
 	flags.BoolVar(&o.WantsRequest, "csr", false, "make a request for a certificate, which an authority is to sign")
 	flags.StringVar(&o.Group, "group", "rbac", "the `group` that may read the files if root makes them")
