@@ -14,7 +14,11 @@ import (
 
 // Words that are no command are refused by one line, with status 2.
 func TestUnknown(t *testing.T) {
-	for _, words := range [][]string{{}, {"fly"}, {"record", "fly"}, {"record"}, {"records"}, {"-office"}} {
+	unknown := [][]string{{}, {"fly"}, {"records"}, {"-office"}}
+	if _, isWithoutRecord := records.(withoutRecord); !isWithoutRecord {
+		unknown = append(unknown, []string{"record", "fly"}, []string{"record"})
+	}
+	for _, words := range unknown {
 		var status statusError
 		if err := run(words); !errors.As(err, &status) || status.status != usageStatus || strings.Contains(err.Error(), "\n") {
 			t.Errorf("%v: %v", words, err)
@@ -47,9 +51,11 @@ func TestHelp(t *testing.T) {
 			}
 		}
 	}
+	_, isWithoutRecord := records.(withoutRecord)
+	_, isWithoutCluster := cluster.(*withoutCluster)
 	for _, about := range subjects {
 		for _, name := range about.flags {
-			if !has[name] {
+			if !has[name] && !isWithoutRecord && !isWithoutCluster {
 				t.Errorf("%s: no command has --%s", about.title, name)
 			}
 		}

@@ -11,6 +11,7 @@ import (
 	"time"
 
 	"rbac-node/callers"
+	"rbac-node/feed"
 	"rbac-node/front"
 	"rbac-node/logs"
 	"rbac-node/metrics"
@@ -150,7 +151,7 @@ func (s *settings) frontOptions(addresses []front.Address, log *logs.Logger, reg
 		Log:       log, Metrics: registry, Hangups: s.hangups,
 		Callers: callers.Options{
 			Files: s.callers, Program: s.program, AnswerTimeout: s.answerTimeout, HangTimeout: s.hangTimeout, Reads: single.MostReads,
-			Log: log, Starts: registry.Counter("rbac_node_replay_starts_total", "Starts of a replay.", "replay"),
+			Log: log, Figures: feed.NewFigures(registry),
 		},
 	}
 	options.Callers.Authority = s.tls.CA

@@ -19,7 +19,6 @@ import (
 	"rbac-node/faults"
 	"rbac-node/feed"
 	"rbac-node/logs"
-	"rbac-node/metrics"
 	"rbac-node/office"
 	"rbac-node/trial"
 )
@@ -38,7 +37,7 @@ type Options struct {
 	AnswerTimeout, HangTimeout time.Duration
 	Reads                      int64
 	Log                        *logs.Logger
-	Starts                     *metrics.Counter
+	Figures                    *feed.Figures
 	// IsOpen says that everybody who can connect may do everything.
 	IsOpen bool
 	// SessionAge is after how much time a session ends, and SessionIdle after how much in which it isn't named. Zero is never.
@@ -138,7 +137,7 @@ func (o *Office) open(ctx context.Context) error {
 			return office.Start(o.Program, o.File, o.HangTimeout, o.lock)
 		},
 		First: [][]byte{[]byte(`{"fn":"ssdRoleSets"}`)},
-		Reads: o.Reads, Log: o.Log, Starts: o.Starts,
+		Reads: o.Reads, Log: o.Log, Figures: o.Figures,
 	}
 	var err error
 	if o.OpenRecord != nil {
