@@ -61,6 +61,44 @@ systemctl restart rbac-node@office; wait_for office
 status -H "Authorization: Bearer $administrator" https://office.example:8443/v1/assignedRoles -d '{"user":"ann"}'
 """
 
+# The levels of the log in the journal, whose lines stay JSON, and a log of decisions there.
+JOURNAL = """
+levels() { journalctl -u rbac-node@office -o json --output-fields=PRIORITY,MESSAGE "$@" | python3 -c '
+import json, sys
+print(sorted({(one["PRIORITY"], json.loads(one["MESSAGE"])["level"]) for one in map(json.loads, sys.stdin) if one["MESSAGE"].startswith("{")}))'; }
+cp /etc/rbac/office.conf /mnt/office.conf; echo 'OPTIONS="--log-decisions 1"' > /etc/rbac/office.conf
+systemctl restart rbac-node@office; wait_for office
+curl -s --unix-socket /run/rbac/office.sock -d '{"session":"s","operation":"o","object":"x"}' http://localhost/v1/checkAccess; echo
+kill -9 "$(pgrep -x -P "$(systemctl show rbac-node@office -p MainPID --value)" rbac | head -n 1)"; sleep 2; wait_for office
+levels
+levels -p warning
+levels -p err
+journalctl -u rbac-node@office -o cat | grep '"msg":"decision"' | sed 's/.*"decision":"denied"/denied/; s/"at":"[^"]*"/AT/'
+cp /mnt/office.conf /etc/rbac/office.conf
+"""
+
+# One command restores a backup: the front is stopped, and started again. One that is refused leaves the front as it was.
+RESTORED = """
+systemctl restart rbac-node@office; wait_for office; systemctl start rbac-backup@office
+asked() { curl -s --unix-socket /run/rbac/office.sock -d "{\\"user\\":\\"$2\\"}" "http://localhost/v1/$1"; echo; }
+backup=$(ls -d /var/backups/rbac/office/2* | tail -n 1)
+asked addUser behind > /dev/null
+restoring() { rbac-node restore --office /var/lib/rbac/office/office --by root --reason 'ticket 9' --replace "$@"; }
+restoring --unit rbac-node@office "$backup" > /mnt/restored
+systemctl is-active rbac-node@office; wait_for office
+asked assignedRoles ann; asked assignedRoles behind
+find /var/lib/rbac/office -type f ! -name '*reserve*' -exec stat -c '%U:%G %a' '{}' + | sort -u
+restoring "$backup" 2>&1
+mkdir /mnt/theirs; ln -s /etc/shadow /mnt/theirs/office
+restoring --unit rbac-node@office /mnt/theirs 2>&1
+systemctl is-active rbac-node@office; wait_for office
+runuser -u rbac -- rbac-node record show --office /var/lib/rbac/office/office --reason 'ticket 9' --format json | python3 -c '
+import json, re, sys
+for line in sys.stdin:
+    one = json.loads(line)
+    print(one["request"]["by"], re.sub(r"[0-9]{8}-[0-9]+-[0-9]+", "BACKUP", one["reason"]))'
+"""
+
 # The one command that undoes it, after which the same two commands work again with other tokens.
 UNDONE = """
 sh -c "$(said 'Undo this')" 2> /dev/null
@@ -74,7 +112,7 @@ status -H "Authorization: Bearer $administrator" https://office.example:8443/v1/
 elsewhere sh -c "$(said 'Add a user' | sed 's,/etc/rbac,/mnt,')"; echo
 """
 
-STEPS = {"set up": SET_UP, "files": FILES, "undone": UNDONE}
+STEPS = {"set up": SET_UP, "files": FILES, "journal": JOURNAL, "restored": RESTORED, "undone": UNDONE}
 
 SAID = {
     "set up": '{"ok":true}\n401\n200\n200\n403\nwithout the certificate: 60\n',
@@ -90,6 +128,21 @@ no file has a token
 {"code":63,"error":"Forbidden"}
 rbac-node: /etc/rbac/office.callers exists: nothing was made
 200
+""",
+    "journal": """{"code":26,"error":"NoSession"}
+[('3', 'error'), ('4', 'warn'), ('6', 'info')]
+[('3', 'error'), ('4', 'warn')]
+[('3', 'error')]
+denied,AT,"caller":"unix:0","session":"cdc56a5028e51232cb28194fb1eb93e7","operation":"o","object":"x","code":26,"error":"NoSession"}
+""",
+    "restored": """active
+{"ok":true,"value":[]}
+{"code":2,"error":"NoUser"}
+rbac:rbac 600
+rbac-node: /var/lib/rbac/office/office: a front has the office: stop it first
+rbac-node: backup /mnt/theirs: office: it is no file of its own: somebody has changed the backup
+active
+root restore of BACKUP: ticket 9
 """,
     "undone": """/etc/rbac:
 default.conf

@@ -185,6 +185,7 @@ var subjects = []subject{
 	{"Who asks, and what they may do", []string{
 		"callers", "tokens", "oidc-keys", "oidc-issuer", "oidc-audience", "oidc-claim", "refused", "check", "folder", "group",
 	}},
+	{"What is logged", []string{"log-decisions", "decisions-file"}},
 	{"Sessions", []string{"session-age", "session-idle"}},
 	{"The record", []string{"no-record", "record-verify", "record-base", "record-part"}},
 	{"Heads of the record", []string{

@@ -37,6 +37,8 @@ type settings struct {
 	tls                                       web.TLS
 	callers                                   callers.Files
 	isCheck                                   bool
+	decisionsShare                            float64
+	decisionsFile                             string
 	record                                    recordSettings
 	// hangups gets SIGHUP.
 	hangups chan os.Signal
@@ -92,6 +94,8 @@ func (s *settings) define(flags *flag.FlagSet) {
 	flags.StringVar(&s.publicURL, "public-url", "", "where clients find the front, as the `URL` https://HOST:PORT, for AuthZEN's metadata")
 	flags.StringVar(&s.origins, "origin", "", "origins from which browsers may send requests, as `ORIGIN,..`; it sets no CORS fields")
 	flags.StringVar(&s.refused, "refused", "", "`file` for requests that are refused with 401, 403 or 421 (default: OFFICE.refused)")
+	flags.Float64Var(&s.decisionsShare, "log-decisions", 0, "which `share` of the decisions is logged, from 0, for none, to 1")
+	flags.StringVar(&s.decisionsFile, "decisions-file", "", "`file` for them, which may be moved away (default: the log on standard error)")
 	flags.BoolVar(&s.record.isOff, "no-record", false, "don't record commands")
 	flags.DurationVar(&s.record.verifyEvery, "record-verify", 6*time.Hour,
 		"after how much time the whole chain of the record is verified again; 0 is never")
@@ -125,6 +129,10 @@ func (s *settings) check() error {
 			1-web.MaxConnections())
 	case s.connections < 1 || s.connections > web.MaxConnections():
 		return fmt.Errorf("--connections must be from 1 to %d, as the limit of file descriptors allows", web.MaxConnections())
+	case !(s.decisionsShare >= 0 && s.decisionsShare <= 1):
+		return errors.New("--log-decisions must be from 0 to 1")
+	case s.decisionsFile != "" && s.decisionsShare == 0:
+		return errors.New("--decisions-file needs --log-decisions")
 	case s.callerRequests < 1:
 		return errors.New("--caller-requests must be at least 1")
 	case files.Callers == "" && files.Tokens+files.Keys != "":
@@ -147,8 +155,9 @@ func (s *settings) listenOr(other string) ([]front.Address, error) {
 func (s *settings) frontOptions(addresses []front.Address, log *logs.Logger, registry *metrics.Registry) front.Options {
 	options := front.Options{
 		Addresses: addresses, TLS: s.tls, Connections: s.connections, CallerRequests: s.callerRequests, AnswerTimeout: s.answerTimeout, Refused: s.refused,
-		PublicURL: strings.TrimSuffix(s.publicURL, "/"),
-		Log:       log, Metrics: registry, Hangups: s.hangups,
+		PublicURL:      strings.TrimSuffix(s.publicURL, "/"),
+		DecisionsShare: s.decisionsShare, DecisionsFile: s.decisionsFile,
+		Log: log, Metrics: registry, Hangups: s.hangups,
 		Callers: callers.Options{
 			Files: s.callers, Program: s.program, AnswerTimeout: s.answerTimeout, HangTimeout: s.hangTimeout, Reads: single.MostReads,
 			Log: log, Figures: feed.NewFigures(registry),
