@@ -1,5 +1,5 @@
 #!/usr/bin/env python3
-"""Measures the library beside what else decides about access, and prints tables as docs/EMBEDDING.md has them.
+"""Measures the library beside what else decides about access, and prints tables as docs/howto/embed.md has them.
 
     bench/embedded.py
 

@@ -1,5 +1,5 @@
 #!/usr/bin/env python3
-"""bench/operating.py: measures on the built program what docs/OPERATING.md states about a served office, and prints it.
+"""bench/operating.py: measures on the built program what docs/howto/operate.md states about a served office, and prints it.
 
 It runs the program that RBAC_PROGRAM names, or release/rbac, and works in a folder of its own in TMPDIR.
 All runs of the program are on one core. Each time is processor time, which other work on the machine changes little, and is the

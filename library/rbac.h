@@ -1,9 +1,9 @@
 /* An office of roles in this process: the library librbac.
  *
  * An office holds users, roles, permissions and sessions, as ANSI INCITS 359-2012 defines them. It lies in memory, and
- * no other process sees it. It answers the lines of docs/API.md as `rbac replay --memory` does, but for two sorts: each line is
+ * no other process sees it. It answers the lines of docs/reference/api.md as `rbac replay --memory` does, but for two sorts: each line is
  * answered, also one without anything but blanks, which a replay skips, and one of more than 65,536 bytes, which ends a replay.
- * Both are refused with 34 BadRequest. rbac_check decides about access without a line. docs/EMBEDDING.md says when to use it,
+ * Both are refused with 34 BadRequest. rbac_check decides about access without a line. docs/howto/embed.md says when to use it,
  * and what is proved about it.
  *
  * What a caller has to guarantee, since nothing checks it:
@@ -39,7 +39,7 @@ typedef struct rbac_office {
 /* The handle of no office, with which each handle begins. */
 #define RBAC_OFFICE_NONE { 0 }
 
-/* What the functions below return. Further codes are those of docs/API.md, "Refusals". */
+/* What the functions below return. Further codes are those of docs/reference/api.md, "Refusals". */
 enum {
     RBAC_DONE = 0,
     RBAC_BAD_NAME = 1,  /* a name is empty, longer than 64 bytes, isn't UTF-8, or has a control character */
@@ -59,7 +59,7 @@ uint32_t rbac_open(rbac_office *office);
 /* Frees the office, if there is one. The handle has none then. */
 void rbac_close(rbac_office *office);
 
-/* Does what a line asks for, or answers its question. A line is a JSON object as in docs/API.md, without a line feed.
+/* Does what a line asks for, or answers its question. A line is a JSON object as in docs/reference/api.md, without a line feed.
  *
  * Whatever it returns, `*length` is the length of the answer, or 0 if there is none.
  *
@@ -90,7 +90,7 @@ int32_t rbac_check(const rbac_office *office, const void *session, size_t sessio
  * there is no decision, and the result is minus the code of the first of these reasons that applies: -RBAC_NULL, -RBAC_CLOSED,
  * -RBAC_BAD_NAME (one of the three isn't a name), -2 (there is no such user), -6 (no such object), -33 (no such operation).
  * Only 1 allows the access. It doesn't allocate. Its time grows with the grants of the permission, the roles of the user and
- * the members of the dynamic sets: near the limits it may be 0.1 seconds, as section 8 of docs/EMBEDDING.md says. */
+ * the members of the dynamic sets: near the limits it may be 0.1 seconds, as section 8 of docs/howto/embed.md says. */
 int32_t rbac_check_user(const rbac_office *office, const void *user, size_t user_length, const void *operation,
     size_t operation_length, const void *object, size_t object_length);
 
@@ -163,7 +163,7 @@ uint32_t rbac_add_row(rbac_office *office, uint32_t table, const void *first, si
 /* Has the office start again: its state is the one that has exactly the added rows, and its revision is `revision`.
  *
  * RBAC_DONE: it does, and no line is answered yet. Otherwise its state and its revision are as before: 32 (a limit is
- * exceeded), 52 (the rows aren't those of an office, as docs/API.md says at 52 Damaged), RBAC_MEMORY, RBAC_CLOSED. Either
+ * exceeded), 52 (the rows aren't those of an office, as docs/reference/api.md says at 52 Damaged), RBAC_MEMORY, RBAC_CLOSED. Either
  * way the added rows are used up. */
 uint32_t rbac_load(rbac_office *office, uint64_t revision);
 

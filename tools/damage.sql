@@ -4,7 +4,7 @@
 --
 -- Run it in the folder of the repository, on a copy: sqlite3 merges the log of the copy, if there is one.
 --
--- The number of the check in docs/OPERATING.md comes first, or 32 for a limit, then what is at fault, and the row. The row of a
+-- The number of the check in docs/howto/operate.md comes first, or 32 for a limit, then what is at fault, and the row. The row of a
 -- session has its name, which is all that is needed to use the session: protect the output like the office.
 
 .read tools/rows.sql

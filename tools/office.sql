@@ -4,7 +4,7 @@
 --     sqlite3 -readonly -init tools/office.sql 'file:COPY?immutable=1'
 -- With -readonly the copy is not written. With immutable=1 sqlite3 makes no file beside it either.
 --
--- tools/rows.sql has the views, with the terms of docs/MODEL.md. The check at the end repeats that of `rbac check` as far as SQL
+-- tools/rows.sql has the views, with the terms of docs/explanation/model.md. The check at the end repeats that of `rbac check` as far as SQL
 -- can, so that no tool reports on a wrong file. It is no substitute: bytes that are not UTF-8 are not found here.
 
 .bail on

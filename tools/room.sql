@@ -5,7 +5,7 @@
 -- Run it in the folder of the repository, on a copy that `rbac check` calls good. It reads the copy and does not write it.
 --
 -- version               1 or 2
--- kind                  as in the table of limits in docs/API.md; `record` and `byte`, limits of an import, are left out
+-- kind                  as in the table of limits in docs/reference/api.md; `record` and `byte`, limits of an import, are left out
 -- count, limit, left    how many there are, how many there may be, and how many more may be added
 -- `member` is counted for the set that has the most members, `activeRole` for the session that has the most activated roles.
 

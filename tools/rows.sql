@@ -1,6 +1,6 @@
 -- Names the rows of an office, and what is at fault in them. tools/office.sql and tools/damage.sql read it.
 --
--- The views have the terms of docs/MODEL.md. They work for damaged offices too, and for tables without types and keys.
+-- The views have the terms of docs/explanation/model.md. They work for damaged offices too, and for tables without types and keys.
 
 -- An office of version 1 has no table of locks. This empty one is read in its place.
 ATTACH 'file:absent?mode=memory' AS absent;
@@ -113,7 +113,7 @@ SELECT kind, name, cardinality,
     (SELECT count(*) FROM member WHERE member.kind = duty_set.kind AND member.duty_set = duty_set.name)
 FROM duty_set;
 
--- A row for each fault: the number of its check in docs/TABLES.md, or 32 for a limit; what is at fault; and where. Bytes that are
+-- A row for each fault: the number of its check in docs/reference/tables.md, or 32 for a limit; what is at fault; and where. Bytes that are
 -- not UTF-8 are not found here.
 CREATE TEMP VIEW fault(number, what, first, second, third) AS
 SELECT 1, 'more than one row of the version', quote(tag), quote(version), NULL FROM meta_row

@@ -1,4 +1,4 @@
-"""The clients in each language, and the examples of docs/INTEGRATING.md, with the program and with servers that answer wrongly.
+"""The clients in each language, and the examples of docs/howto/integrate.md, with the program and with servers that answer wrongly.
 
     driving       drivers: programs in each language that do with its client what a test tells them
     wrong         wrong, slow and truncated answers to each client

@@ -10,7 +10,7 @@ from program.web import HOST
 sys.path.insert(0, str(TESTS.parent / "clients/python"))
 import rbac_client as rbac
 
-PAGE = markdown.page("INTEGRATING.md")
+PAGE = markdown.page("howto/integrate.md")
 
 # How long a call may take if it is meant to be answered, and if it is not.
 PATIENT, HASTY = 60, 0.3

@@ -154,7 +154,7 @@ def repeated(bench, driver, request, first, refused):
 
 @pytest.mark.parametrize("name", ["python"])
 def check_page_repeated(bench, name):
-    """Each request of docs/API.md is answered as the page says, even if each command before it was sent twice."""
+    """Each request of docs/reference/api.md is answered as the page says, even if each command before it was sent twice."""
     refused, done = repetitions(), set()
     bench.same("the commands of the table", sorted(refused), sorted(COMMANDS))
     office = Office(bench)

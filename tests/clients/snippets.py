@@ -1,4 +1,4 @@
-"""The examples of docs/INTEGRATING.md in all languages, asked the same questions; and its statements of SQL."""
+"""The examples of docs/howto/integrate.md in all languages, asked the same questions; and its statements of SQL."""
 
 import contextlib
 import io
@@ -265,7 +265,7 @@ class Kept(logging.Handler):
 def python_example(port):
     """The example in Python, with what it defines."""
     module = types.ModuleType("example")
-    exec(compile(example("python", port), "INTEGRATING.md", "exec"), vars(module))
+    exec(compile(example("python", port), "integrate.md", "exec"), vars(module))
     return module
 
 

@@ -1,4 +1,4 @@
-"""Wrong answers to each client: none of them allows, and each is denied with the reason that docs/INTEGRATING.md has for it."""
+"""Wrong answers to each client: none of them allows, and each is denied with the reason that docs/howto/integrate.md has for it."""
 
 import re
 import time

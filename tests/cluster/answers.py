@@ -13,7 +13,7 @@ from .running import build
 
 DONE = b'{"ok":true}'
 
-# What the HTTP library refuses by itself has the same status, and a text instead of JSON, as docs/CLUSTER.md describes.
+# What the HTTP library refuses by itself has the same status, and a text instead of JSON, as docs/howto/cluster.md describes.
 # What it judges differently from `rbac serve`: the status, by the name of the request in program/heads.
 DIFFERENT = {
     "a body that is far too long": 400,
@@ -59,7 +59,7 @@ def post(function, body, *fields):
 
 
 def check_page(bench):
-    """Each request of docs/API.md gets its answer there, and the status of its code."""
+    """Each request of docs/reference/api.md gets its answer there, and the status of its code."""
     with Cluster(bench.folder, build(bench.shared)) as cluster:
         judge_heads(bench, cluster)
         judge_differences(bench, lambda request: exchange(cluster, request)[0])
@@ -77,7 +77,7 @@ def check_page(bench):
 
 
 def status_of(code):
-    """The status of docs/API.md, section 5."""
+    """The status of docs/reference/api.md, section 5."""
     return {None: 200, 1: 400, 34: 400, 36: 400, 35: 404}.get(code, 409)
 
 

@@ -64,7 +64,7 @@ Result=success
 @pytest.mark.needs("root", "boots", "systemd-nspawn", "curl", "pgrep", "units of etcd")
 def check_unit(bench):
     """The commands of the page make a node that systemd runs: it is started again, and ends with status 0."""
-    installing, starting = markdown.blocks(markdown.page("CLUSTER.md"), "text")
+    installing, starting = markdown.blocks(markdown.page("howto/cluster.md"), "text")
     built = next(number for number, line in enumerate(installing) if line.startswith("bin/node --build"))
     own_way = " ".join(installing[:built]).replace("\\", "").split()
     bench.same("what the test does in its own way", own_way[:2], ["apt-get", "install"])

@@ -49,8 +49,8 @@ def check_callers(bench):
             bench.same(f"metrics at the port of clients of node {machine}", cluster.get(machine, "/metrics")[0], 401)
             metrics = cluster.get(machine, "/metrics", 8081)[1].decode()
             bench.same(f"metrics of node {machine}", "rbac_node_open 0" in metrics, True)
-            bench.same("metrics that no page lists", metrics_of(metrics) - metrics_on("FRONT.md", "CLUSTER.md"), set())
-            bench.same("metrics of the page that are none", metrics_on("CLUSTER.md") - metrics_of(metrics), set())
+            bench.same("metrics that no page lists", metrics_of(metrics) - metrics_on("reference/front.md", "howto/cluster.md"), set())
+            bench.same("metrics of the page that are none", metrics_on("howto/cluster.md") - metrics_of(metrics), set())
         changed = {**RIGHTS, "token:desk": [("assignUser", "role boss")]}
         bench.write("callers.jsonl", rules(changed).encode())
         for node in cluster.nodes:

@@ -1,4 +1,4 @@
-"""Heads of requests that a node answers with another status than `rbac serve`, as in the table of docs/CALLERS.md."""
+"""Heads of requests that a node answers with another status than `rbac serve`, as in the table of docs/howto/callers.md."""
 
 from pages import markdown
 from program.offices import Office
@@ -41,7 +41,7 @@ HEADS = {
 
 def judge_differences(bench, ask):
     """Each request gets its statuses, which are those of the page. `ask` returns the status of a node."""
-    listed = next(table for table in markdown.tables(markdown.page("CALLERS.md")) if table[0][0] == next(iter(HEADS)))
+    listed = next(table for table in markdown.tables(markdown.page("howto/callers.md")) if table[0][0] == next(iter(HEADS)))
     wanted = [[what, str(served), str(given or "no answer")] for what, (served, given, _) in HEADS.items()]
     bench.same("heads of the page", listed, wanted)
     office = Office(bench)

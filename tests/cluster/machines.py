@@ -89,6 +89,8 @@ class Cluster:
         self.patience = patience
         self.network = network()
         self.every, self.timeout, self.more, self.of_etcd = every, timeout, more, of_etcd
+        # Folders with earlier copies of records.
+        self.copies = []
         self.members = [self.member(i) for i in range(MACHINES)]
         self.nodes = [self.node_of(i) for i in range(MACHINES)]
         self.done = threading.Event()

@@ -1,4 +1,4 @@
-"""docs/CLUSTER.md: its commands are run on three machines, which are loopback addresses here."""
+"""docs/howto/cluster.md: its commands are run on three machines, which are loopback addresses here."""
 
 import os
 import re
@@ -12,7 +12,7 @@ from program.bench import PROGRAM, SECONDS
 
 from .running import build
 
-PAGE = markdown.page("CLUSTER.md")
+PAGE = markdown.page("howto/cluster.md")
 
 NAMES = "abc"
 END = b"\0"

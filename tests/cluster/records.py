@@ -88,11 +88,11 @@ def recorded_text(line):
     return json.dumps(request, separators=(",", ":"), ensure_ascii=False)
 
 
-def joined(records):
-    """The entries that any node has, by their numbers, and what is wrong with them: two nodes have another one at a number, a link
-    does not follow from the one before it, or an end is missing."""
+def joined(records, copies=()):
+    """The entries that any node has or an earlier copy of its record, by their numbers, and what is wrong with them: two have another one
+    at a number, a link does not follow from the one before it, or a node lacks the end. After the nodes come the copies."""
     found, faults = {}, []
-    for i, record in enumerate(records):
+    for i, record in enumerate([*records, *copies]):
         for before, entry in zip([None, *record], record):
             if found.setdefault(entry.n, entry) != entry:
                 faults.append(f"node {i} has {entry}, and another one {found[entry.n]}")
@@ -150,7 +150,7 @@ def faults_of(cluster, judge):
     """What is wrong with the records of a cluster whose nodes have ended, when a judge has compared its log with the answers."""
     raised = raised_at(cluster)
     parts = [parts_of(cluster.data(f"node{i}")) for i in range(MACHINES)]
-    entries, faults = joined([[entry for _, found in one for entry in found] for one in parts])
+    entries, faults = joined([[entry for _, found in one for entry in found] for one in parts], map(entries_of, cluster.copies))
     wanted = [
         (revision, place, line)
         for revision, lines, _ in judge.entries

@@ -266,11 +266,17 @@ def soaked(bench, folder, node, seed):
             faults.run_some(RARE)
             cluster.heal()
             cluster.until(lambda: trial.recorder.floor, "the log is trimmed")
+            copy_records(cluster)
             contest(cluster, faults)
+            copy_records(cluster)
             outvote(bench, cluster, faults)
         except Exception:
             wrong.append(traceback.format_exc())
-        wrong += bench.faults[before:] + faults.faults + trial.judge()
+        wrong += bench.faults[before:] + faults.faults
+        try:
+            wrong += trial.judge()
+        except Exception:
+            wrong.append(traceback.format_exc())
         histories = [client.history for client in trial.clients]
         counts, unordered = judged(histories, PREFIX)
         asked = [one for history in histories for one in history]
@@ -278,6 +284,17 @@ def soaked(bench, folder, node, seed):
         if wrong + unordered:
             keep(cluster, trial)
         return faults.counts, counts, wrong + unordered
+
+
+def copy_records(cluster):
+    """Copies the records of the nodes for the judge, since what comes next empties folders."""
+    for i, node in enumerate(cluster.nodes):
+        node.stop(signal.SIGTERM)
+        copy = cluster.folder / f"copy{len(cluster.copies)}"
+        shutil.copytree(Path(cluster.data(f"node{i}"), "record"), copy / "record")
+        cluster.copies.append(copy)
+        node.start()
+    cluster.until(cluster.ready, "all are ready again")
 
 
 def keep(cluster, trial):

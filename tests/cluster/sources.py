@@ -21,13 +21,13 @@ def check_functions(bench):
 
 def check_length(bench):
     """The page is short."""
-    page = (TESTS.parent / "docs/CLUSTER.md").read_text(encoding="utf-8")
+    page = (TESTS.parent / "docs/howto/cluster.md").read_text(encoding="utf-8")
     bench.same("a page of under 400 lines", page.count("\n") < 400, True)
 
 
 def check_limits(bench):
     """The intervals and limits on the page are those of the sources."""
-    page = " ".join((TESTS.parent / "docs/CLUSTER.md").read_text(encoding="utf-8").split())
+    page = " ".join((TESTS.parent / "docs/howto/cluster.md").read_text(encoding="utf-8").split())
     sources = "".join(path.read_text(encoding="utf-8") for path in sorted(SOURCES.rglob("*.go")))
     for source, text in [
         ('"every", 10_000', "After each 10,000 commands"),

@@ -2,7 +2,7 @@
 
     sources     the size of the files of the console, and what they may not name
     serving     the files of the console and their headers; the parts of the front that only the console asks for
-    page        the commands and the pictures of docs/CONSOLE.md
+    page        the commands and the pictures of docs/howto/console.md
     pages       each page with its actions and refusals, on the bank
     many        lists that are longer than one answer: counts, parts, and every row can be reached
     hierarchy   separation of duty through the hierarchy; who may do something, without who is locked or whose role has no session
@@ -15,7 +15,7 @@
     rights      callers who may not do everything, and a token that is nowhere
     hostile     names that are markup or can't be seen; pages of another origin
     lost        a front that goes away and comes back
-    looks       the keyboard alone, widths, dark, print, rules of accessibility, and the pictures of docs/CONSOLE.md
+    looks       the keyboard alone, widths, dark, print, rules of accessibility, and the pictures of docs/howto/console.md
     limits      an office that is full, with --long
     browser     runs Chromium and looks at its pages
 """

@@ -176,7 +176,7 @@ def check_print(bench):
         bench.judge("its buttons", [word for word in ("Assign a role", "Remove", "Overview", "Delete") if word in text])
 
 
-# The pages whose pictures are in docs/CONSOLE.md.
+# The pages whose pictures are in docs/howto/console.md.
 SHOTS = {
     "overview": ("",), "users": ("users",), "user": ("users", "erin"), "roles": ("roles",), "role": ("roles", "teller"), "object": ("objects", "vault"),
     "separation": ("separation", "static", "audit"), "explain": ("explain", "ann", "post", "account 17"), "record": ("record",), "reports": ("reports", "permissions"),

@@ -1,4 +1,4 @@
-"""The commands of docs/CONSOLE.md print what it shows, and each of its pictures is there and small."""
+"""The commands of docs/howto/console.md print what it shows, and each of its pictures is there and small."""
 
 import os
 import re
@@ -10,14 +10,14 @@ from pages import markdown
 from pages.shell import Shell
 from program.bench import TESTS
 
-PAGE = markdown.page("CONSOLE.md")
+PAGE = markdown.page("howto/console.md")
 MOST_BYTES, MOST_BYTES_OF_PICTURES, MOST_BYTES_OF_FIRST = 20_000, 850_000, 100_000
 
 
 def check_commands(bench):
     """The commands of the page print what is shown below them."""
     if not shutil.which("curl"):
-        print("left out: the commands of docs/CONSOLE.md, since curl is not installed")
+        print("left out: the commands of docs/howto/console.md, since curl is not installed")
         return
     with Shell(bench) as reader:
         (bench.folder / "examples").symlink_to(TESTS.parent / "examples")
@@ -31,7 +31,7 @@ def check_form(bench):
     """The page is short, and its pictures are all that docs/ has of the console."""
     bench.same("the page is short", len(PAGE.encode()) <= MOST_BYTES, True)
     bench.same("long lines", [line for line in PAGE.splitlines() if len(line) > 130 and not line.startswith("|")], [])
-    shown = sorted(re.findall(r"\((console-\w+\.png)\)", PAGE))
+    shown = sorted(re.findall(r"\(\.\./(console-\w+\.png)\)", PAGE))
     found = sorted(path.name for path in (TESTS.parent / "docs").glob("console-*.png"))
     bench.same("the pictures", shown, found)
     size = sum((TESTS.parent / "docs" / name).stat().st_size for name in found)

@@ -21,7 +21,7 @@
     watching    snapshots, and followers that watch
     separated   which separation of duty sets refuse a command, beside the plain model
     conforming  the answers of what the front has besides the functions, beside docs/openapi.json
-    requests    the commands of docs/REQUESTS.md and docs/LISTS.md
+    requests    the commands of docs/reference/requests.md and docs/reference/lists.md
     browsers    a page of a foreign site in Chromium
     records     what the record has, which starts it refuses, and what is found in one that was changed
     recordkills     the front and its replay are killed under load: record, office and clients agree
@@ -30,12 +30,12 @@
     tampered    kinds of tampering: verify refuses each, or the page lists it
     recordfaults    disks under the record that fail or are full
     recordorder     the order of writes and syncs, by strace
-    signed      heads that another machine signs, and the commands of docs/HEADS.md
+    signed      heads that another machine signs, and the commands of docs/howto/heads.md
     verifying   what the front finds by itself in a record that was changed, and an office without its record
     backups     parts that a backup has already, and several backups at once
     callkills   commands about a record are killed at each system call
     wrongfronts     wrong fronts are found: with --long they are built and run
-    auditing    the commands of docs/RECORD.md, and of docs/AUDITING.md about the record
+    auditing    the commands of docs/howto/record.md, and of docs/howto/audit.md about the record
     recorded    reads a record
     program     runs the front, and asks it
 """

@@ -138,7 +138,7 @@ def check_random(bench):
 
 
 def check_heads(bench):
-    """Heads that `rbac serve` refuses get the same status, but for those of the table of CALLERS.md, and do nothing."""
+    """Heads that `rbac serve` refuses get the same status, but for those of the table of callers.md, and do nothing."""
     expected = {
         "a body that is far too long": 400,
         "a head without an end": 400,

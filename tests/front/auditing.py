@@ -1,4 +1,4 @@
-"""The commands of docs/RECORD.md and of the part of docs/AUDITING.md that is about the record print what the pages show."""
+"""The commands of docs/howto/record.md and of the part of docs/howto/audit.md that is about the record print what the pages show."""
 
 import os
 import re
@@ -13,7 +13,7 @@ from program.bench import TESTS
 from .page import runs
 from .running import PROGRAM
 
-AUDITING, RECORD = markdown.page("AUDITING.md"), markdown.page("RECORD.md")
+AUDITING, RECORD = markdown.page("howto/audit.md"), markdown.page("howto/record.md")
 SECTION = markdown.section(AUDITING, "## 9. Who did what: the record of a front")
 
 # The most bytes that the page of the record may have.

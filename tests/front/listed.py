@@ -8,7 +8,7 @@ from program.bench import TESTS
 from .identities import secured
 from .program import refused_start
 
-PAGES = {name: markdown.page(name) for name in ("FRONT.md", "CALLERS.md", "CLUSTER.md")}
+PAGES = {name: markdown.page(name) for name in ("reference/front.md", "howto/callers.md", "howto/cluster.md")}
 
 # Options of other programs on the pages: of etcd, etcdctl, curl, useradd, systemctl, bin/node and the tests; and of `record adopt`.
 OTHERS = {
@@ -30,8 +30,8 @@ def options():
 
 def listed_options():
     """The options that the tables of both pages list, each with its default if it is one word."""
-    rows = markdown.tables(markdown.section(PAGES["FRONT.md"], "## 7. Options"))[0]
-    rows += [row for table in markdown.tables(PAGES["CLUSTER.md"]) for row in table if row[0].startswith("`--")]
+    rows = markdown.tables(markdown.section(PAGES["reference/front.md"], "## 7. Options"))[0]
+    rows += [row for table in markdown.tables(PAGES["howto/cluster.md"]) for row in table if row[0].startswith("`--")]
     found = {}
     for names, text in rows:
         default = re.search(r"\(default: ([\w.:,]+)\)", text)
@@ -83,4 +83,4 @@ def check_metrics(bench):
     """The page lists each metric of the front, and no other one."""
     with secured(bench) as front:
         text = front.exchange("GET", "/metrics", Authorization="Bearer another")[1]
-    bench.same("metrics of the page", sorted(metrics_on("FRONT.md", "CALLERS.md")), sorted(metrics_of(text)))
+    bench.same("metrics of the page", sorted(metrics_on("reference/front.md", "howto/callers.md")), sorted(metrics_of(text)))

@@ -1,4 +1,4 @@
-"""The commands of docs/FRONT.md and docs/CALLERS.md print what they show, each page from its top to its end."""
+"""The commands of docs/reference/front.md and docs/howto/callers.md print what they show, each page from its top to its end."""
 
 import os
 import re
@@ -13,7 +13,7 @@ from program.bench import SECONDS, TESTS
 
 from .running import PROGRAM
 
-PAGE, CALLERS = markdown.page("FRONT.md"), markdown.page("CALLERS.md")
+PAGE, CALLERS = markdown.page("reference/front.md"), markdown.page("howto/callers.md")
 
 # The most bytes that each page may have.
 MOST_BYTES = 20_000

@@ -1,4 +1,4 @@
-"""The commands of docs/REQUESTS.md and docs/LISTS.md print what they show; the lines for nginx are those that are tried."""
+"""The commands of the pages about requests and lists print what they show; the lines for nginx are those that are tried."""
 
 import os
 import re
@@ -12,20 +12,20 @@ from . import gateways
 from .page import runs
 from .running import PROGRAM
 
-PAGE = markdown.page("REQUESTS.md")
-LISTS = markdown.page("LISTS.md")
+PAGE = markdown.page("reference/requests.md")
+LISTS = markdown.page("reference/lists.md")
 
 # The most lines that a page may have.
 MOST_LINES = 420
 
 
 def check_commands(bench):
-    """The commands of REQUESTS.md print what is shown below them."""
+    """The commands of requests.md print what is shown below them."""
     type_all(bench, markdown.blocks(PAGE, "console"))
 
 
 def check_lists(bench):
-    """So do those of LISTS.md, after the first ones of REQUESTS.md, which start a front, and before its last ones."""
+    """So do those of lists.md, after the first ones of requests.md, which start a front, and before its last ones."""
     start, *_, end = markdown.blocks(PAGE, "console")
     type_all(bench, [start, *markdown.blocks(LISTS, "console"), end])
 

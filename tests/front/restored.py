@@ -24,7 +24,7 @@ def numbers_of(front):
 
 
 def restore(front, backup, then, left):
-    """Puts a backup in place of an office, as docs/OPERATING.md says: what was there before is moved away."""
+    """Puts a backup in place of an office, as docs/howto/operate.md says: what was there before is moved away."""
     shutil.copy(numbers_of(front), f"{front.office}.now")
     for name in ("", ".record", ".numbers"):
         if os.path.exists(front.office + name):

@@ -378,8 +378,8 @@ def check_links(bench):
 
 @pytest.mark.needs("curl", "minisign")
 def check_page(bench):
-    """The commands of docs/HEADS.md print what the page shows, and its tables have the options and the statuses."""
-    page = markdown.page("HEADS.md")
+    """The commands of docs/howto/heads.md print what the page shows, and its tables have the options and the statuses."""
+    page = markdown.page("howto/heads.md")
     with Shell(bench) as reader:
         (bench.folder / "bin/rbac-node").symlink_to(os.environ[PROGRAM])
         type_all(bench, reader, page)

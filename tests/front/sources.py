@@ -6,8 +6,8 @@ from pages import markdown
 from program.bench import TESTS
 
 SOURCES = TESTS.parent / "node/src/rbac-node"
-PAGE = markdown.page("FRONT.md") + markdown.page("CALLERS.md")
-LISTS = markdown.page("LISTS.md")
+PAGE = markdown.page("reference/front.md") + markdown.page("howto/callers.md")
+LISTS = markdown.page("reference/lists.md")
 
 
 def text_of(*names):
@@ -40,7 +40,7 @@ def check_refusals(bench):
 
 def check_limits(bench):
     """The limits on the page are those of the sources."""
-    page, sources = markdown.in_one_line(PAGE + LISTS + markdown.page("RECORD.md")), "".join(
+    page, sources = markdown.in_one_line(PAGE + LISTS + markdown.page("howto/record.md")), "".join(
         path.read_text(encoding="utf-8") for path in sorted(SOURCES.rglob("*.go"))
     )
     for source, text in [

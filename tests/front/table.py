@@ -1,4 +1,4 @@
-"""The table of docs/CALLERS.md of which scopes allow which calls: each row is tried for each of its functions."""
+"""The table of docs/howto/callers.md of which scopes allow which calls: each row is tried for each of its functions."""
 
 import hashlib
 import json
@@ -41,7 +41,7 @@ OTHERS = ["user bob", "role cashier", "object wh:", "object shop"]
 
 def rows():
     """The functions of the table, with what allows them besides `office`."""
-    tables = markdown.tables(markdown.section(markdown.page("CALLERS.md"), "## 2. What a caller may do"))
+    tables = markdown.tables(markdown.section(markdown.page("howto/callers.md"), "## 2. What a caller may do"))
     (table,) = [one for one in tables if "`addUser`" in one[0][0]]
     return {name: allowed for names, allowed in table for name in re.findall(r"`(\w+)`", names) if name not in ("GET",)}
 

@@ -16,7 +16,7 @@ from program.bench import PROGRAM as RBAC
 from .program import Front
 from .recorded import Entry, link, tool
 
-PAGE = markdown.page("RECORD.md")
+PAGE = markdown.page("howto/record.md")
 
 # The fewest tamperings of both kinds.
 FEWEST = 60

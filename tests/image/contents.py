@@ -111,8 +111,8 @@ def check_settings(bench):
 
 
 def check_page(bench):
-    """docs/IMAGE.md runs the image as the test does, by its name, and has the sizes of what is in it, or nearly."""
-    page = (ROOT / "docs/IMAGE.md").read_text(encoding="utf-8")
+    """docs/howto/container.md runs the image as the test does, by its name, and has the sizes of what is in it, or nearly."""
+    page = (ROOT / "docs/howto/container.md").read_text(encoding="utf-8")
     command = re.search(r"^podman run ((?:.*\\\n)*.*)$", page, re.M)[1].replace("\\\n", " ").split()
     bench.same("the name of the image", command[-1], f"localhost/rbac-node:{VERSION}")
     bench.same("the file", f"podman load -i out/rbac-node-image_{VERSION}_amd64.tar" in page, True)
@@ -135,17 +135,17 @@ def check_page(bench):
         )
 
 
-# The user of the image, and what docs/FRONT.md makes for an application with a token over TLS.
+# The user of the image, and what docs/reference/front.md makes for an application with a token over TLS.
 USER = 10001
 MADE = ["callers.jsonl", "tokens", "rbac.crt", "rbac.key"]
 
 
 @pytest.mark.needs("root")
 def check_followed(bench):
-    """What docs/IMAGE.md installs is what the image reads, its user can read it, and nobody else but root."""
-    page = (ROOT / "docs/IMAGE.md").read_text(encoding="utf-8")
-    first = (ROOT / "docs/FRONT.md").read_text(encoding="utf-8").split("## 2. ")[0]
-    bench.same("docs/FRONT.md makes them", [name for name in MADE if f"`{name}`" not in page or name not in first], [])
+    """What docs/howto/container.md installs is what the image reads, its user can read it, and nobody else but root."""
+    page = (ROOT / "docs/howto/container.md").read_text(encoding="utf-8")
+    first = (ROOT / "docs/reference/front.md").read_text(encoding="utf-8").split("## 2. ")[0]
+    bench.same("docs/reference/front.md makes them", [name for name in MADE if f"`{name}`" not in page or name not in first], [])
     for folder in (bench.folder.parent, bench.folder):
         folder.chmod(0o755)
     for name in MADE:
@@ -180,10 +180,10 @@ def check_followed(bench):
 
 
 def check_section(bench):
-    """The section of docs/FRONT.md that has the options of the image is the one that docs/IMAGE.md names."""
-    page = (ROOT / "docs/IMAGE.md").read_text(encoding="utf-8")
-    number = re.search(r"\*\*Options\*\* of FRONT\.md, section (\d+)", page)[1]
-    front = (ROOT / "docs/FRONT.md").read_text(encoding="utf-8")
+    """The section of docs/reference/front.md that has the options of the image is the one that docs/howto/container.md names."""
+    page = (ROOT / "docs/howto/container.md").read_text(encoding="utf-8")
+    number = re.search(r"\*\*Options\*\* of front\.md, section (\d+)", page)[1]
+    front = (ROOT / "docs/reference/front.md").read_text(encoding="utf-8")
     section = front.split(f"\n## {number}. ")[1].split("\n## ")[0]
     options = [word for word in opened()[1]["config"]["Entrypoint"] if word.startswith("--")]
     bench.same("the options of the image", [one for one in options if f"`{one}`" not in section], [])

@@ -14,7 +14,7 @@ from pages import markdown
 
 from .running import OLDER, made, older
 
-PAGE, FRONT = markdown.page("OPERATING.md"), markdown.page("FRONT.md")
+PAGE, FRONT = markdown.page("howto/operate.md"), markdown.page("reference/front.md")
 
 # What all steps use. apt asks nothing, rebuilds no list of manual pages, and prints only if it fails.
 PREPARING = f"""

@@ -28,8 +28,8 @@ def check_settings(bench):
 
 
 def check_page(bench):
-    """docs/OPERATING.md names the units, and where the units and the package have everything."""
-    page = markdown.in_one_line(markdown.page("OPERATING.md"))
+    """docs/howto/operate.md names the units, and where the units and the package have everything."""
+    page = markdown.in_one_line(markdown.page("howto/operate.md"))
     for words in (*PLACES, "keeps the last 48", "8080"):
         bench.same(f"the page names {words}", words in page, True)
     units = "".join(path.read_text(encoding="utf-8") for path in DEPLOY.glob("rbac-*@.*"))

@@ -6,6 +6,6 @@
     interface   rbac.h: its symbols, its codes, null pointers, buffers that are too short
     memory      each allocation fails in turn; sanitizers and valgrind
     bindings    what each language has of its own: its errors, its threads, its own tests
-    page        the examples of docs/EMBEDDING.md
+    page        the examples of docs/howto/embed.md
     arm64       the library for arm64, by an emulator
 """

@@ -1,6 +1,6 @@
 /* Answers the lines of standard input, for tests/library. The lines of all languages are the same:
  *
- *   {..}       a line of docs/API.md: prints the answer
+ *   {..}       a line of docs/reference/api.md: prints the answer
  *   ?A\tB\tC   a decision for the session A, the operation B and the object C: prints what rbac_check returns
  *   !A\tB\tC   a decision for the user A, the operation B and the object C: prints what rbac_check_user returns
  *   #          prints the revision

@@ -1,4 +1,4 @@
-"""The examples of docs/EMBEDDING.md: each is built as the page says, and prints what the page shows."""
+"""The examples of docs/howto/embed.md: each is built as the page says, and prints what the page shows."""
 
 import os
 import subprocess
@@ -10,7 +10,7 @@ from pages import markdown
 
 from .building import LANGUAGES, TOP, built, go_program, run, rust_program
 
-PAGE = markdown.page("EMBEDDING.md")
+PAGE = markdown.page("howto/embed.md")
 
 # The commands of the page: to install the library, to build a program then, and to do both without installing anything.
 INSTALLS, BUILDS, IN_A_FOLDER = ("\n".join(lines) for lines in markdown.blocks(markdown.section(PAGE, "## 2. Building it"), "sh"))

@@ -9,7 +9,7 @@ from program.web import PHRASES, Server, connect, post, read_all, reply
 
 from . import markdown, shell, sources, verdicts
 
-PAGE = markdown.page("API.md")
+PAGE = markdown.page("reference/api.md")
 COMMANDS = markdown.parts(markdown.section(PAGE, "## 2. Commands"))
 QUESTIONS = markdown.parts(markdown.section(PAGE, "## 3. Questions"))
 PARTS = {**COMMANDS, **QUESTIONS}

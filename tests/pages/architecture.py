@@ -6,11 +6,11 @@ import subprocess
 from . import markdown, sources
 
 ROOT = sources.ROOT
-PAGE = markdown.page("ARCHITECTURE.md")
+PAGE = markdown.page("explanation/architecture.md")
 
 # The most bytes of a page that is read as a whole. These are longer: each is a reference.
 MOST_BYTES = 20 * 1024
-LONGER = {"API.md", "CLUSTER.md", "CONTRACTS.md"}
+LONGER = {"api.md", "cluster.md", "contracts.md"}
 
 # What a build leaves.
 OUT = "out"
@@ -35,7 +35,7 @@ def check_lists(bench):
 def check_pictures(bench):
     """The page shows each picture that has a text, and each picture is that of its text."""
     bench.same("bin/pictures --check", said_by("bin/pictures", "--check"), (0, ""))
-    shown = set(re.findall(r"\]\(([\w-]+)\.svg\)", PAGE))
+    shown = set(re.findall(r"\]\(\.\./([\w-]+)\.svg\)", PAGE))
     bench.same("the pictures", shown, {path.stem for path in (ROOT / "docs").glob("*.dot")})
 
 
@@ -60,7 +60,7 @@ def check_folders(bench):
 
 def check_bytes(bench):
     """No page is longer than one reads at a time, except those that are known to be."""
-    for path in sorted((ROOT / "docs").glob("*.md")):
+    for path in sorted((ROOT / "docs").rglob("*.md")):
         size = path.stat().st_size
         bench.same(
             f"{path.name} has at most {MOST_BYTES:,} bytes, and not {size:,}", size <= MOST_BYTES or path.name in LONGER, True

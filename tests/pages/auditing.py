@@ -7,7 +7,7 @@ import pytest
 from . import markdown, sources
 from .shell import Shell, runs
 
-PAGE = markdown.page("AUDITING.md")
+PAGE = markdown.page("howto/audit.md")
 TOOLS = sources.ROOT / "tools"
 
 # The most lines that the page may have.

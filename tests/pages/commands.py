@@ -6,11 +6,11 @@ import subprocess
 from . import markdown, sources
 
 ROOT = sources.ROOT
-PAGE = markdown.page("EXTENDING.md")
+PAGE = markdown.page("howto/extend.md")
 
 # Files outside crates/ that are written by hand, and files in it: `bin/commands` finds both if they lack a command. The front's copy
 # of the office and the random lines have some commands by a part of their names.
-FOUND = ["crates/admin_mgr/specs/Verdict.antt", "crates/role_json/src/calls.rt", "docs/API.md", "tests/machine/commands.py"]
+FOUND = ["crates/admin_mgr/specs/Verdict.antt", "crates/role_json/src/calls.rt", "docs/reference/api.md", "tests/machine/commands.py"]
 FOUND += ["node/src/rbac-node/state/apply.go", "tests/machine/drawing.py"]
 
 # What writes each of these files.
@@ -50,7 +50,7 @@ def check_missing(bench):
 def check_page(bench):
     """Each file and each script that the page names exists."""
     paths = [path for path in re.findall(r"(?<![\w/.-])(?:bin|deploy|docs|tests|tools)/[\w./-]*\w", PAGE) if "NAME" not in path]
-    bench.same("paths of EXTENDING.md to nothing", [path for path in paths if not (ROOT / path).exists()], [])
-    lemmas = markdown.page("LEMMAS.md")
+    bench.same("paths of extend.md to nothing", [path for path in paths if not (ROOT / path).exists()], [])
+    lemmas = markdown.page("reference/lemmas.md")
     named = re.findall(r"\b([A-Z]\w+(?:Laws|Plans|Turns)|Refusing|Commanded)\b", PAGE)
     bench.same("lemma files that do not exist", [name for name in named if f"| {name} |" not in lemmas], [])

@@ -6,7 +6,7 @@ import re
 from . import markdown, openapi, sources, verdicts
 from .shell import Shell
 
-PAGE = markdown.page("INTEGRATING.md")
+PAGE = markdown.page("howto/integrate.md")
 MOST_LINES, MOST_BYTES = 360, 20_480
 
 # The languages of the blocks that tests/clients runs, and that of those that are run here.

@@ -1,5 +1,6 @@
-"""The page of the model: its limits and refusals are those of the sources, and each rule of docs/RULES.md leads to a definition, a
-function and tests that exist.
+"""The page of the model: its limits and refusals are those of the sources.
+
+Each rule of docs/explanation/rules.md leads to a definition, a function and tests that exist.
 """
 
 import json
@@ -9,11 +10,12 @@ import subprocess
 from . import markdown, sources, verdicts
 from .rules import BY_NAME, OF_LAWS, rows_of, rules, text_of
 
-PAGE = markdown.page("MODEL.md")
+PAGE = markdown.page("explanation/model.md")
 CRATES = sources.ROOT / "crates"
 
 # The pages that name refusals beside their codes.
-REFUSING = [f"{name}.md" for name in "MODEL TABLES LAWS RULES CONTRACTS DECISIONS PROOFS EXTENDING ARCHITECTURE API".split()]
+REFUSING = [f"explanation/{name}.md" for name in "model laws rules proofs architecture".split()]
+REFUSING += ["DECISIONS.md", "howto/extend.md", *(f"reference/{name}.md" for name in ("api", "contracts", "tables"))]
 
 # The tests that meet each limit of the commands.
 LIMITS = "office/commands/limits.rt.test"
@@ -198,7 +200,7 @@ def codes_of(cell):
 
 def check_checks(bench):
     """The tables of rows and of an opening have each check by which an office is damaged."""
-    text = markdown.page("TABLES.md")
+    text = markdown.page("reference/tables.md")
     cells = [row[0] for table in markdown.tables(text) for row in table]
     named = [checks for cell in cells for checks in re.findall(r"52 with check (\d+(?: (?:to|or) \d+)?)", cell)]
     listed = set().union(*(codes_of(checks) for checks in named))

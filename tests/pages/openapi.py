@@ -43,8 +43,8 @@ WORDS |= {"minLength", "maxLength", "minItems", "maxItems", "uniqueItems", "mini
 # The types of JSON as Python has them.
 PYTHON = {"object": dict, "array": list, "string": str, "boolean": bool, "integer": int}
 
-# What only the front answers: the refusals by the table of docs/FRONT.md and by its sources, and paths of no function.
-OF_FRONT = [row[:2] for table in markdown.tables(markdown.section(markdown.page("FRONT.md"), "## 5. What clients see"))
+# What only the front answers: the refusals by the table of docs/reference/front.md and by its sources, and paths of no function.
+OF_FRONT = [row[:2] for table in markdown.tables(markdown.section(markdown.page("reference/front.md"), "## 5. What clients see"))
             for row in table if re.fullmatch(r"\d{3} [\w ]+", row[0])]  # fmt: skip
 SOURCE = sources.ROOT / "node/src/rbac-node/api/api.go"
 PATHS_OF_FRONT = {
@@ -186,7 +186,7 @@ def has_form(schema, word, value):
 
 
 def check_written(bench):
-    """The description is what bin/openapi writes from docs/API.md."""
+    """The description is what bin/openapi writes from docs/reference/api.md."""
     command = [sys.executable, str(sources.ROOT / "bin/openapi"), "--check"]
     done = subprocess.run(command, capture_output=True, text=True, check=False)
     bench.same("what bin/openapi --check prints", (done.returncode, done.stderr), (0, ""))

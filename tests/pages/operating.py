@@ -17,7 +17,7 @@ from tools.running import lines_of_damage, numbers_shown
 from . import command_line, markdown, sources
 from .shell import Shell, runs
 
-PAGE = markdown.page("OPERATING.md")
+PAGE = markdown.page("howto/operate.md")
 CHECKS = markdown.section(PAGE, "## 5. What `check` reports")
 
 # Each damage of the small office with the statements that make it.
@@ -214,9 +214,9 @@ def check_version_1(bench):
     """The pages agree on where offices of version 1 come from: the program makes none."""
     for path, words in (
         ("CHANGELOG.md", "Only programs before it, which were never released, made offices of version 1."),
-        ("docs/API.md", "unless a program before 1.0.0 made it"),
-        ("docs/MODEL.md", "only programs before 1.0.0 made offices of version 1"),
-        ("docs/OPERATING.md", "Only programs before 1.0.0 made offices of version 1"),
+        ("docs/reference/api.md", "unless a program before 1.0.0 made it"),
+        ("docs/explanation/model.md", "only programs before 1.0.0 made offices of version 1"),
+        ("docs/howto/operate.md", "Only programs before 1.0.0 made offices of version 1"),
     ):
         text = (sources.ROOT / path).read_text(encoding="utf-8")
         bench.same(f"{path} states: {words}", words in markdown.in_one_line(text), True)
@@ -224,7 +224,7 @@ def check_version_1(bench):
 
 def check_groups(bench):
     """The table of groups names functions of the sources, and states how many the others are."""
-    table, _ = markdown.tables(markdown.page("NGINX.md"))
+    table, _ = markdown.tables(markdown.page("howto/proxies.md"))
     said, questions, all_of_them = dict(table), sources.question_keys(), sources.functions().values()
     named = re.findall(r"`(\w+)`", said["applications"])
     bench.same("functions that do not exist", sorted(set(named) - set(all_of_them)), [])

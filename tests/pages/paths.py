@@ -5,11 +5,12 @@ import re
 from . import sources
 
 ROOT = sources.ROOT
-PAGES = [f"docs/{name}.md" for name in "ARCHITECTURE DECISIONS EXTENDING LAWS MODEL PROOFS RULES TABLES".split()]
+PAGES = ["docs/DECISIONS.md", "docs/howto/extend.md", "docs/reference/tables.md"]
+PAGES += [f"docs/explanation/{name}.md" for name in "architecture laws model proofs rules".split()]
 PAGES += [f"{folder}/README.md" for folder in ("bench", "examples", "tests")]
 
 # The most words that a page may have.
-MOST_WORDS = {"tests/README.md": 2_800, "bench/README.md": 3_000, "docs/CONTRACTS.md": 5_600}
+MOST_WORDS = {"tests/README.md": 2_800, "bench/README.md": 3_000, "docs/reference/contracts.md": 5_600}
 
 # A path of the repository: below one of its folders.
 PATH = r"(?<![\w/.-])(?:bench|bin|crates|deploy|docs|examples|release|tests|tools|\.ci)/[\w./-]*"

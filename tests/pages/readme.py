@@ -1,6 +1,6 @@
 """The first page: its commands print what it shows, its limits and figures are those of the sources and the benchmarks.
 
-With it the table of docs/ARCHITECTURE.md that has the contracts of each crate to read first.
+With it the table of docs/explanation/architecture.md that has the contracts of each crate to read first.
 """
 
 import re
@@ -10,7 +10,7 @@ from .shell import Shell
 
 ROOT = sources.ROOT
 PAGE = (ROOT / "README.md").read_text(encoding="utf-8")
-CONTRACTS, ARCHITECTURE = markdown.page("CONTRACTS.md"), markdown.page("ARCHITECTURE.md")
+CONTRACTS, ARCHITECTURE = markdown.page("reference/contracts.md"), markdown.page("explanation/architecture.md")
 BENCHMARKS = (ROOT / "bench/README.md").read_text(encoding="utf-8")
 
 # The most bytes that the page may have, and the most lines of its first text.
@@ -19,7 +19,11 @@ MOST_FIRST = 5
 
 # The pages that the first page has to lead to.
 PAGES = "CHANGELOG.md SECURITY.md " + " ".join(
-    f"docs/{name}.md" for name in "FRONT CALLERS OPERATING IMAGE CONSOLE AUDITING INTEGRATING EMBEDDING API CONTRACTS CLUSTER".split()
+    f"docs/{name}.md"
+    for name in (
+        *("reference/front", "howto/callers", "howto/operate", "howto/container", "howto/console", "howto/audit", "howto/integrate"),
+        *("howto/embed", "reference/api", "reference/contracts", "howto/cluster"),
+    )
 )
 
 # What the library of the toolchain consists of. A crate names such a part if its proofs do.
@@ -27,7 +31,8 @@ PARTS_OF_STD = {"core", "libc", "std_alloc"}
 
 # The pages of which each path and each link has to lead somewhere.
 LINKED = ["README.md", "CHANGELOG.md", "CONTRIBUTING.md", "SECURITY.md"]
-LINKED += [f"docs/{name}.md" for name in ("API", "AUDITING", "CONTRACTS", "INTEGRATING", "NGINX", "OPERATING")]
+LINKED += [f"docs/{name}.md" for name in ("reference/api", "reference/contracts")]
+LINKED += [f"docs/howto/{name}.md" for name in ("audit", "integrate", "proxies", "operate")]
 
 # The folders of the repository that pages name.
 FOLDERS = "bench bin clients crates deploy docs examples tests tools".split()
@@ -145,7 +150,7 @@ def check_speed(bench):
         bench.same(f"the figures of {row[0]}", said, [float(f"{number:.2g}") for number in wanted])
     rate = float(f"{cell('http', 'checkAccess, allowed', 2):.2g}")
     words = f"makes {rate:,.0f} decisions a second"
-    bench.same(f"OPERATING.md states: {words}", words in markdown.in_one_line(markdown.page("OPERATING.md")), True)
+    bench.same(f"operate.md states: {words}", words in markdown.in_one_line(markdown.page("howto/operate.md")), True)
 
 
 def check_crates(bench):
@@ -179,7 +184,7 @@ def check_trusted(bench):
     own = crates()
     libraries = {name.partition("_")[0] if name.startswith("sqlite_") else name for words in own.values() for name in words}
     (here,) = re.findall(r"^\*\*Trusted\*\*: (.*?)\n\n", PAGE, re.M | re.S)
-    for name, text in (("README.md", here), ("CONTRACTS.md", markdown.section(CONTRACTS, "## What is trusted"))):
+    for name, text in (("README.md", here), ("contracts.md", markdown.section(CONTRACTS, "## What is trusted"))):
         bench.same(f"what {name} trusts", sorted(set(re.findall(r"`(\w+)`", text))), sorted(libraries - set(own) - PARTS_OF_STD))
 
 

@@ -1,4 +1,4 @@
-"""The rules of docs/RULES.md and the laws of docs/LAWS.md: each with the places of its definition, its function and its tests.
+"""The rules and the laws of the pages about them: each with the places of its definition, its function and its tests.
 
 A place is a name, or `FILE: NAME` if several files have the name: FILE is the end of a path without its ending. The name of a test
 may be that of a file: a row of tests/rows, with the number of a line behind a colon, or a must-fail edit.
@@ -11,7 +11,7 @@ from dataclasses import dataclass
 
 from . import markdown, sources
 
-PAGE, LAWS = markdown.page("RULES.md"), markdown.page("LAWS.md")
+PAGE, LAWS = markdown.page("explanation/rules.md"), markdown.page("explanation/laws.md")
 ROOT = sources.ROOT
 
 # The table of the laws, and what the column of definitions has for a rule that no definition is of.
@@ -85,7 +85,7 @@ class Rule:
         return f"{self.table} {self.text} {standard_name(self.text)}".lower()
 
     def further_words(self):
-        """The text by which the rule is found if no rule is found by its own: names of places, and what API.md says."""
+        """The text by which the rule is found if no rule is found by its own: names of places, and what api.md says."""
         names = " ".join(place.name or place.path for place in [*self.definitions, *self.functions, *self.tests])
         return f"{self.words()} {names} {described(self.text)}".lower()
 
@@ -251,7 +251,7 @@ def rows_of(table):
 
 @functools.lru_cache(maxsize=None)
 def descriptions():
-    """What docs/API.md says of each function, and its name in the standard, which the description begins with."""
+    """What docs/reference/api.md says of each function, and its name in the standard, which the description begins with."""
     paths = json.loads((ROOT / "docs/openapi.json").read_text(encoding="utf-8"))["paths"]
     posts = [methods["post"] for methods in paths.values() if "post" in methods]
     return {
@@ -261,7 +261,7 @@ def descriptions():
 
 
 def described(name):
-    """What docs/API.md says of a function, nothing of any other rule."""
+    """What docs/reference/api.md says of a function, nothing of any other rule."""
     return descriptions().get(name, "")
 
 

@@ -7,6 +7,9 @@ from . import sources
 
 ROOT = sources.ROOT
 
+# The folders of pages: one for each kind of reader.
+FOLDERS = ("", "tutorial", "howto", "reference", "explanation")
+
 # Files whose text is not ours, or is no text.
 OTHERS = re.compile(
     r"^(LICENSE|release/NOTICES|crates\.txt)$|^tests/(rows|edits|inputs)/|\.(png|svg|ico|jsonl|answers|gz|tar|xz|rt|antt)$"
@@ -16,7 +19,7 @@ OTHERS = re.compile(
 CONTINUED = re.compile(r"\n[ \t]*(?:#|//|--|\*|;|\.\\\"|>)?[ \t]*")
 
 # A page, with its link if it is one, and how a section follows it.
-PAGE = r"((?:\.\./)*(?:[\w-]+/)*[A-Z]+\.md)(?:\]\([^)\s]*\))?"
+PAGE = r"((?:\.\./)*(?:[\w-]+/)*[\w-]+\.md)(?:\]\([^)\s]*\))?"
 NUMBERS = r"[Ss]ections? (\d+(?:(?:, | and | to )\d+)*)(?!\.\d)"
 OF_PAGE = re.compile(rf"{PAGE}(?:, |,? whose |,? has from | has )?{NUMBERS}")
 BEFORE_PAGE = re.compile(rf"{NUMBERS} of \[?{PAGE}")
@@ -25,6 +28,8 @@ BARE = re.compile(NUMBERS)
 # A section of a standard, by its name before the number.
 STANDARD = re.compile(r"(?:RFC \d+|INCITS 359-2012|PEP \d+),? $")
 LINK = re.compile(r"\]\(([^)\s]*)#([^)\s]*)\)")
+# A link to a file or a folder of the repository as a whole.
+PLAIN_LINK = re.compile(r"\]\(([^)\s:#]+)\)")
 
 
 def headings(page):
@@ -45,8 +50,8 @@ def numbers(text):
 
 
 def path_of(name, page):
-    """The path of a page that is named in a file, or None: beside the file, from the top, or in docs/."""
-    for path in ((ROOT / name).parent / page, ROOT / page, ROOT / "docs" / page):
+    """The path of a page that is named in a file, or None: beside the file, from the top, or in a folder of docs/."""
+    for path in ((ROOT / name).parent / page, ROOT / page, *(ROOT / "docs" / folder / page for folder in FOLDERS)):
         if path.is_file():
             return path
     return None
@@ -88,6 +93,10 @@ def faults_of(name, text):
         for target, wanted in LINK.findall(text):
             if not target.startswith("http"):
                 judge(f"{target}#{wanted}", target or name, lambda page, wanted=wanted: wanted in map(anchor, headings(page)))
+        for target in PLAIN_LINK.findall(re.sub(r"^(```+).*?^\1", "", text, flags=re.M | re.S)):
+            count += 1
+            if not ((ROOT / name).parent / target).exists():
+                faults.append(target)
     return faults, count
 
 
@@ -120,21 +129,22 @@ def check_references(bench):
 def check_wrong_references(bench):
     """A wrong number, a page that is not there, a wrong title and a wrong anchor are found, however they are written."""
     for text, wrong in [
-        ("as FRONT.md, section 6, says", []),
-        ("as FRONT.md, section 16, says", ["FRONT.md, section 16"]),
-        ("as [FRONT.md](FRONT.md), section 16", ["FRONT.md](FRONT.md), section 16"]),
+        ("as front.md, section 6, says", []),
+        ("as front.md, section 16, says", ["front.md, section 16"]),
+        ("as [front.md](front.md), section 16", ["front.md](front.md), section 16"]),
         ("(docs/NOWHERE.md, section 1)", ["docs/NOWHERE.md, section 1"]),
-        ("Section 41 of docs/OPERATING.md", ["Section 41 of docs/OPERATING.md"]),
-        ("FRONT.md, sections 6 and 77", ["FRONT.md, sections 6 and 77"]),
-        ("FRONT.md, sections 8 to 10", ["FRONT.md, sections 8 to 10"]),
-        ("-- see docs/AUDITING.md,\n-- section 99", ["docs/AUDITING.md, section 99"]),
-        ("# docs/AUDITING.md, section\n# 99", ["docs/AUDITING.md, section 99"]),
+        ("Section 41 of docs/howto/operate.md", ["Section 41 of docs/howto/operate.md"]),
+        ("front.md, sections 6 and 77", ["front.md, sections 6 and 77"]),
+        ("front.md, sections 8 to 10", ["front.md, sections 8 to 10"]),
+        ("-- see docs/howto/audit.md,\n-- section 99", ["docs/howto/audit.md, section 99"]),
+        ("# docs/howto/audit.md, section\n# 99", ["docs/howto/audit.md, section 99"]),
         ("tests/README.md, \"The edits\", and tests/README.md, \"The fish\"", ['tests/README.md, "The fish"']),
         ("section 3, and section 33", ["own section 33"]),
         ("RFC 9110, section 33", []),
-        ("[x](FRONT.md#6-operating), [y](FRONT.md#7-operating), [z](#3-where-it-listens), [w](#none)",
-         ["FRONT.md#7-operating", "#none"]),
+        ("[x](front.md#6-operating), [y](front.md#7-operating), [z](#3-where-it-listens), [w](#none)",
+         ["front.md#7-operating", "#none"]),
         ("[a](NOWHERE.md#one)", ["NOWHERE.md#one"]),
+        ("[a](api.md), [b](../howto/operate.md), [c](../../tests), [d](operate.md), [e](https://example.com/x.md)", ["operate.md"]),
     ]:  # fmt: skip
-        bench.same(text, faults_of("docs/FRONT.md", text)[0], wrong)
-    bench.same("a comment of SQL", faults_of("tools/x.sql", "-- docs/MODEL.md, section 3")[0], ["docs/MODEL.md, section 3"])
+        bench.same(text, faults_of("docs/reference/front.md", text)[0], wrong)
+    bench.same("a comment of SQL", faults_of("tools/x.sql", "-- model.md, section 3")[0], ["model.md, section 3"])

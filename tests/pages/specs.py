@@ -1,4 +1,4 @@
-"""The definitions that an auditor has to read: those of private contracts alone are apart, and docs/PROOFS.md has the lines.
+"""The definitions that an auditor has to read: those of private contracts alone are apart, and docs/explanation/proofs.md has the lines.
 
 A public contract reaches the definitions that it names, and what these name in turn. A module of definitions is a file of specs/.
 If no public contract reaches a definition of it, it is in specs/private/; every other module is not.
@@ -180,7 +180,7 @@ def lines_of(crate):
 
 def check_lines(bench):
     """The table of the page has the lines of each crate with definitions, and their sums."""
-    (table,) = markdown.tables(markdown.section(markdown.page("PROOFS.md"), "## What an auditor has to believe"))
+    (table,) = markdown.tables(markdown.section(markdown.page("explanation/proofs.md"), "## What an auditor has to believe"))
     counts = {f"`{crate}`": lines_of(crate) for crate in sorted({crate for crate, _ in files()})}
     counts["all"] = tuple(map(sum, zip(*counts.values())))
     listed = {row[0]: row[1:4] for row in table}

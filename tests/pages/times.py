@@ -5,7 +5,7 @@ import re
 from . import markdown, sources
 
 PAGES = ["README.md"]
-PAGES += [f"docs/{name}.md" for name in ("API", "AUDITING", "CLUSTER", "INTEGRATING", "NGINX", "OPERATING")]
+PAGES += ["docs/reference/api.md", *(f"docs/howto/{name}.md" for name in ("audit", "cluster", "integrate", "operate", "proxies"))]
 
 # A time, or a rate.
 TIME = r"(?<![\w.,-])\d[\d,.]*(?: to \d[\d,.]*)? ?(?:microseconds|milliseconds|us|ms|seconds|s|minutes|hours)\b"
@@ -14,11 +14,11 @@ VAGUE = r"\b(?:takes?|took|in|over|about) (?:a|an|half an?) (?:second|minute|hou
 
 # The times that nobody measured: they are settings of the program and of what is beside it, or promises.
 SETTINGS = {
-    "docs/API.md": ["5 seconds"],
-    "docs/CLUSTER.md": ["10 seconds", "90 seconds", "10 s"],
-    "docs/INTEGRATING.md": ["3 seconds", "5 seconds", "10 seconds", "100 seconds"],
-    "docs/NGINX.md": ["30 seconds", "60 seconds"],
-    "docs/OPERATING.md": ["10 seconds", "60 seconds"],
+    "docs/reference/api.md": ["5 seconds"],
+    "docs/howto/cluster.md": ["10 seconds", "90 seconds", "10 s"],
+    "docs/howto/integrate.md": ["3 seconds", "5 seconds", "10 seconds", "100 seconds"],
+    "docs/howto/proxies.md": ["30 seconds", "60 seconds"],
+    "docs/howto/operate.md": ["10 seconds", "60 seconds"],
 }
 
 # What a section has to name beside a time.

@@ -1,4 +1,4 @@
-"""The commands of docs/POLICY.md print what it shows, and what it lists is what the commands have."""
+"""The commands of docs/howto/policy.md print what it shows, and what it lists is what the commands have."""
 
 import os
 import re
@@ -13,7 +13,7 @@ from program.bench import TESTS
 from .commands import command, ends
 from .conftest import OF_FRONT
 
-PAGE = markdown.page("POLICY.md")
+PAGE = markdown.page("howto/policy.md")
 
 # The most bytes that the page may have.
 MOST_BYTES = 16_000
@@ -54,6 +54,6 @@ def check_options(bench, name):
     options = {option for text in texts.values() for option in re.findall(r"(--[a-z-]+)", text)} - {"--help"}
     manual = markdown.page(f"{name}.1").replace("\\-", "-")
     bench.same("commands and options are found", (len(found) > 1, len(options) > 10), (True, True))
-    for place, text in (("docs/POLICY.md", PAGE), (f"docs/{name}.1", manual)):
+    for place, text in (("docs/howto/policy.md", PAGE), (f"docs/{name}.1", manual)):
         bench.same(f"options that {place} lacks", sorted(option for option in options if option not in text), [])
         bench.same(f"commands that {place} lacks", sorted(one for one in found if not re.search(rf"\b{one}\b", text)), [])

@@ -1,4 +1,4 @@
-"""The examples of docs/INTEGRATING.md, section 7: built as the page says in a clean folder, and run over a front."""
+"""The examples of docs/howto/integrate.md, section 7: built as the page says in a clean folder, and run over a front."""
 
 import os
 import shutil
@@ -18,7 +18,7 @@ from .driving import GO_TAGS, LANGUAGES
 # Programs are built and run on the disk: a file system in memory may forbid running them.
 ON_DISK = True
 
-SECTION = markdown.section(markdown.page("INTEGRATING.md"), "## 7. A replica in the process")
+SECTION = markdown.section(markdown.page("howto/integrate.md"), "## 7. A replica in the process")
 BANK = (TESTS.parent / "examples/bank.jsonl").read_bytes().splitlines(keepends=True)
 PRINTED = {"python": "allowed True\n", "go": "allowed true\n"}
 

@@ -1,7 +1,7 @@
 // Package rbacclient is a client of the role administration server rbac and of its front.
 //
-// A Client has a method for each of the functions of docs/API.md, Check and May for decisions, OpenSession for sessions, and Guard
-// for handlers of net/http. docs/INTEGRATING.md shows how an application uses them. It needs nothing but Go's own library.
+// A Client has a method for each of the functions of docs/reference/api.md, Check and May for decisions, OpenSession for sessions, and Guard
+// for handlers of net/http. docs/howto/integrate.md shows how an application uses them. It needs nothing but Go's own library.
 package rbacclient
 
 import (
@@ -30,7 +30,7 @@ type Config struct {
 	TLS *tls.Config
 	// Pause passes before a command is sent again, and each further pause is twice as long. The default is 100 milliseconds.
 	Pause time.Duration
-	// NoRepeats says that a command whose answer was lost is never sent again, even if docs/INTEGRATING.md, section 3, allows it.
+	// NoRepeats says that a command whose answer was lost is never sent again, even if docs/howto/integrate.md, section 3, allows it.
 	NoRepeats bool
 	// Log gets lines about decisions that the office hasn't made: one for each change of the reason, and otherwise one a second, which
 	// counts the others. The default is the standard logger.
@@ -331,7 +331,7 @@ func targetOf(function string) (method, path string) {
 	return http.MethodPost, "/v1/" + function
 }
 
-// PolicyRevision returns the newest revision of the policy that an answer has had: Policy-Revision of docs/REQUESTS.md, or 0. It begins
+// PolicyRevision returns the newest revision of the policy that an answer has had: Policy-Revision of docs/reference/requests.md, or 0. It begins
 // anew if a replica of this client finds that the office may have been restored.
 func (c *Client) PolicyRevision() uint64 {
 	return c.revision.Load()

@@ -6,7 +6,7 @@ import (
 	"strings"
 )
 
-// Reason is why a decision allows or denies, or why a call has no result. docs/INTEGRATING.md, section 1, has what to do.
+// Reason is why a decision allows or denies, or why a call has no result. docs/howto/integrate.md, section 1, has what to do.
 type Reason string
 
 // The reasons.
@@ -48,7 +48,7 @@ func (d Decision) IsDecided() bool {
 type Error struct {
 	Reason    Reason
 	MayBeDone bool
-	Code      int                    // the refusal's code of docs/API.md, or 0 if the server didn't refuse the request
+	Code      int                    // the refusal's code of docs/reference/api.md, or 0 if the server didn't refuse the request
 	Name      string                 // the refusal's name
 	Details   map[string]interface{} // the refusal's further key, if any
 	Err       error                  // what caused it, if the server didn't refuse the request
@@ -58,7 +58,7 @@ func (e *Error) Error() string {
 	if e.Code == 0 {
 		return fmt.Sprintf("rbacclient: %s: %v", e.Reason, e.Err)
 	}
-	// What a server sends is no text of a log: the name is that of docs/API.md, and the name of a set is only in Details.
+	// What a server sends is no text of a log: the name is that of docs/reference/api.md, and the name of a set is only in Details.
 	name, isKnown := refusalNames[e.Code]
 	if !isKnown {
 		name = "(a later refusal)"
@@ -143,7 +143,7 @@ func DecisionOf(isAllowed bool, err error) Decision {
 	return Decision{Reason: Denied}
 }
 
-// RefusedError returns the error of a refusal with a code and a name of docs/API.md.
+// RefusedError returns the error of a refusal with a code and a name of docs/reference/api.md.
 func RefusedError(code int, name string) *Error {
 	return refusal(code, name, nil)
 }

@@ -36,7 +36,7 @@ type SessionConfig struct {
 	Check Check
 }
 
-// LeftOut is a role that wasn't activated in a session, and the refusal of docs/API.md that says why.
+// LeftOut is a role that wasn't activated in a session, and the refusal of docs/reference/api.md that says why.
 type LeftOut struct {
 	Role    string
 	Code    int

@@ -1,6 +1,6 @@
 // Package rbacoffice has an office of roles in this process, by the library librbac.
 //
-// An Office answers the lines of docs/API.md, and decides about access without a line. docs/EMBEDDING.md says when to use it,
+// An Office answers the lines of docs/reference/api.md, and decides about access without a line. docs/howto/embed.md says when to use it,
 // and what is proved about it. The compiler of C has to find rbac.h, and the linker librbac.
 package rbacoffice
 
@@ -63,7 +63,7 @@ var (
 	ErrMemory = errors.New("rbacoffice: an allocation failed")
 )
 
-// RefusedError says that the office refused a request, and that nothing was done. Code and Name are those of docs/API.md.
+// RefusedError says that the office refused a request, and that nothing was done. Code and Name are those of docs/reference/api.md.
 type RefusedError struct {
 	Code    int
 	Name    string
@@ -119,7 +119,7 @@ func (o *Office) out(from, to C.size_t) []byte {
 	return (*[C.ROOM]byte)(unsafe.Pointer(&o.room.out))[from:to]
 }
 
-// Answer returns the answer to a line of docs/API.md, both without a line feed.
+// Answer returns the answer to a line of docs/reference/api.md, both without a line feed.
 func (o *Office) Answer(line []byte) ([]byte, error) {
 	o.mu.Lock()
 	defer o.mu.Unlock()

@@ -1,7 +1,7 @@
 // Package rbacreplica has a replica: a copy of an office in this process, which follows the front and decides by itself.
 //
-// It needs the library librbac, as the package rbacoffice does (docs/EMBEDDING.md). The caller of its client needs the rights snapshot
-// and watch, so it gets the whole policy. docs/INTEGRATING.md, section 7, says when to use it.
+// It needs the library librbac, as the package rbacoffice does (docs/howto/embed.md). The caller of its client needs the rights snapshot
+// and watch, so it gets the whole policy. docs/howto/integrate.md, section 7, says when to use it.
 package rbacreplica
 
 import (

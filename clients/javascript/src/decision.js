@@ -4,7 +4,7 @@ import { NAMES } from "./functions.js";
 import { inOneLine } from "./log.js";
 
 /**
- * Why a decision allows or denies, or why a call has no result. docs/INTEGRATING.md, section 1, has what to do.
+ * Why a decision allows or denies, or why a call has no result. docs/howto/integrate.md, section 1, has what to do.
  *
  * @typedef {"allowed" | "denied" | "ended_session" | "unknown_name" | "refused" | "invalid_request" | "unauthenticated" | "forbidden"
  *   | "unavailable" | "unreachable" | "untrusted" | "unanswered" | "unexpected"} Reason
@@ -53,7 +53,7 @@ export class OfficeError extends Error {
   }
 }
 
-/** The server refused the request. `code` and `refusal` are those of docs/API.md, `details` has the further key, if any. */
+/** The server refused the request. `code` and `refusal` are those of docs/reference/api.md, `details` has the further key, if any. */
 export class RefusedError extends OfficeError {
   /**
    * @param {number} code
@@ -61,7 +61,7 @@ export class RefusedError extends OfficeError {
    * @param {Record<string, string | number>} details
    */
   constructor(code, refusal, details) {
-    // What a server sends is no text of a log: the name is that of docs/API.md, and the name of a set is only in `details`.
+    // What a server sends is no text of a log: the name is that of docs/reference/api.md, and the name of a set is only in `details`.
     const more = Object.entries(details).map(([key, value]) => (typeof value === "number" ? ` ${key} ${value}` : ""));
     super(REASONS[code] ?? "refused", `${code} ${NAMES[code] ?? "(a later refusal)"}${more.join("")}`, [41, 60, 61].includes(code));
     this.name = "RefusedError";

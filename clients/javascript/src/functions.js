@@ -1,4 +1,4 @@
-// The functions of docs/API.md as methods. bin/clients writes this file: do not edit it.
+// The functions of docs/reference/api.md as methods. bin/clients writes this file: do not edit it.
 
 /**
  * What the answer of each function has as its value.
@@ -164,7 +164,7 @@ export const AGAIN = {
 };
 
 /**
- * The functions as methods. Their parameters are keys of docs/API.md. The promise of each is rejected with an
+ * The functions as methods. Their parameters are keys of docs/reference/api.md. The promise of each is rejected with an
  * `OfficeError` if it has no result.
  */
 export class Functions {

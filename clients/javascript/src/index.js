@@ -1,4 +1,4 @@
-// A client of the role administration server `rbac` and of its front, for Node 18 or later. docs/INTEGRATING.md shows how an
+// A client of the role administration server `rbac` and of its front, for Node 18 or later. docs/howto/integrate.md shows how an
 // application uses it. It needs nothing but Node's own modules.
 
 export { Client } from "./client.js";

@@ -21,7 +21,7 @@ export function sessionDigest(name) {
 }
 
 /**
- * A role that wasn't activated in a session, and the refusal of docs/API.md that says why, with its further key if there is one.
+ * A role that wasn't activated in a session, and the refusal of docs/reference/api.md that says why, with its further key if there is one.
  *
  * @typedef {{ role: string, code: number, error: string, set?: string, kind?: string }} LeftOut
  */

@@ -10,7 +10,7 @@
  * @property {string | Uint8Array} [certificate] the client's own certificate
  * @property {string | Uint8Array} [key] the key of that certificate
  * @property {number} [pause] how many milliseconds pass before a command is sent again, each time twice as many; 100 if absent
- * @property {boolean} [repeats] whether a command whose answer was lost is sent again, if docs/INTEGRATING.md, section 3, says that it
+ * @property {boolean} [repeats] whether a command whose answer was lost is sent again, if docs/howto/integrate.md, section 3, says that it
  *   may be; true if absent
  * @property {(line: string) => void} [log] gets lines about decisions that the office hasn't made: one for each change of the reason, and
  *   otherwise one a second, which counts the others
@@ -131,7 +131,7 @@ export type Options = {
      */
     pause?: number | undefined;
     /**
-     * whether a command whose answer was lost is sent again, if docs/INTEGRATING.md, section 3, says that it
+     * whether a command whose answer was lost is sent again, if docs/howto/integrate.md, section 3, says that it
      * may be; true if absent
      */
     repeats?: boolean | undefined;

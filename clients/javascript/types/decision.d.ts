@@ -5,7 +5,7 @@
  */
 export function undecided(error: unknown): Decision;
 /**
- * Why a decision allows or denies, or why a call has no result. docs/INTEGRATING.md, section 1, has what to do.
+ * Why a decision allows or denies, or why a call has no result. docs/howto/integrate.md, section 1, has what to do.
  *
  * @typedef {"allowed" | "denied" | "ended_session" | "unknown_name" | "refused" | "invalid_request" | "unauthenticated" | "forbidden"
  *   | "unavailable" | "unreachable" | "untrusted" | "unanswered" | "unexpected"} Reason
@@ -40,7 +40,7 @@ export class OfficeError extends Error {
     reason: Reason;
     mayBeDone: boolean;
 }
-/** The server refused the request. `code` and `refusal` are those of docs/API.md, `details` has the further key, if any. */
+/** The server refused the request. `code` and `refusal` are those of docs/reference/api.md, `details` has the further key, if any. */
 export class RefusedError extends OfficeError {
     /**
      * @param {number} code
@@ -61,6 +61,6 @@ export class RefusedError extends OfficeError {
  */
 export const REASONS_OF_STATUSES: Record<number, Reason>;
 /**
- * Why a decision allows or denies, or why a call has no result. docs/INTEGRATING.md, section 1, has what to do.
+ * Why a decision allows or denies, or why a call has no result. docs/howto/integrate.md, section 1, has what to do.
  */
 export type Reason = "allowed" | "denied" | "ended_session" | "unknown_name" | "refused" | "invalid_request" | "unauthenticated" | "forbidden" | "unavailable" | "unreachable" | "untrusted" | "unanswered" | "unexpected";

@@ -23,7 +23,7 @@ export const NAMES: Readonly<Record<number, string>>;
  */
 export const AGAIN: Readonly<Record<string, number>>;
 /**
- * The functions as methods. Their parameters are keys of docs/API.md. The promise of each is rejected with an
+ * The functions as methods. Their parameters are keys of docs/reference/api.md. The promise of each is rejected with an
  * `OfficeError` if it has no result.
  */
 export class Functions {

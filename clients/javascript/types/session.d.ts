@@ -57,7 +57,7 @@ export class Session {
     #private;
 }
 /**
- * A role that wasn't activated in a session, and the refusal of docs/API.md that says why, with its further key if there is one.
+ * A role that wasn't activated in a session, and the refusal of docs/reference/api.md that says why, with its further key if there is one.
  */
 export type LeftOut = {
     role: string;

@@ -95,7 +95,7 @@ class AsyncClient(AsyncOffice):
 
     @property
     def policy_revision(self) -> int:
-        """The newest revision of the policy that an answer has had: `Policy-Revision` of docs/REQUESTS.md, or 0."""
+        """The newest revision of the policy that an answer has had: `Policy-Revision` of docs/reference/requests.md, or 0."""
         return self._settings.revision
 
     async def close(self) -> None:

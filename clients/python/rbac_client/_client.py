@@ -94,7 +94,7 @@ class Client(Office):
         `ca`: the file of the authorities that may have issued the server's certificate, instead of those of the system.
         `certificate`, `key`: the files of the client's own certificate and key.
         `pause`: how many seconds pass before a command is sent again. Each further pause is twice as long.
-        `repeats`: whether a command whose answer was lost is sent again, if docs/INTEGRATING.md, section 3, says that it may be.
+        `repeats`: whether a command whose answer was lost is sent again, if docs/howto/integrate.md, section 3, says that it may be.
         """
         super().__init__()
         self._settings = Settings.of(addresses, timeout, token, ca, certificate, key, pause, repeats)
@@ -136,7 +136,7 @@ class Client(Office):
 
     @property
     def policy_revision(self) -> int:
-        """The newest revision of the policy that an answer has had: `Policy-Revision` of docs/REQUESTS.md, or 0.
+        """The newest revision of the policy that an answer has had: `Policy-Revision` of docs/reference/requests.md, or 0.
 
         It begins anew if a replica of this client finds that the office may have been restored.
         """

@@ -8,7 +8,7 @@ from ._functions import NAMES
 
 
 class Reason(str, enum.Enum):
-    """Why a decision allows or denies, or why a call has no result. docs/INTEGRATING.md, section 1, has what to do."""
+    """Why a decision allows or denies, or why a call has no result. docs/howto/integrate.md, section 1, has what to do."""
 
     ALLOWED = "allowed"
     DENIED = "denied"
@@ -65,7 +65,7 @@ class Unsendable(ValueError):
 
 
 class Refused(Error):
-    """The server refused the request. `code` and `name` are those of docs/API.md, `details` has the further key, if any.
+    """The server refused the request. `code` and `name` are those of docs/reference/api.md, `details` has the further key, if any.
 
     A refused command wasn't done, unless `may_be_done`: after 41 Store, 60 Unavailable and 61 Diverged, or if the answer to an
     earlier attempt of the same call was lost.
@@ -77,7 +77,7 @@ class Refused(Error):
         self.reason, self.may_be_done = REASONS.get(code, Reason.REFUSED), code in (41, 60, 61)
 
     def __str__(self) -> str:
-        # What a server sends is no text of a log: the name is that of docs/API.md, and the name of a set is only in `details`.
+        # What a server sends is no text of a log: the name is that of docs/reference/api.md, and the name of a set is only in `details`.
         more = [f"{key} {value}" for key, value in self.details.items() if type(value) is int]
         return " ".join([str(self.code), NAMES.get(self.code, "(a later refusal)"), *more])
 

@@ -1,4 +1,4 @@
-"""The functions of docs/API.md as methods. bin/clients writes this file: do not edit it."""
+"""The functions of docs/reference/api.md as methods. bin/clients writes this file: do not edit it."""
 
 from typing import Any, Dict, Iterable, List, Mapping, Tuple
 
@@ -153,7 +153,7 @@ AGAIN: Mapping[str, int] = {
 
 
 class Functions:
-    """The functions as methods. Their parameters are keys of docs/API.md.
+    """The functions as methods. Their parameters are keys of docs/reference/api.md.
 
     Each raises `Refused`, `Unanswered`, `Unreachable` or `Unexpected`, all of the class `Error`, if it has no result.
     """
@@ -572,7 +572,7 @@ class Functions:
 
 
 class AsyncFunctions:
-    """The functions as methods to await. Their parameters are keys of docs/API.md.
+    """The functions as methods to await. Their parameters are keys of docs/reference/api.md.
 
     Each raises `Refused`, `Unanswered`, `Unreachable` or `Unexpected`, all of the class `Error`, if it has no result.
     """

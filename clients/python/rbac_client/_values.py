@@ -29,7 +29,7 @@ class ImportReport:
 
 
 class LeftOut(NamedTuple):
-    """A role that wasn't activated in a session, and the refusal of docs/API.md that says why. `details` has its further key."""
+    """A role that wasn't activated in a session, and the refusal of docs/reference/api.md that says why. `details` has its further key."""
 
     role: str
     code: int

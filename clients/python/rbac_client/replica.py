@@ -1,7 +1,7 @@
 """A replica: a copy of an office in this process, which follows the front and decides by itself.
 
-It needs the module `rbac_office` with the library librbac (docs/EMBEDDING.md), Linux, and Python 3.10 or later. The caller of its client
-needs the rights `snapshot` and `watch`, so it gets the whole policy. docs/INTEGRATING.md, section 7, says when to use it.
+It needs the module `rbac_office` with the library librbac (docs/howto/embed.md), Linux, and Python 3.10 or later. The caller of its client
+needs the rights `snapshot` and `watch`, so it gets the whole policy. docs/howto/integrate.md, section 7, says when to use it.
 """
 
 import enum

@@ -5,7 +5,7 @@
     ..
     if office.check("s1", "open", "safe"):
 
-It is the library librbac, and no server is needed. docs/API.md describes the functions, docs/EMBEDDING.md when to use this
+It is the library librbac, and no server is needed. docs/reference/api.md describes the functions, docs/howto/embed.md when to use this
 and what is proved. An office may be used by several threads: each call waits for the one before it. os.fork waits until no thread
 is in a call, and the child has an office of its own then.
 """
@@ -44,7 +44,7 @@ _NAMES = {1: "BadName", 2: "NoUser", 6: "NoObject", 26: "NoSession", 32: "TooMan
 
 
 class Refused(Exception):
-    """The office refused a request, and nothing was done. `code` and `name` are those of docs/API.md."""
+    """The office refused a request, and nothing was done. `code` and `name` are those of docs/reference/api.md."""
 
     def __init__(self, code: int, name: str, details: dict[str, Any] | None = None) -> None:
         super().__init__(code, name, details or {})

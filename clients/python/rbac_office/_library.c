@@ -339,7 +339,7 @@ static PyObject *set_on_refusal(PyObject *Py_UNUSED(module), PyObject *function)
 }
 
 PyDoc_STRVAR(answer_doc, "answer($self, line, /)\n--\n\n"
-    "The answer to a line of docs/API.md, as `rbac replay` writes it, both as bytes without a line feed.\n\n"
+    "The answer to a line of docs/reference/api.md, as `rbac replay` writes it, both as bytes without a line feed.\n\n"
     "Raises MemoryError if an allocation failed: the line was done, or nothing was, and `revision` shows which.");
 PyDoc_STRVAR(check_doc, "check($self, session, operation, object, /)\n--\n\n"
     "Whether the session may do the operation on the object.");

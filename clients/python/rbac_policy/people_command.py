@@ -16,7 +16,7 @@ from .target import Target, refusal_text
 
 _MOST_SHOWN = 40
 _STATUSES = """The status is 0 if all is done, or nothing differs; 1 if a plan has a difference, or a command was refused; 2 if nothing could
-be done. docs/POLICY.md describes the file."""
+be done. docs/howto/policy.md describes the file."""
 
 
 def main(words: Sequence[str]) -> int:

@@ -20,7 +20,7 @@ from .validating import validate
 from .writing import write_policy
 
 _STATUSES = """The status is 0 if all is done, valid or passed, or if nothing differs; 1 if there are mistakes, a test failed, a plan
-has a difference, or a command was refused; 2 if nothing could be done. docs/POLICY.md describes the files."""
+has a difference, or a command was refused; 2 if nothing could be done. docs/howto/policy.md describes the files."""
 
 
 _SYSTEMS: dict[str, Callable[..., Imported]] = {

@@ -3,7 +3,8 @@
 //! There is one function for each command, or for the same command on static and on dynamic sets, and
 //! `judge` for any. The result is the verdict: the first of the command's refusals that applies, or `None`
 //! if the command is accepted. `refusals`, in specs/Verdict.antt, lists them in their order, and so does
-//! docs/API.md. A function that may have to copy the name of a violated set fails if that allocation does.
+//! docs/reference/api.md. A function that may have to copy the name of a violated set fails if that
+//! allocation does.
 //!
 //! The state is never copied: whether the state after the command violates a separation of duty set is
 //! computed from the state before it. An assignment, an activated role and an inheritance are checked

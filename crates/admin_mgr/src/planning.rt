@@ -47,7 +47,7 @@ impl State {
     ///
     /// # Errors
     ///
-    /// The first of the command's refusals that applies, in the order of docs/API.md. `Memory` if an
+    /// The first of the command's refusals that applies, in the order of docs/reference/api.md. `Memory` if an
     /// allocation failed. The state stays as it is in any case.
     pub fn plan(&self, alloc: Global, command: &Command) -> Result<Plan, Refusal>
         ensures accepted { IfOk result (λ plan. verdict self.now.facts command.now ≡ None) }

@@ -5,7 +5,7 @@ use crate::sets::NameSet;
 /// A command that changes an office: one of the administrative commands of the standard, of its
 /// commands on sessions, of the locks of version 2, or the import of assignments.
 ///
-/// docs/MODEL.md describes what each command does, when it is refused and in which order the
+/// docs/explanation/model.md describes what each command does, when it is refused and in which order the
 /// refusals are judged. `asc` is the ascendant and `desc` the descendant of an inheritance.
 /// `cardinality` is how many members of a separation of duty set are too many: a user is authorized
 /// for fewer members of a static set, and a session has fewer members of a dynamic set among its

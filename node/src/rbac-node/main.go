@@ -1,7 +1,7 @@
 // Command rbac-node answers clients from an office: on one machine from its file, or on several machines over a log in etcd.
 // rbac-node --help lists the commands, and rbac-node COMMAND --help the options of one.
 //
-// See docs/FRONT.md, and docs/CLUSTER.md for several machines.
+// See docs/reference/front.md, and docs/howto/cluster.md for several machines.
 package main
 
 import (

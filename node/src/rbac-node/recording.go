@@ -43,7 +43,7 @@ var records recordMode = withoutRecord{}
 type withoutRecord struct{}
 
 var errWithoutRecord = errors.New(
-	"this rbac-node was built without SQLite, which the record needs: docs/FRONT.md says how to build it, or give --no-record")
+	"this rbac-node was built without SQLite, which the record needs: docs/reference/front.md says how to build it, or give --no-record")
 
 func (withoutRecord) add(*settings, *single.Options, *metrics.Registry) error {
 	return errWithoutRecord

@@ -59,7 +59,7 @@ var cluster clusterMode = &withoutCluster{}
 // withoutCluster is a program for one machine only.
 type withoutCluster struct{ etcd string }
 
-var errWithoutCluster = errors.New("this rbac-node was built without etcd: docs/CLUSTER.md says what that needs")
+var errWithoutCluster = errors.New("this rbac-node was built without etcd: docs/howto/cluster.md says what that needs")
 
 func (c *withoutCluster) define(flags *flag.FlagSet) {
 	flags.StringVar(&c.etcd, "etcd", "", "not in this program, which was built for one machine")

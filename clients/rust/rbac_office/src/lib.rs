@@ -9,7 +9,7 @@
 //! # Ok::<(), rbac_office::Error>(())
 //! ```
 //!
-//! An `Office` answers the lines of docs/API.md, and decides about access without a line. docs/EMBEDDING.md says when to use
+//! An `Office` answers the lines of docs/reference/api.md, and decides about access without a line. docs/howto/embed.md says when to use
 //! it, and what is proved about it. An office may be used by several threads. `check`, `check_user` and `revision` run side by
 //! side; each other call waits for those before it, and runs alone.
 
@@ -28,7 +28,7 @@ const ROWS: usize = 64;
 /// Why a call has no result.
 #[derive(Clone, Debug, PartialEq, Eq)]
 pub enum Error {
-    /// The office refused: the code and the name are those of docs/API.md.
+    /// The office refused: the code and the name are those of docs/reference/api.md.
     Refused { code: u32, name: &'static str },
     /// An allocation failed. A line was done then, or nothing was, and the revision shows which.
     Memory,
@@ -197,7 +197,7 @@ impl Office {
         self.handle.read().unwrap_or_else(PoisonError::into_inner)
     }
 
-    /// The answer to a line of docs/API.md, as `rbac replay` writes it, both without a line feed.
+    /// The answer to a line of docs/reference/api.md, as `rbac replay` writes it, both without a line feed.
     pub fn answer(&self, line: &[u8]) -> Result<Vec<u8>, Error> {
         let mut room = [0; ROOM];
         let mut length = 0;

@@ -15,7 +15,7 @@ import javax.net.ssl.SSLContext;
 
 /**
  * A server, or several servers of one office: the functions as methods, decisions, and sessions. Threads may share it.
- * docs/INTEGRATING.md shows how an application uses it.
+ * docs/howto/integrate.md shows how an application uses it.
  */
 public final class Client extends Functions implements AutoCloseable {
     private static final System.Logger LOGGER = System.getLogger("rbac.client");
@@ -103,7 +103,7 @@ public final class Client extends Functions implements AutoCloseable {
             return this;
         }
 
-        /** Whether a command whose answer was lost is sent again, if docs/INTEGRATING.md, section 3, says that it may be. */
+        /** Whether a command whose answer was lost is sent again, if docs/howto/integrate.md, section 3, says that it may be. */
         public Builder repeats(boolean given) {
             repeats = given;
             return this;

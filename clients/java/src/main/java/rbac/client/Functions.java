@@ -7,7 +7,7 @@ import java.util.Map;
 import java.util.Set;
 
 /**
- * The functions of docs/API.md as methods. Their parameters are keys of that page. Each throws an {@link
+ * The functions of docs/reference/api.md as methods. Their parameters are keys of that page. Each throws an {@link
  * OfficeException} if it has no result. bin/clients writes this file: do not edit it.
  */
 public abstract class Functions {

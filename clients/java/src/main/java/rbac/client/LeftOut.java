@@ -1,6 +1,6 @@
 package rbac.client;
 
-/** A role that wasn't activated in a session, and the refusal of docs/API.md that says why. */
+/** A role that wasn't activated in a session, and the refusal of docs/reference/api.md that says why. */
 public final class LeftOut {
     private final String role;
     private final int code;

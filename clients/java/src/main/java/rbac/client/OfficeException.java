@@ -26,7 +26,7 @@ public final class OfficeException extends RuntimeException {
     }
 
     static OfficeException refused(int code, String refusal, Map<String, Object> details) {
-        // What a server sends is no text of a log: the name is that of docs/API.md, and the name of a set is only in the details.
+        // What a server sends is no text of a log: the name is that of docs/reference/api.md, and the name of a set is only in the details.
         var message = new StringBuilder(code + " " + Functions.NAMES.getOrDefault(code, "(a later refusal)"));
         details.forEach((key, value) -> message.append(value instanceof Long ? " " + key + " " + value : ""));
         var mayBeDone = code == 41 || code == 60 || code == 61;
@@ -55,7 +55,7 @@ public final class OfficeException extends RuntimeException {
         return mayBeDone;
     }
 
-    /** The refusal's code of docs/API.md, or 0 if the server didn't refuse the request. */
+    /** The refusal's code of docs/reference/api.md, or 0 if the server didn't refuse the request. */
     public int code() {
         return code;
     }

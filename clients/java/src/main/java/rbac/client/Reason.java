@@ -3,7 +3,7 @@ package rbac.client;
 import java.util.Locale;
 import java.util.Map;
 
-/** Why a decision allows or denies, or why a call has no result. docs/INTEGRATING.md, section 1, has what to do. */
+/** Why a decision allows or denies, or why a call has no result. docs/howto/integrate.md, section 1, has what to do. */
 public enum Reason {
     ALLOWED,
     DENIED,
