@@ -10,11 +10,12 @@ from .program import refused_start
 
 PAGES = {name: markdown.page(name) for name in ("reference/front.md", "howto/callers.md", "howto/cluster.md")}
 
-# Options of other programs on the pages: of etcd, etcdctl, curl, useradd, systemctl, bin/node and the tests; and of `record adopt`.
+# Options of other programs on the pages: of etcd, etcdctl, curl, useradd, systemctl, bin/node and the tests; and of `record adopt` and
+# `setup`.
 OTHERS = {
-    "advertise-client-urls", "build", "by", "cacert", "data-dir", "endpoints", "features", "gate", "home-dir", "initial-advertise-peer-urls",
+    "advertise-client-urls", "build", "by", "cacert", "data-dir", "dns", "endpoints", "features", "gate", "home-dir", "initial-advertise-peer-urls",
     "initial-cluster", "initial-cluster-state", "initial-cluster-token", "listen-client-urls", "listen-peer-urls", "long", "now", "part",
-    "peer-urls", "prefix", "print-value-only", "quota-backend-bytes", "reason", "shell", "system", "unix-socket",
+    "peer-urls", "prefix", "print-value-only", "quota-backend-bytes", "reason", "shell", "system", "unix-socket", "version",
 }  # fmt: skip
 
 # Options whose default depends on the machine, or on the kind of office.
