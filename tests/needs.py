@@ -70,7 +70,7 @@ PROGRAMS = {
     "minisign": "minisign", "btrfs-progs": "mkfs.btrfs", "e2fsprogs": "mkfs.ext4 chattr", "procps": "pgrep", "man-db": "man mandb apropos",
     "groff": "groff", "mandoc": "mandoc", "systemd": "systemd-analyze", "systemd-container": "systemd-nspawn",
     "dpkg-dev": "dpkg-buildpackage", "debhelper": "dh dh_installsysusers", "lintian": "lintian", "fish": "fish", "zsh": "zsh",
-    "binutils": "readelf strip", "buildah": "buildah", "podman": "podman", "bubblewrap": "bwrap",
+    "prometheus": "promtool prometheus", "binutils": "readelf strip", "buildah": "buildah", "podman": "podman", "bubblewrap": "bwrap",
 }  # fmt: skip
 
 NEEDS = {name: Need(program(name), package) for package, names in PROGRAMS.items() for name in names.split()} | {

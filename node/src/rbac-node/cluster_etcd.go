@@ -200,7 +200,7 @@ func (s *clusterSettings) serveNode(ctx context.Context, shared *ledger.Ledger, 
 		s.common.refused = filepath.Join(s.Data, "refused")
 	}
 	registry := &metrics.Registry{}
-	registry.AddProcess(version)
+	registry.AddProcess(version, sources, proved)
 	f, err := front.New(ctx, s.common.frontOptions(addresses, events, registry))
 	if err != nil {
 		return err

@@ -3,6 +3,7 @@ package main
 import (
 	"context"
 	"errors"
+	"flag"
 	"fmt"
 	"os"
 	"path/filepath"
@@ -31,8 +32,8 @@ type recordMode interface {
 	// carry begins the record of a node with that of a backup of a node, and returns the path of the backup's office and the head. What
 	// it returns last takes that back.
 	carry(ctx context.Context, s *settings, backup, data string) (office, head string, undo func(), err error)
-	// run does `record WORD ..` and `backup ..`.
-	run(words []string) error
+	// commands returns the commands about records and backups.
+	commands() []command
 }
 
 // records is replaced if the program is built with the library of SQLite.
@@ -57,7 +58,14 @@ func (withoutRecord) carry(context.Context, *settings, string, string) (office, 
 	return "", "", nil, errWithoutRecord
 }
 
-func (withoutRecord) run([]string) error { return errWithoutRecord }
+func (withoutRecord) commands() (all []command) {
+	for _, name := range []string{"record", "backup", "restore"} {
+		all = append(all, command{name, "..", "is not in this program, which was built without SQLite", func(*flag.FlagSet) func([]string) error {
+			return func([]string) error { return errWithoutRecord }
+		}})
+	}
+	return all
+}
 
 // addRecord makes an office keep a record, unless the command line says that it shouldn't.
 func (s *settings) addRecord(office *single.Options, registry *metrics.Registry) error {

@@ -133,6 +133,8 @@ type Handler struct {
 	seconds *metrics.Histogram
 	// decisions counts what was denied and what was allowed.
 	decisions *metrics.Tally
+	// LogDecision may be nil.
+	LogDecision func(d Decision)
 }
 
 // NewHandler returns a handler. It answers until the context ends, also if the client has ended its side of the connection, as
@@ -156,6 +158,8 @@ type Judge interface {
 	MayAny(ctx context.Context, function string) error
 	// May refuses a call.
 	May(ctx context.Context, call *Call) error
+	// Caller returns who asks.
+	Caller() string
 }
 
 // Serve answers a request for a function that the judge lets through. done is called when the office has nothing more to do for the
@@ -177,11 +181,7 @@ func (h *Handler) Serve(w http.ResponseWriter, r *http.Request, judge Judge, don
 	done()
 	status := respond(w, answers, err)
 	if err == nil && call.Function == checkAccess {
-		allowed := 0
-		if string(answers.Texts[0]) == Allowed {
-			allowed = 1
-		}
-		h.Decided(allowed, 1-allowed)
+		h.Decided(decisionOf(call, judge.Caller(), answers.Texts[0]))
 	}
 	h.answers.Add(string(kind), strconv.Itoa(status))
 	h.seconds.Observe(string(kind), time.Since(start).Seconds())
@@ -189,12 +189,6 @@ func (h *Handler) Serve(w http.ResponseWriter, r *http.Request, judge Judge, don
 
 // checkAccess is the function that decides, and Allowed what it answers if it allows something.
 const checkAccess, Allowed = "checkAccess", `{"ok":true,"value":true}`
-
-// Decided counts decisions: how many were allowed and how many denied. One that the office refuses to make denies.
-func (h *Handler) Decided(allowed, denied int) {
-	h.decisions.Add(0, uint64(denied))
-	h.decisions.Add(1, uint64(allowed))
-}
 
 // respond writes the answer to a call or an error, and returns its status.
 func respond(w http.ResponseWriter, answers Answers, err error) int {

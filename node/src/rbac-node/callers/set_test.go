@@ -12,6 +12,7 @@ import (
 	"time"
 
 	"rbac-node/api"
+	"rbac-node/feed"
 	"rbac-node/logs"
 	"rbac-node/metrics"
 	"rbac-node/programtest"
@@ -21,7 +22,7 @@ import (
 func optionsOf(t *testing.T, lines ...string) Options {
 	return Options{
 		Files: Files{Callers: write(t, "callers.jsonl", strings.Join(lines, "\n")+"\n")}, Program: programtest.Path(t), AnswerTimeout: time.Minute,
-		HangTimeout: time.Minute, Reads: 1 << 40, Log: logs.New(&bytes.Buffer{}), Starts: (&metrics.Registry{}).Counter("starts", "", "replay"),
+		HangTimeout: time.Minute, Reads: 1 << 40, Log: logs.New(&bytes.Buffer{}), Figures: feed.NewFigures(&metrics.Registry{}),
 	}
 }
 

@@ -78,14 +78,17 @@ func (e *Endpoints) decideAll(r *request, rule api.Rule, queries []query) ([]dec
 		return nil, err
 	}
 	decisions, err := decisionsOf(queries, answers, views)
-	allowed := 0
-	for _, one := range decisions {
-		if one.allowed {
-			allowed++
-		}
+	for i, one := range decisions {
+		e.decided(r, queries[i], one)
 	}
-	e.Decided(allowed, len(decisions)-allowed)
 	return decisions, err
+}
+
+// decided passes on the decision about a query.
+func (e *Endpoints) decided(r *request, q query, d decision) {
+	e.Decided(r.Request, r.visitor, api.Decision{
+		Session: q.session, User: q.user, Operation: q.operation, Object: q.object, IsAllowed: d.allowed, Code: d.code, Name: d.name,
+	})
 }
 
 // questionsAbout returns what is asked for a query about a user, and notes what is known of the office at its place.

@@ -45,8 +45,8 @@ type Options struct {
 	PublicURL string
 	// Note is called after each answer, with its kind and status, and when the request began.
 	Note func(kind api.Kind, status int, start time.Time)
-	// Decided is called with how many decisions about access have allowed something and how many have denied it.
-	Decided func(allowed, denied int)
+	// Decided is called with each decision about access, which doesn't say who has asked for it.
+	Decided func(r *http.Request, visitor Visitor, decided api.Decision)
 	// Sign writes on a command who asks for it and why, or refuses it.
 	Sign func(r *http.Request, visitor Visitor, call *api.Call) error
 	// Denied is called if a caller may not do something.
