@@ -19,14 +19,14 @@ from .plans import CHANGED
 
 pytestmark = pytest.mark.needs(*OF_FRONT)
 
-# How many random pairs are tried over a front.
-PAIRS = 12
+# How many random pairs are tried over a front, and with --gate.
+PAIRS, PAIRS_OF_GATE = 6, 24
 
 
 @pytest.mark.seeds()
 def check_pairs(bench, seed):
     """Each of some plans turns the office of a front into another one; pull, plan and apply then find no difference."""
-    for number in range(PAIRS):
+    for number in range(PAIRS_OF_GATE if bench.is_gate or bench.is_long else PAIRS):
         drawn = random.Random(f"{seed} {number}")
         first, second = draw_pair(drawn, number)
         name = f"office {number}"

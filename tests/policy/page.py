@@ -10,7 +10,7 @@ from pages import markdown
 from pages.shell import Shell, runs
 from program.bench import TESTS
 
-from .commands import command, ends
+from .commands import command_here, ends
 from .conftest import OF_FRONT
 
 PAGE = markdown.page("POLICY.md")
@@ -47,10 +47,10 @@ def check_form(bench):
 @pytest.mark.parametrize("name", ["rbac-policy", "rbac-people"])
 def check_options(bench, name):
     """The page names each command and each option, and no other; so does the manual page."""
-    done = command(name, "--help")
+    done = command_here(name, "--help", folder=bench.folder)
     ends(bench, "the help", done, 0)
     found = set(re.findall(r"^    (\w+)  ", done.out.decode(), re.M))
-    texts = {one: command(name, one, "--help").out.decode() for one in found}
+    texts = {one: command_here(name, one, "--help", folder=bench.folder).out.decode() for one in found}
     options = {option for text in texts.values() for option in re.findall(r"(--[a-z-]+)", text)} - {"--help"}
     manual = markdown.page(f"{name}.1").replace("\\-", "-")
     bench.same("commands and options are found", (len(found) > 1, len(options) > 10), (True, True))
