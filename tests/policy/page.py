@@ -27,11 +27,10 @@ def check_commands(bench):
             ("bin/rbac-policy", TESTS.parent / "bin/rbac-policy"),
             ("bin/rbac-people", TESTS.parent / "bin/rbac-people"),
             ("bin/rbac-node", os.environ[FRONT]),
-            ("examples", TESTS.parent / "examples"),
         ):
             (bench.folder / name).symlink_to(path)
-        for name, language in (("policy.toml", "toml"), ("model.conf", "ini")):
-            (text,) = markdown.blocks(PAGE, language)
+        texts = [*markdown.blocks(PAGE, "toml"), *markdown.blocks(PAGE, "ini")]
+        for name, text in zip(("policy.toml", "callers.toml", "model.conf"), texts, strict=True):
             bench.write(name, "".join(f"{line}\n" for line in text).encode())
             bench.same(f"the page names {name}", f"as `{name}`" in PAGE, True)
         for line, shown in runs([line for block in markdown.blocks(PAGE, "console") for line in block]):
