@@ -75,7 +75,12 @@ type Refusal struct {
 	Name, Why    string
 }
 
-func (r Refusal) Error() string { return r.Name }
+func (r Refusal) Error() string {
+	if r.Why == "" {
+		return r.Name
+	}
+	return r.Name + ": " + r.Why
+}
 
 var (
 	// Unavailable means that there was no answer in time. A command may be done or not.
