@@ -67,6 +67,7 @@ PROGRAMS = {
     "openssl": "openssl", "openssh-client": "ssh-keygen", "strace": "strace", "psmisc": "fuser", "mount": "mount",
     "util-linux": "setpriv unshare findmnt", "iproute2": "ip",
     "nginx-light": "nginx", "haproxy": "haproxy", "logrotate": "logrotate", "rsync": "rsync", "restic": "restic",
+    "slapd": "slapd slapadd slapcat", "ldap-utils": "ldapsearch ldapwhoami",
     "minisign": "minisign", "btrfs-progs": "mkfs.btrfs", "e2fsprogs": "mkfs.ext4 chattr", "procps": "pgrep", "man-db": "man mandb apropos",
     "groff": "groff", "mandoc": "mandoc", "systemd": "systemd-analyze", "systemd-container": "systemd-nspawn",
     "dpkg-dev": "dpkg-buildpackage", "debhelper": "dh dh_installsysusers", "lintian": "lintian", "fish": "fish", "zsh": "zsh",

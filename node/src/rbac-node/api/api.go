@@ -75,7 +75,12 @@ type Refusal struct {
 	Name, Why    string
 }
 
-func (r Refusal) Error() string { return r.Name }
+func (r Refusal) Error() string {
+	if r.Why == "" {
+		return r.Name
+	}
+	return r.Name + ": " + r.Why
+}
 
 var (
 	// Unavailable means that there was no answer in time. A command may be done or not.
@@ -286,13 +291,15 @@ func read(r *http.Request, may func(function string) error) (Kind, *Call, error)
 // KindOfQuestions returns how the questions of a request are to be answered, or refuses what it says of that.
 func KindOfQuestions(r *http.Request) (Kind, error) {
 	if !isConsistency(r.Header.Get(consistencyField)) {
-		return Question, badRequest(http.StatusBadRequest)
+		return Question, wrongConsistency
 	}
 	return kindOf(r), nil
 }
 
 // consistencyField is the field of a request that says how new the state has to be that answers a question.
 const consistencyField = "Consistency"
+
+var wrongConsistency = badRequestSince(http.StatusBadRequest, "Consistency is linearizable or local")
 
 func kindOf(r *http.Request) Kind {
 	if r.Header.Get(consistencyField) == string(Local) {

@@ -33,11 +33,11 @@ func RuleOf(r *http.Request, office any) (rule Rule, err error) {
 	}
 	conditional, can := office.(Conditional)
 	if !can || !conditional.JudgesConditions() || len(values) != 1 {
-		return rule, badRequest(http.StatusBadRequest)
+		return rule, badRequestSince(http.StatusBadRequest, "%s is there more than once, or can't be judged here", conditionField)
 	}
 	revision, err := strconv.ParseUint(values[0], 10, 63)
 	if err != nil {
-		return rule, badRequest(http.StatusBadRequest)
+		return rule, badRequestSince(http.StatusBadRequest, "%s has to be a number", conditionField)
 	}
 	if revision == 0 {
 		return rule, Outdated // No policy has it.

@@ -166,7 +166,8 @@ func TestLoad(t *testing.T) {
 	}{
 		{"nothing", nil, ""},
 		{"blank lines", []string{"", " \t\r", user, ""}, ""},
-		{"not JSON", []string{user, "x"}, ":2: BadRequest"},
+		{"not JSON", []string{user, "x"}, ":2: BadRequest: this is no object of JSON"},
+		{"a wrong key", []string{user, `{"fn":"addRole","roles":["a"]}`}, ":2: BadRequest: role is missing, and has to be a text"},
 		{"an unknown function", []string{`{"fn":"fly"}`}, ":1: UnknownFunction"},
 		{"a question", []string{`{"fn":"ssdRoleSets"}`}, ":1: ssdRoleSets has no place"},
 		{"a session", []string{user, `{"fn":"createSession","user":"token:a","roles":[],"session":"s"}`}, ":2: createSession has no place"},

@@ -68,7 +68,8 @@ func (e *Endpoints) do(r *request, rule api.Rule, lines []*api.Call) ([][]byte, 
 		asked = append(asked, questions...)
 	}
 	if hasQuery && rule.IsStopped && api.NewBatch(r.kind, lines...).Kind == api.Command {
-		return nil, errNotRead // The office doesn't know whether such a line is refused.
+		// The office doesn't know whether such a line is refused.
+		return nil, notRead("with stop=first a batch of commands has no %s", api.DecideByUser)
 	}
 	found, err := e.ask(r, rule, asked...)
 	if err != nil {
@@ -104,7 +105,7 @@ func queryOf(line *api.Call) query {
 func readStop(target string) (bool, error) {
 	at, err := url.ParseRequestURI(target)
 	if err != nil {
-		return false, api.BadRequest(http.StatusBadRequest)
+		return false, errNoQuery
 	}
 	switch at.RawQuery {
 	case "":
@@ -112,7 +113,7 @@ func readStop(target string) (bool, error) {
 	case "stop=first":
 		return true, nil
 	}
-	return false, api.BadRequest(http.StatusBadRequest)
+	return false, notRead("a batch has no query but stop=first")
 }
 
 // writeLines answers a request with lines of JSON.
