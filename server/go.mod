@@ -3,6 +3,7 @@ module rbac-node
 go 1.19
 
 require (
+	github.com/coreos/go-systemd v22.3.2+incompatible
 	github.com/mattn/go-sqlite3 v1.14.16
 	go.etcd.io/etcd v3.4.23+incompatible
 	go.uber.org/zap v1.23.0
@@ -14,7 +15,6 @@ require (
 
 require (
 	github.com/coreos/go-semver v0.3.0 // indirect
-	github.com/coreos/go-systemd v22.3.2+incompatible // indirect
 	github.com/coreos/pkg v0.0.0 // indirect
 	github.com/gogo/protobuf v1.3.2 // indirect
 	github.com/golang/protobuf v1.3.5 // indirect

@@ -67,10 +67,11 @@ PROGRAMS = {
     "openssl": "openssl", "openssh-client": "ssh-keygen", "strace": "strace", "psmisc": "fuser", "mount": "mount",
     "util-linux": "setpriv unshare findmnt", "iproute2": "ip",
     "nginx-light": "nginx", "haproxy": "haproxy", "logrotate": "logrotate", "rsync": "rsync", "restic": "restic",
+    "slapd": "slapd slapadd slapcat", "ldap-utils": "ldapsearch ldapwhoami",
     "minisign": "minisign", "btrfs-progs": "mkfs.btrfs", "e2fsprogs": "mkfs.ext4 chattr", "procps": "pgrep", "man-db": "man mandb apropos",
     "groff": "groff", "mandoc": "mandoc", "systemd": "systemd-analyze", "systemd-container": "systemd-nspawn",
     "dpkg-dev": "dpkg-buildpackage", "debhelper": "dh dh_installsysusers", "lintian": "lintian", "fish": "fish", "zsh": "zsh",
-    "binutils": "readelf strip", "buildah": "buildah", "podman": "podman", "bubblewrap": "bwrap",
+    "prometheus": "promtool prometheus", "binutils": "readelf strip", "buildah": "buildah", "podman": "podman", "bubblewrap": "bwrap",
 }  # fmt: skip
 
 NEEDS = {name: Need(program(name), package) for package, names in PROGRAMS.items() for name in names.split()} | {

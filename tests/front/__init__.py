@@ -9,6 +9,11 @@
     clients     slow clients, many connections, heads that are meant to be read in two ways
     limited     what one caller can't do to others: large bodies and answers, framings that are errors
     restored    what a client knows from before a restore never counts after it
+    restores    restoring by one command, from backups that are good and others, and killed at each system call
+    setups      `rbac-node setup`, and bin/demo
+    monitored   metrics as Prometheus reads them, rules for alarms, the dashboard
+    decided     the log of decisions
+    listed      commands and options in the help, options and metrics on the pages
     table       the table of the calls and their scopes, row by row
     page        the commands of the page
     batches     batches of lines

@@ -10,11 +10,12 @@ from .program import refused_start
 
 PAGES = {name: markdown.page(name) for name in ("reference/front.md", "howto/callers.md", "howto/cluster.md")}
 
-# Options of other programs on the pages: of etcd, etcdctl, curl, useradd, systemctl, bin/node and the tests; and of `record adopt`.
+# Options of other programs on the pages: of etcd, etcdctl, curl, useradd, systemctl, bin/node and the tests; and of `record adopt` and
+# `setup`.
 OTHERS = {
-    "advertise-client-urls", "build", "by", "cacert", "data-dir", "endpoints", "gate", "home-dir", "initial-advertise-peer-urls",
+    "advertise-client-urls", "build", "by", "cacert", "data-dir", "dns", "endpoints", "gate", "home-dir", "initial-advertise-peer-urls",
     "initial-cluster", "initial-cluster-state", "initial-cluster-token", "listen-client-urls", "listen-peer-urls", "long", "now", "part",
-    "peer-urls", "prefix", "print-value-only", "quota-backend-bytes", "reason", "shell", "system", "unix-socket",
+    "peer-urls", "prefix", "print-value-only", "quota-backend-bytes", "reason", "shell", "system", "unix-socket", "version",
 }  # fmt: skip
 
 # Options whose default depends on the machine, or on the kind of office.
@@ -22,9 +23,9 @@ DEPENDING = {"connections", "name", "refused"}
 
 
 def options():
-    """The options of `rbac-node serve` as its help lists them, each with its default if it is one word."""
-    _, _, said = refused_start("serve", "--help")
-    found = re.findall(r'^  -([a-z-]+)(?: \w+)?\n    \t.*?(?: \(default:? "?([^" ]+?)"?\).*)?$', said, re.M)
+    """The options of `serve` and `callers` as their help lists them, each with its default if it is one word."""
+    said = "".join(refused_start(word, "--help")[1] for word in ("serve", "callers"))
+    found = re.findall(r"^  --([a-z-]+)(?: \S+)?\n {8}.*?(?: \(default: ([^ ]+?)\).*)?$", said, re.M)
     return {name: re.sub(r"(?<=h)0m0s$|(?<=m)0s$", "", default) for name, default in found}
 
 
@@ -50,6 +51,24 @@ def check_options(bench):
     for place, text in {**PAGES, "the unit": unit}.items():
         used = set(re.findall(r"(?<![\w-])--([a-z][a-z-]+)", text))
         bench.same(f"options in {place} that are none", sorted(used - known.keys() - OTHERS), [])
+
+
+def check_commands(bench):
+    """Each command of the list has a help of its own, with no option twice, and refuses an option that isn't there by one line."""
+    _, said, _ = refused_start("--help")
+    names = re.findall(r"^  rbac-node ((?:record )?[a-z]+) ", said, re.M)
+    bench.same("all commands", {"serve", "setup", "adopt", "callers", "health", "backup", "restore", "record verify", "record sign"} <= set(names), True)
+    for name in names:
+        status, out, said = refused_start(*name.split(), "--help")
+        found = re.findall(r"^  --([a-z-]+)", out, re.M)
+        bench.same(f"{name} --help", (status, out.startswith(f"rbac-node {name} "), said, sorted(set(found))), (0, True, "", sorted(found)))
+        for option in found:
+            bench.same(f"{name} --{option}", "not defined" in refused_start(*name.split(), f"--{option}", "-=")[2], False)
+        status, out, said = refused_start(*name.split(), "--no-such-option")
+        bench.same(f"{name}: another option", (status, out, said.count("\n"), f"rbac-node {name} --help" in said), (1, "", 1, True))
+    for words in ([], ["fly"], ["record"], ["record", "fly"], ["fly", "--help"]):
+        status, out, said = refused_start(*words)
+        bench.same(f"{words}", (status, out, said.count("\n")), (2, "", 1))
 
 
 def metrics_of(text):

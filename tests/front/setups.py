@@ -64,7 +64,7 @@ def check_setup(bench):
     undo = re.search(r"^  (rm .*)$", set_up(bench, *words[:-1], "other")[1], re.M)[1]
     subprocess.run(shlex.split(undo), check=True)
     bench.same("the files after it was undone", files_of(folder), made)
-    for wrong in ([], ["a", "b"], ["../a"], ["--csr", "a"], ["--listen", "nowhere", "a"]):
+    for wrong in ([], ["a", "b"], ["../a"], ["--csr", "a"], ["--listen", "nowhere", "a"], ["--listen", "0.0.0.0:8443", "a"]):
         status, said, errors = set_up(bench, "--folder", str(folder), *wrong)
         bench.same(f"{wrong}: refused by one line", (status, said, errors.count("\n")), (1, "", 1))
     bench.same("the files after them", files_of(folder), made)

@@ -38,8 +38,6 @@ def check_refused(bench):
     one = [*serve, "--office", office]
     tls = tls_words(bench)
     for what, words, says in [
-        ("nothing", [], "usage"),
-        ("an unknown command", ["fly"], "usage"),
         ("neither an office nor etcd", serve, "give --office FILE"),
         ("an office and etcd", [*one, "--etcd", "http://127.0.0.1:1"], "give --office FILE"),
         ("a word more", [*one, "word"], "usage"),
@@ -73,8 +71,8 @@ def check_refused(bench):
         bench.same(f"{what}: status and output", (status, out), (1, ""))
         bench.judge(f"{what}: one line", [] if says in said and said.count("\n") == 1 else [said])
     bench.same("no office was made", os.path.exists(office), False)
-    status, _, said = refused_start("serve", "--help")
-    bench.same("help", (status, "-office" in said), (0, True))
+    status, said, _ = refused_start("serve", "--help")
+    bench.same("help", (status, "--office" in said), (0, True))
 
 
 def check_no_office(bench):
@@ -97,7 +95,12 @@ def check_no_office(bench):
 def check_version(bench):
     """The version is that of the repository, in a line of its own and as a metric, beside what is known of the process."""
     version = (TESTS.parent / "VERSION").read_text(encoding="ascii").strip()
-    bench.same("--version", refused_start("--version"), (0, f"rbac-node {version}\n", ""))
+    status, out, said = refused_start("--version")
+    first, *others = out.splitlines()
+    program = re.search(r"^program (\w+)$", (TESTS.parent / "release/manifest").read_text(encoding="ascii"), re.M)[1]
+    bench.same("--version", (status, first, said), (0, f"rbac-node {version}", ""))
+    bench.same("the proved program", f"proved program: {program}" in others, True)
+    bench.same("the sources and Go", [bool(re.search(text, out, re.M)) for text in (r"^sources: [0-9a-f]{64}$", r"^built with: go1\.")], [True, True])
     status, out, said = refused_start("--help")
     bench.same("--help", (status, all(f"  rbac-node {word} " in out for word in ("serve", "callers", "record", "backup")), said), (0, True, ""))
     with Front(bench) as front:

@@ -232,7 +232,7 @@ def podman(folder):
         done = said or runner.call(
             "run", "--rm", "--network=slirp4netns", "--no-healthcheck", *hard_limits(), NAME, "--help"
         )
-        if not said and "-office" in done.stderr:
+        if not said and "-office" in done.stdout:
             return runner, ""
         said = said or done.stderr
     return None, said
@@ -247,7 +247,7 @@ def bubblewrap(folder):
             (folder / name).mkdir(exist_ok=True)
         words = runner.command(folder / "volume", folder / "settings", 1, "/usr/bin/rbac-node", "serve", "--help")
         done = subprocess.run(words, capture_output=True, text=True, check=False)
-        if "-office" in done.stderr:
+        if "-office" in done.stdout:
             return runner, ""
         said = done.stderr
     return None, said

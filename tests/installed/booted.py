@@ -254,7 +254,7 @@ def steps():
         "callers": [*block_with("office.callers", FRONT), CALLERS],
         "alone": [alone, ALONE],
         "backups": [quoted("systemctl start rbac-backup@office"), BACKUPS],
-        "restored": [*block_with("chown -R"), RESTORED],
+        "restored": [*block_with("rbac-node restore"), RESTORED],
         "ended": [f"sessions='{sessions}'", ENDED],
         "downgraded": [ASKED, downgrading, "runs $units; at office assignedRoles ann"],
         "upgraded": [client, *upgrading, UPGRADED],
@@ -269,7 +269,7 @@ RUN = "".join(f"rbac-node@{name} {one} installed\n" for name in ("office", "seco
 NOTHING = '{"ok":true,"value":[]} 200\n'
 FORBIDDEN = '{"code":63,"error":"Forbidden"} 403\n'
 ANSWERED = f"{RUN}{NOTHING}{NOTHING}answered: yes\n"
-OFFICES = "".join(f"/var/lib/rbac/{name}/office\n" for name in ("alone", "main", "office.before", "office", "second"))
+OFFICES = "".join(f"/var/lib/rbac/{name}/office\n" for name in ("alone", "main", "office", "second"))
 
 SAID = {
     "earlier": f'{{"ok":true}} 200\nrbac.service rbac installed, {OLDER}\n',
@@ -339,7 +339,16 @@ no office, no backup
 refused while a front has it
 success
 """,
-    "restored": f"office: OK\noffice.record/BASE: OK\noffice.record/record.db: OK\n{NOTHING}{NOTHING}verified: 0\nalone\nmain\noffice\noffice.before\nsecond\n",
+    "restored": f"""/var/lib/rbac/office/office was restored from /var/backups/rbac/office/TIME
+sessions that were ended: 0
+entry N of the record says who has restored it and why
+what was there before is in /var/lib/rbac/office/office.before-TIME
+{NOTHING}{NOTHING}verified: 0
+alone
+main
+office
+second
+""",
     "ended": f'{{"ok":true}}\nsuccess\ngood\nthe record is that of another office\n{NOTHING}',
     "downgraded": RUN.replace("installed", f"installed, {OLDER}") + NOTHING,
     "upgraded": ANSWERED,
@@ -348,7 +357,7 @@ success
     "again": f"{'active' * 4}{RUN[: RUN.index('rbac-node@second')]}{NOTHING}/var/lib/rbac root:rbac 750\n".replace(
         "active", "active\n"
     ),
-    "purged": f"""rbac: /var/lib/rbac is kept with: alone main office office.before second
+    "purged": f"""rbac: /var/lib/rbac is kept with: alone main office second
 rbac: /var/backups/rbac is kept with: alone office second
 rbac: /etc/rbac is kept with: alone.conf second.conf
 /etc/rbac/alone.conf
@@ -374,7 +383,7 @@ def check_systemd(bench):
     if not done:
         skip("boots")
     out = re.sub(r"\bbase-\d+-[0-9a-f]{64}\b", "BASE", done.out.decode())
-    out = re.sub(r"\boffice\.before\.\d+\b", "office.before", out)
+    out = re.sub(r"\b\d{8}-\d{6}[-.]\d{6}\b", "TIME", re.sub(r"\bentry \d+ of the record\b", "entry N of the record", out))
     said = dict(re.findall(r"^== (\w+)\n(.*?)(?=^== |\Z)", out, re.M | re.S))
     bench.same("the steps", list(said), list(SAID))
     for name, wanted in SAID.items():

@@ -94,7 +94,7 @@ def check_blocks(bench):
     bench.same("blocks without a language", PAGE.count("```"), 2 * len(re.findall(r"^```\w+$", PAGE, re.M)))
     here = ["--limit 1000\n", "rsync "]
     # By tests/installed.
-    elsewhere = ["apt install ./rbac_*.deb ./rbac-node_*.deb\nsystemctl enable", "addUser", "chown -R", "systemctl start rbac-backup@"]
+    elsewhere = ["apt install ./rbac_*.deb ./rbac-node_*.deb\nsystemctl enable", "addUser", "rbac-node restore", "systemctl start rbac-backup@"]
     elsewhere += ["systemctl disable --now rbac\n"]
     bench.same("blocks that are not run", len(commands_for("sh")), len({block_with(words) for words in here + elsewhere}))
 

@@ -4,6 +4,8 @@ import (
 	"context"
 	"time"
 
+	"github.com/coreos/go-systemd/daemon"
+
 	"rbac-node/internal/api"
 	"rbac-node/internal/front"
 	"rbac-node/internal/logs"
@@ -41,7 +43,7 @@ func answer(ctx context.Context, f *front.Front, office answerer, failed chan er
 	case <-life.Done():
 	case err = <-failed:
 	}
-	notify("STOPPING=1")
+	_, _ = daemon.SdNotify(false, daemon.SdNotifyStopping)
 	within, cancel := context.WithTimeout(context.Background(), endTimeout)
 	defer cancel()
 	f.Shutdown(within)

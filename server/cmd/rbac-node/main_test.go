@@ -7,17 +7,73 @@ import (
 	"net"
 	"os"
 	"path/filepath"
+	"strings"
 	"testing"
 	"time"
 )
 
-func TestHelp(t *testing.T) {
-	if err := run([]string{"serve", "--help"}); !errors.Is(err, flag.ErrHelp) {
-		t.Errorf("%v", err)
+// Words that are no command are refused by one line, with status 2.
+func TestUnknown(t *testing.T) {
+	unknown := [][]string{{}, {"fly"}, {"records"}, {"-office"}, {"record", "fly"}, {"record"}}
+	for _, words := range unknown {
+		var status statusError
+		if err := run(words); !errors.As(err, &status) || status.status != usageStatus || strings.Contains(err.Error(), "\n") {
+			t.Errorf("%v: %v", words, err)
+		}
 	}
-	for _, words := range [][]string{{}, {"fly"}} {
-		if err := run(words); err == nil {
-			t.Errorf("%v was accepted", words)
+}
+
+// Each flag is in the help of its command, below what it is about, and the list of subjects has no flag that no command has.
+func TestHelp(t *testing.T) {
+	has := map[string]bool{}
+	for _, one := range commands() {
+		flags := flag.NewFlagSet("", flag.ContinueOnError)
+		one.prepare(flags)
+		help := one.help(flags)
+		flags.VisitAll(func(f *flag.Flag) {
+			if count := strings.Count(help, "\n  --"+f.Name+" ") + strings.Count(help, "\n  --"+f.Name+"\n"); count != 1 {
+				t.Errorf("%s: --%s is there %d times", one.name, f.Name, count)
+			}
+			has[f.Name], has[one.name+" "+f.Name] = true, true
+		})
+		if given := strings.Count(help, "\n  --"); given != countFlags(flags) {
+			t.Errorf("%s: %d options in the help of %d", one.name, given, countFlags(flags))
+		}
+		if !strings.Contains(helpText(""), "\n  rbac-node "+one.name+" ") {
+			t.Errorf("%s is not in the list", one.name)
+		}
+		for _, words := range [][]string{append(strings.Fields(one.name), "--help"), append(strings.Fields(one.name), "-h")} {
+			if err := run(words); err != nil {
+				t.Errorf("%v: %v", words, err)
+			}
+		}
+	}
+	for _, about := range subjects {
+		for _, name := range about.flags {
+			if !has[name] {
+				t.Errorf("%s: no command has --%s", about.title, name)
+			}
+		}
+	}
+	for _, words := range [][]string{{"--help"}, {"-h"}, {"record", "--help"}, {"--version"}} {
+		if err := run(words); err != nil {
+			t.Errorf("%v: %v", words, err)
+		}
+	}
+}
+
+func countFlags(flags *flag.FlagSet) (count int) {
+	flags.VisitAll(func(*flag.Flag) { count++ })
+	return count
+}
+
+// What is wrong with options or arguments is said in one line that names the command.
+func TestUsage(t *testing.T) {
+	for _, words := range [][]string{{"serve", "x"}, {"serve", "--fly"}, {"setup"}, {"callers"}, {"health"}, {"adopt"}, {"serve", "--connections", "many"}} {
+		var status statusError
+		err := run(words)
+		if err == nil || errors.As(err, &status) || strings.Contains(err.Error(), "\n") || !strings.Contains(err.Error(), "rbac-node "+words[0]) {
+			t.Errorf("%v: %v", words, err)
 		}
 	}
 }

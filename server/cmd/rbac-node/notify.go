@@ -2,37 +2,26 @@ package main
 
 import (
 	"context"
-	"net"
-	"os"
-	"strconv"
 	"time"
+
+	"github.com/coreos/go-systemd/daemon"
 )
 
-// notify sends a state to systemd, if it has started this process and wants to know. If that fails, systemd notices.
-func notify(state string) {
-	conn, err := net.Dial("unixgram", os.Getenv("NOTIFY_SOCKET"))
-	if err != nil {
+// watchdog reports to systemd, if it wants to know, that the process is ready, and then, again and again, that it is alive. If the reports
+// stop, systemd starts it again. If a report fails, systemd notices.
+func watchdog(ctx context.Context, isAlive func(context.Context) bool) {
+	_, _ = daemon.SdNotify(false, daemon.SdNotifyReady)
+	patience, err := daemon.SdWatchdogEnabled(false)
+	if err != nil || patience == 0 {
 		return
 	}
-	defer conn.Close()
-	_, _ = conn.Write([]byte(state))
-}
-
-// watchdog reports to systemd that the process is ready, and then, again and again, that it is alive. If the reports stop, systemd
-// starts it again.
-func watchdog(ctx context.Context, isAlive func(context.Context) bool) {
-	notify("READY=1")
-	microseconds, err := strconv.ParseInt(os.Getenv("WATCHDOG_USEC"), 10, 64)
-	if err != nil || microseconds < 4 {
-		return // It doesn't want to know.
-	}
-	interval := time.Duration(microseconds) * time.Microsecond / 4
+	interval := patience / 4
 	ticker := time.NewTicker(interval)
 	defer ticker.Stop()
 	for {
 		within, cancel := context.WithTimeout(ctx, interval)
 		if isAlive(within) {
-			notify("WATCHDOG=1")
+			_, _ = daemon.SdNotify(false, daemon.SdNotifyWatchdog)
 		}
 		cancel()
 		select {

@@ -31,7 +31,7 @@ func (s *settings) serveOne(ctx context.Context) error {
 		s.refused = s.office + ".refused"
 	}
 	log, registry := logs.New(os.Stderr), &metrics.Registry{}
-	registry.AddProcess(version)
+	registry.AddProcess(version, sources, proved)
 	options := s.frontOptions(addresses, log, registry)
 	options.IsHostChecked, options.HasMetrics = true, true
 	f, err := front.New(ctx, options)
@@ -41,7 +41,7 @@ func (s *settings) serveOne(ctx context.Context) error {
 	defer f.Close()
 	one := single.Options{
 		File: s.office, Program: s.program, AnswerTimeout: s.answerTimeout, HangTimeout: s.hangTimeout, Reads: single.MostReads,
-		Log: log, Starts: options.Callers.Starts, IsOpen: options.IsOpen(),
+		Log: log, Figures: options.Callers.Figures, IsOpen: options.IsOpen(),
 		SessionAge: s.sessionAge, SessionIdle: s.sessionIdle,
 	}
 	failed := make(chan error, 1)

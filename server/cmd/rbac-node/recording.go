@@ -2,7 +2,6 @@ package main
 
 import (
 	"context"
-	"errors"
 	"fmt"
 	"os"
 	"path/filepath"
@@ -10,6 +9,7 @@ import (
 
 	"rbac-node/internal/logs"
 	"rbac-node/internal/metrics"
+	"rbac-node/internal/record"
 	"rbac-node/internal/recorded"
 	"rbac-node/internal/single"
 )
@@ -21,52 +21,46 @@ type recordSettings struct {
 	verifyEvery time.Duration
 }
 
-// recordMode is what a program with SQLite does.
-type recordMode interface {
-	// add makes an office keep a record.
-	add(s *settings, office *single.Options, registry *metrics.Registry) error
-	// follow returns the record of a node, with its folder, the office in use and the entries of a part, or nil if this program can't keep
-	// one.
-	follow(s *settings, data, office string, partEntries int64, log *logs.Logger, registry *metrics.Registry) recorded.Follower
-	// carry begins the record of a node with that of a backup of a node, and returns the path of the backup's office and the head. What
-	// it returns last takes that back.
-	carry(ctx context.Context, s *settings, backup, data string) (office, head string, undo func(), err error)
-	// run does `record WORD ..` and `backup ..`.
-	run(words []string) error
-}
-
-// records is replaced if the program is built with the library of SQLite.
-var records recordMode = withoutRecord{}
-
-// withoutRecord is a program that can't keep a record.
-type withoutRecord struct{}
-
-var errWithoutRecord = errors.New(
-	"this rbac-node was built without SQLite, which the record needs: docs/reference/front.md says how to build it, or give --no-record")
-
-func (withoutRecord) add(*settings, *single.Options, *metrics.Registry) error {
-	return errWithoutRecord
-}
-
-func (withoutRecord) follow(_ *settings, _, _ string, _ int64, log *logs.Logger, _ *metrics.Registry) recorded.Follower {
-	log.Warn("no record is kept: this program was built without SQLite")
-	return nil
-}
-
-func (withoutRecord) carry(context.Context, *settings, string, string) (office, head string, undo func(), err error) {
-	return "", "", nil, errWithoutRecord
-}
-
-func (withoutRecord) run([]string) error { return errWithoutRecord }
-
 // addRecord makes an office keep a record, unless the command line says that it shouldn't.
 func (s *settings) addRecord(office *single.Options, registry *metrics.Registry) error {
-	if !s.record.isOff {
-		return records.add(s, office, registry)
+	if s.record.isOff {
+		folder := s.office + ".record"
+		if _, err := os.Stat(filepath.Join(folder, "record.db")); err == nil {
+			return fmt.Errorf("--no-record would part the office from its record %s: move that folder away first", folder)
+		}
+		return nil
 	}
-	folder := s.office + ".record"
-	if _, err := os.Stat(filepath.Join(folder, "record.db")); err == nil {
-		return fmt.Errorf("--no-record would part the office from its record %s: move that folder away first", folder)
+	office.CheckRecord = func() error {
+		if err := record.CheckOffice(s.office); err != nil {
+			return err
+		}
+		return record.FreeReserve(s.office)
+	}
+	office.OpenRecord = func(ctx context.Context) (single.Recorder, error) {
+		r, err := record.Open(ctx, record.Options{
+			Office: s.office, Program: s.program, HangTimeout: s.hangTimeout, Every: s.record.every, Log: office.Log, Metrics: registry,
+			VerifyEvery: s.record.verifyEvery, Say: office.Say,
+		})
+		if err != nil {
+			return nil, err // Not a Recorder that is there and nil.
+		}
+		return r, nil
 	}
 	return nil
+}
+
+// followRecord returns the record of a node, with its folder, the office in use and the entries of a part.
+func (s *settings) followRecord(data, office string, partEntries int64, log *logs.Logger, registry *metrics.Registry) recorded.Follower {
+	return record.NewFollower(record.Options{
+		Office: office, Program: s.program, Dir: record.DirIn(data), HangTimeout: s.hangTimeout, PartEntries: partEntries, Log: log,
+		Metrics: registry,
+	})
+}
+
+// carryRecord begins the record of a node with that of a backup of a node, and returns the path of the backup's office and the head. What
+// it returns last takes that back.
+func (s *settings) carryRecord(ctx context.Context, backup, data string) (office, head string, undo func(), err error) {
+	dir := record.DirIn(data)
+	office, last, err := record.Carry(ctx, record.Options{Program: s.program, Dir: dir, HangTimeout: s.hangTimeout, Log: logs.New(os.Stderr)}, backup)
+	return office, last.String(), func() { _ = os.RemoveAll(dir) }, err
 }

@@ -11,6 +11,7 @@ import (
 	"time"
 
 	"rbac-node/internal/callers"
+	"rbac-node/internal/feed"
 	"rbac-node/internal/front"
 	"rbac-node/internal/logs"
 	"rbac-node/internal/metrics"
@@ -35,66 +36,43 @@ type settings struct {
 	tls                                       web.TLS
 	callers                                   callers.Files
 	isCheck                                   bool
+	decisionsShare                            float64
+	decisionsFile                             string
 	record                                    recordSettings
+	cluster                                   clusterSettings
 	// hangups gets SIGHUP.
 	hangups chan os.Signal
 }
 
-// clusterMode is what a program for several machines does.
-type clusterMode interface {
-	define(flags *flag.FlagSet)
-	// isChosen reports whether the command line has chosen an office on several machines.
-	isChosen() bool
-	serve(s *settings) error
-	adopt(s *settings, office string) error
-}
-
-// cluster is replaced if the program is built with the libraries of etcd.
-var cluster clusterMode = &withoutCluster{}
-
-// withoutCluster is a program for one machine only.
-type withoutCluster struct{ etcd string }
-
-var errWithoutCluster = errors.New("this rbac-node was built without etcd: docs/howto/cluster.md says what that needs")
-
-func (c *withoutCluster) define(flags *flag.FlagSet) {
-	flags.StringVar(&c.etcd, "etcd", "", "not in this program, which was built for one machine")
-}
-
-func (c *withoutCluster) isChosen() bool { return c.etcd != "" }
-
-func (c *withoutCluster) serve(*settings) error { return errWithoutCluster }
-
-func (c *withoutCluster) adopt(*settings, string) error { return errWithoutCluster }
-
 // define defines the flags, and where their values go.
 func (s *settings) define(flags *flag.FlagSet) {
-	flags.StringVar(&s.office, "office", "", "file of the office, which is made if it doesn't exist, for one machine")
-	flags.StringVar(&s.listen, "listen", "", "where clients connect: HOST:PORT or unix:PATH, separated by commas")
-	flags.StringVar(&s.program, "program", "rbac", "the proved program, a path or a name that is looked up in PATH")
+	flags.StringVar(&s.office, "office", "", "`file` of the office, which is made if it doesn't exist, for one machine")
+	flags.StringVar(&s.listen, "listen", "", "where clients connect, as `ADDRESS,..`: each HOST:PORT or unix:PATH")
+	flags.StringVar(&s.program, "program", "rbac", "the proved `program`, a path or a name that is looked up in PATH")
 	flags.DurationVar(&s.answerTimeout, "timeout", 10*time.Second, "how long a request waits for its answer")
 	flags.DurationVar(&s.hangTimeout, "hang-timeout", time.Minute, "how long the replay may answer nothing before it is killed")
 	flags.IntVar(&s.connections, "connections", allowedConnections(), "how many connections of clients there may be at once")
 	flags.IntVar(&s.callerRequests, "caller-requests", defaultCallerRequests, "how many requests of one caller there may be at once")
-	flags.StringVar(&s.tls.Cert, "tls-cert", "", "certificate for clients")
-	flags.StringVar(&s.tls.Key, "tls-key", "", "key of that certificate")
-	flags.StringVar(&s.tls.CA, "tls-ca", "", "authority of the certificates of clients")
-	flags.StringVar(&s.callers.Callers, "callers", "", "file that says who may do what; without it everybody may do everything")
-	flags.StringVar(&s.callers.Tokens, "tokens", "", "file with the SHA-256 and the name of each token")
-	flags.StringVar(&s.callers.Keys, "oidc-keys", "", "file with the public keys of JWTs")
-	flags.StringVar(&s.callers.Issuer, "oidc-issuer", "", "who has to have issued JWTs")
-	flags.StringVar(&s.callers.Audience, "oidc-audience", "", "for whom JWTs have to be")
-	flags.StringVar(&s.callers.Subject, "oidc-claim", "sub", "claim of a JWT that names its caller")
+	flags.StringVar(&s.tls.Cert, "tls-cert", "", "`file` of the certificate for clients")
+	flags.StringVar(&s.tls.Key, "tls-key", "", "`file` of the key of that certificate")
+	flags.StringVar(&s.tls.CA, "tls-ca", "", "`file` of the authority of the certificates of clients")
+	flags.StringVar(&s.callers.Callers, "callers", "", "`file` that says who may do what; without it everybody may do everything")
+	flags.StringVar(&s.callers.Tokens, "tokens", "", "`file` with the SHA-256 and the name of each token")
+	flags.StringVar(&s.callers.Keys, "oidc-keys", "", "`file` with the public keys of JWTs")
+	flags.StringVar(&s.callers.Issuer, "oidc-issuer", "", "`issuer` of JWTs")
+	flags.StringVar(&s.callers.Audience, "oidc-audience", "", "`audience` for which JWTs have to be")
+	flags.StringVar(&s.callers.Subject, "oidc-claim", "sub", "`claim` of a JWT that names its caller")
 	flags.DurationVar(&s.sessionAge, "session-age", 0, "after how much time a session ends (default: never)")
 	flags.DurationVar(&s.sessionIdle, "session-idle", 0, "after how much time without a use a session ends (default: never), for one machine")
-	flags.StringVar(&s.publicURL, "public-url", "", "where clients find the front: https://HOST:PORT, for AuthZEN's metadata")
-	flags.StringVar(&s.origins, "origin", "", "origins from which browsers may send requests, separated by commas; it sets no CORS fields")
-	flags.StringVar(&s.refused, "refused", "", "file for requests that are refused with 401, 403 or 421 (default: OFFICE.refused)")
+	flags.StringVar(&s.publicURL, "public-url", "", "where clients find the front, as the `URL` https://HOST:PORT, for AuthZEN's metadata")
+	flags.StringVar(&s.origins, "origin", "", "origins from which browsers may send requests, as `ORIGIN,..`; it sets no CORS fields")
+	flags.StringVar(&s.refused, "refused", "", "`file` for requests that are refused with 401, 403 or 421 (default: OFFICE.refused)")
+	flags.Float64Var(&s.decisionsShare, "log-decisions", 0, "which `share` of the decisions is logged, from 0, for none, to 1")
+	flags.StringVar(&s.decisionsFile, "decisions-file", "", "`file` for them, which may be moved away (default: the log on standard error)")
 	flags.BoolVar(&s.record.isOff, "no-record", false, "don't record commands")
 	flags.DurationVar(&s.record.verifyEvery, "record-verify", 6*time.Hour,
 		"after how much time the whole chain of the record is verified again; 0 is never")
 	flags.Int64Var(&s.record.every, "record-base", 10_000, "commands between two copies of the office, from which a start does them again")
-	flags.BoolVar(&s.isCheck, "check", false, "with callers: only check the files of the callers")
 }
 
 // allowedConnections returns the default of --connections.
@@ -113,7 +91,7 @@ func (s *settings) check() error {
 		return errors.New("--timeout must be above zero, and --hang-timeout at least 1s")
 	case s.sessionAge < 0 || s.sessionIdle < 0:
 		return errors.New("--session-age and --session-idle must not be below zero")
-	case s.sessionIdle > 0 && cluster.isChosen():
+	case s.sessionIdle > 0 && s.cluster.isChosen():
 		return errors.New("--session-idle is for one machine: a node doesn't know which sessions are used at others")
 	case s.record.every < 1 || s.record.verifyEvery < 0:
 		return errors.New("--record-base must be at least 1")
@@ -122,6 +100,10 @@ func (s *settings) check() error {
 			1-web.MaxConnections())
 	case s.connections < 1 || s.connections > web.MaxConnections():
 		return fmt.Errorf("--connections must be from 1 to %d, as the limit of file descriptors allows", web.MaxConnections())
+	case !(s.decisionsShare >= 0 && s.decisionsShare <= 1):
+		return errors.New("--log-decisions must be from 0 to 1")
+	case s.decisionsFile != "" && s.decisionsShare == 0:
+		return errors.New("--decisions-file needs --log-decisions")
 	case s.callerRequests < 1:
 		return errors.New("--caller-requests must be at least 1")
 	case files.Callers == "" && files.Tokens+files.Keys != "":
@@ -144,11 +126,12 @@ func (s *settings) listenOr(other string) ([]front.Address, error) {
 func (s *settings) frontOptions(addresses []front.Address, log *logs.Logger, registry *metrics.Registry) front.Options {
 	options := front.Options{
 		Addresses: addresses, TLS: s.tls, Connections: s.connections, CallerRequests: s.callerRequests, AnswerTimeout: s.answerTimeout, Refused: s.refused,
-		PublicURL: strings.TrimSuffix(s.publicURL, "/"),
-		Log:       log, Metrics: registry, Hangups: s.hangups,
+		PublicURL:      strings.TrimSuffix(s.publicURL, "/"),
+		DecisionsShare: s.decisionsShare, DecisionsFile: s.decisionsFile,
+		Log: log, Metrics: registry, Hangups: s.hangups,
 		Callers: callers.Options{
 			Files: s.callers, Program: s.program, AnswerTimeout: s.answerTimeout, HangTimeout: s.hangTimeout, Reads: single.MostReads,
-			Log: log, Starts: registry.Counter("rbac_node_replay_starts_total", "Starts of a replay.", "replay"),
+			Log: log, Figures: feed.NewFigures(registry),
 		},
 	}
 	options.Callers.Authority = s.tls.CA

@@ -75,7 +75,12 @@ type Refusal struct {
 	Name, Why    string
 }
 
-func (r Refusal) Error() string { return r.Name }
+func (r Refusal) Error() string {
+	if r.Why == "" {
+		return r.Name
+	}
+	return r.Name + ": " + r.Why
+}
 
 var (
 	// Unavailable means that there was no answer in time. A command may be done or not.
@@ -133,6 +138,8 @@ type Handler struct {
 	seconds *metrics.Histogram
 	// decisions counts what was denied and what was allowed.
 	decisions *metrics.Tally
+	// LogDecision may be nil.
+	LogDecision func(d Decision)
 }
 
 // NewHandler returns a handler. It answers until the context ends, also if the client has ended its side of the connection, as
@@ -156,6 +163,8 @@ type Judge interface {
 	MayAny(ctx context.Context, function string) error
 	// May refuses a call.
 	May(ctx context.Context, call *Call) error
+	// Caller returns who asks.
+	Caller() string
 }
 
 // Serve answers a request for a function that the judge lets through. done is called when the office has nothing more to do for the
@@ -177,11 +186,7 @@ func (h *Handler) Serve(w http.ResponseWriter, r *http.Request, judge Judge, don
 	done()
 	status := respond(w, answers, err)
 	if err == nil && call.Function == checkAccess {
-		allowed := 0
-		if string(answers.Texts[0]) == Allowed {
-			allowed = 1
-		}
-		h.Decided(allowed, 1-allowed)
+		h.Decided(decisionOf(call, judge.Caller(), answers.Texts[0]))
 	}
 	h.answers.Add(string(kind), strconv.Itoa(status))
 	h.seconds.Observe(string(kind), time.Since(start).Seconds())
@@ -189,12 +194,6 @@ func (h *Handler) Serve(w http.ResponseWriter, r *http.Request, judge Judge, don
 
 // checkAccess is the function that decides, and Allowed what it answers if it allows something.
 const checkAccess, Allowed = "checkAccess", `{"ok":true,"value":true}`
-
-// Decided counts decisions: how many were allowed and how many denied. One that the office refuses to make denies.
-func (h *Handler) Decided(allowed, denied int) {
-	h.decisions.Add(0, uint64(denied))
-	h.decisions.Add(1, uint64(allowed))
-}
 
 // respond writes the answer to a call or an error, and returns its status.
 func respond(w http.ResponseWriter, answers Answers, err error) int {
@@ -292,13 +291,15 @@ func read(r *http.Request, may func(function string) error) (Kind, *Call, error)
 // KindOfQuestions returns how the questions of a request are to be answered, or refuses what it says of that.
 func KindOfQuestions(r *http.Request) (Kind, error) {
 	if !isConsistency(r.Header.Get(consistencyField)) {
-		return Question, badRequest(http.StatusBadRequest)
+		return Question, wrongConsistency
 	}
 	return kindOf(r), nil
 }
 
 // consistencyField is the field of a request that says how new the state has to be that answers a question.
 const consistencyField = "Consistency"
+
+var wrongConsistency = badRequestSince(http.StatusBadRequest, "Consistency is linearizable or local")
 
 func kindOf(r *http.Request) Kind {
 	if r.Header.Get(consistencyField) == string(Local) {

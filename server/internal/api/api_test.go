@@ -135,6 +135,7 @@ type everybody struct{}
 
 func (everybody) MayAny(context.Context, string) error { return nil }
 func (everybody) May(context.Context, *Call) error     { return nil }
+func (everybody) Caller() string                       { return "" }
 
 // A body that isn't small isn't read if no call of the function may be done.
 func TestUnread(t *testing.T) {

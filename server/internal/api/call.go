@@ -71,7 +71,7 @@ func ParseLine(line []byte) (*Call, error) {
 func parseBody(name string, body []byte) (*Call, error) {
 	if name == importer {
 		if !utf8.Valid(body) {
-			return nil, badRequest(http.StatusBadRequest)
+			return nil, badRequestSince(http.StatusBadRequest, "the body isn't UTF-8")
 		}
 		call := &Call{Function: name, Kind: Command, Texts: map[string]string{"csv": string(body)}}
 		return call, call.write(nil)

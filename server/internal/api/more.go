@@ -13,6 +13,11 @@ import (
 // BadRequest is the refusal of a request that can't be read.
 func BadRequest(status int) Refusal { return badRequest(status) }
 
+// BadRequestSince is the refusal of a request that can't be read, with what is wrong.
+func BadRequestSince(status int, why string, values ...any) Refusal {
+	return badRequestSince(status, why, values...)
+}
+
 // UnknownFunction means that nothing is at a path.
 var UnknownFunction = unknownFunction
 
@@ -43,6 +48,9 @@ func Fields(text []byte) (map[string]json.RawMessage, error) { return fieldsOf(t
 
 // Text returns the text that is written as JSON.
 func Text(value json.RawMessage) (string, error) { return textOf(value) }
+
+// TextAt returns the text at a key, or a refusal that names the key.
+func TextAt(found map[string]json.RawMessage, key string) (string, error) { return textAt(found, key) }
 
 // Texts returns the texts of a list that is written as JSON.
 func Texts(value json.RawMessage) ([]string, error) { return textsOf(value) }

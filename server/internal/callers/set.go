@@ -17,7 +17,6 @@ import (
 	"rbac-node/internal/api"
 	"rbac-node/internal/feed"
 	"rbac-node/internal/logs"
-	"rbac-node/internal/metrics"
 	replays "rbac-node/internal/office"
 	"rbac-node/internal/web"
 )
@@ -43,7 +42,7 @@ type Options struct {
 	AnswerTimeout, HangTimeout time.Duration
 	Reads                      int64
 	Log                        *logs.Logger
-	Starts                     *metrics.Counter
+	Figures                    *feed.Figures
 }
 
 // A Set is what was read together: the office of the callers, and how they show who they are.
@@ -162,7 +161,7 @@ func (s *Set) open(ctx context.Context, options Options, lines []line) error {
 		first = append(first, one.text)
 	}
 	opened, err := feed.Open(ctx, feed.Options{
-		Name: "callers", First: first, Reads: options.Reads, Log: options.Log, Starts: options.Starts,
+		Name: "callers", First: first, Reads: options.Reads, Log: options.Log, Figures: options.Figures,
 		Start: func() (*replays.Replay, error) {
 			return replays.Start(options.Program, "--memory", options.HangTimeout)
 		},

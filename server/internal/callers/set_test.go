@@ -12,6 +12,7 @@ import (
 	"time"
 
 	"rbac-node/internal/api"
+	"rbac-node/internal/feed"
 	"rbac-node/internal/logs"
 	"rbac-node/internal/metrics"
 	"rbac-node/internal/programtest"
@@ -21,7 +22,7 @@ import (
 func optionsOf(t *testing.T, lines ...string) Options {
 	return Options{
 		Files: Files{Callers: write(t, "callers.jsonl", strings.Join(lines, "\n")+"\n")}, Program: programtest.Path(t), AnswerTimeout: time.Minute,
-		HangTimeout: time.Minute, Reads: 1 << 40, Log: logs.New(&bytes.Buffer{}), Starts: (&metrics.Registry{}).Counter("starts", "", "replay"),
+		HangTimeout: time.Minute, Reads: 1 << 40, Log: logs.New(&bytes.Buffer{}), Figures: feed.NewFigures(&metrics.Registry{}),
 	}
 }
 
@@ -165,7 +166,8 @@ func TestLoad(t *testing.T) {
 	}{
 		{"nothing", nil, ""},
 		{"blank lines", []string{"", " \t\r", user, ""}, ""},
-		{"not JSON", []string{user, "x"}, ":2: BadRequest"},
+		{"not JSON", []string{user, "x"}, ":2: BadRequest: this is no object of JSON"},
+		{"a wrong key", []string{user, `{"fn":"addRole","roles":["a"]}`}, ":2: BadRequest: role is missing, and has to be a text"},
 		{"an unknown function", []string{`{"fn":"fly"}`}, ":1: UnknownFunction"},
 		{"a question", []string{`{"fn":"ssdRoleSets"}`}, ":1: ssdRoleSets has no place"},
 		{"a session", []string{user, `{"fn":"createSession","user":"token:a","roles":[],"session":"s"}`}, ":2: createSession has no place"},

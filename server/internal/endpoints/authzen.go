@@ -27,9 +27,6 @@ var semantics = map[string]semantic{
 	"execute_all": {}, "deny_on_first_deny": {hasLast: true}, "permit_on_first_permit": {hasLast: true, last: true},
 }
 
-// errNotRead is the refusal of a body that isn't an evaluation.
-var errNotRead = api.BadRequest(http.StatusBadRequest)
-
 // evaluation answers one evaluation.
 func (e *Endpoints) evaluation(r *request) (int, error) {
 	fields, err := readObject(r)
@@ -50,7 +47,7 @@ func (e *Endpoints) evaluateOne(r *request, fields map[string]json.RawMessage) (
 	}
 	q, isKnown := asked.query()
 	if !isKnown {
-		return 0, errNotRead
+		return 0, notRead("subject.type is session or user, and resource.type has no colon")
 	}
 	decisions, err := e.decideAll(r, api.Rule{}, []query{q})
 	if err != nil {
@@ -73,14 +70,14 @@ func (e *Endpoints) evaluations(r *request) (int, error) {
 	var list []json.RawMessage
 	if value, has := fields["evaluations"]; has {
 		if list, err = api.Items(value); err != nil {
-			return 0, err
+			return 0, notRead("evaluations has to be a list of objects")
 		}
 	}
 	if len(list) == 0 {
 		return e.evaluateOne(r, fields)
 	}
 	if len(list) > api.MaxBatchLines {
-		return 0, api.BadRequest(http.StatusRequestEntityTooLarge)
+		return 0, api.BadRequestSince(http.StatusRequestEntityTooLarge, "evaluations has at most %d of them", api.MaxBatchLines)
 	}
 	wanted, err := readSemantic(fields["options"])
 	if err != nil {
@@ -163,21 +160,20 @@ func readSemantic(options json.RawMessage) (wanted semantic, err error) {
 	if options == nil {
 		return wanted, nil
 	}
-	fields, err := api.Fields(options)
+	fields, err := fieldsAt("options", options)
 	if err != nil {
 		return wanted, err
 	}
-	value, has := fields["evaluations_semantic"]
-	if !has {
+	if _, has := fields["evaluations_semantic"]; !has {
 		return wanted, nil
 	}
-	name, err := api.Text(value)
+	name, err := api.TextAt(fields, "evaluations_semantic")
 	if err != nil {
 		return wanted, err
 	}
 	wanted, known := semantics[name]
 	if !known {
-		return wanted, errNotRead
+		return wanted, notRead("evaluations_semantic is execute_all, deny_on_first_deny or permit_on_first_permit")
 	}
 	return wanted, nil
 }
@@ -209,7 +205,7 @@ func readEvaluation(fields map[string]json.RawMessage, other evaluation) (read e
 	read = other
 	for name, one := range map[string]*entity{"subject": &read.subject, "resource": &read.resource} {
 		if value, has := fields[name]; has {
-			if *one, err = readEntity(value); err != nil {
+			if *one, err = readEntity(name, value); err != nil {
 				return read, err
 			}
 		}
@@ -218,32 +214,51 @@ func readEvaluation(fields map[string]json.RawMessage, other evaluation) (read e
 	if !has {
 		return read, nil
 	}
-	named, err := api.Fields(value)
+	named, err := fieldsAt("action", value)
 	if err != nil {
 		return read, err
 	}
-	read.action, err = api.Text(named["name"])
+	read.action, err = textAt("action", named, "name")
 	return read, err
 }
 
 // readEntity reads a subject or a resource.
-func readEntity(value json.RawMessage) (read entity, err error) {
-	fields, err := api.Fields(value)
+func readEntity(name string, value json.RawMessage) (read entity, err error) {
+	fields, err := fieldsAt(name, value)
 	if err != nil {
 		return read, err
 	}
-	if read.kind, err = api.Text(fields["type"]); err != nil {
+	if read.kind, err = textAt(name, fields, "type"); err != nil {
 		return read, err
 	}
-	read.id, err = api.Text(fields["id"])
+	read.id, err = textAt(name, fields, "id")
 	return read, err
+}
+
+// fieldsAt returns the object at a key.
+func fieldsAt(key string, value json.RawMessage) (map[string]json.RawMessage, error) {
+	fields, err := api.Fields(value)
+	if err != nil {
+		return nil, notRead("%s has to be an object", key)
+	}
+	return fields, nil
+}
+
+// textAt returns the text at a key of an object that is at another key.
+func textAt(above string, fields map[string]json.RawMessage, key string) (string, error) {
+	text, err := api.Text(fields[key])
+	if err != nil {
+		return "", notRead("%s.%s has to be a text", above, key)
+	}
+	return text, nil
 }
 
 // check refuses an evaluation that lacks a part.
 func (asked evaluation) check() error {
-	for _, text := range []string{asked.subject.kind, asked.subject.id, asked.action, asked.resource.kind, asked.resource.id} {
-		if text == "" {
-			return errNotRead
+	texts := []string{asked.subject.kind, asked.subject.id, asked.action, asked.resource.kind, asked.resource.id}
+	for i, key := range []string{"subject.type", "subject.id", "action.name", "resource.type", "resource.id"} {
+		if texts[i] == "" {
+			return notRead("%s is missing", key)
 		}
 	}
 	return nil

@@ -59,23 +59,23 @@ func (e *Endpoints) do(r *request, rule api.Rule, lines []*api.Call) ([][]byte, 
 			asked = append(asked, line)
 			continue
 		}
-		q := &query{user: line.Texts["user"], operation: line.Texts["operation"], object: line.Texts["object"]}
-		questions, err := e.questionsAbout(q, &views[i])
+		q := queryOf(line)
+		questions, err := e.questionsAbout(&q, &views[i])
 		if err != nil {
 			return nil, err
 		}
-		queries[i], hasQuery = q, true
+		queries[i], hasQuery = &q, true
 		asked = append(asked, questions...)
 	}
 	if hasQuery && rule.IsStopped && api.NewBatch(r.kind, lines...).Kind == api.Command {
-		return nil, errNotRead // The office doesn't know whether such a line is refused.
+		// The office doesn't know whether such a line is refused.
+		return nil, notRead("with stop=first a batch of commands has no %s", api.DecideByUser)
 	}
 	found, err := e.ask(r, rule, asked...)
 	if err != nil {
 		return nil, err
 	}
 	var answers [][]byte
-	allowed, denied := 0, 0
 	for i := 0; len(found) > 0; i++ {
 		if queries[i] == nil {
 			answers, found = append(answers, found[0]), found[1:]
@@ -86,25 +86,26 @@ func (e *Endpoints) do(r *request, rule api.Rule, lines []*api.Call) ([][]byte, 
 			}
 			answers, found = append(answers, decided.text()), found[askedOfUser:]
 		}
-		switch isDecision := lines[i].Function == checkAccess || queries[i] != nil; {
-		case isDecision && string(answers[i]) == api.Allowed:
-			allowed++
-		case isDecision:
-			denied++
+		if lines[i].Function == checkAccess || queries[i] != nil {
+			e.decided(r, queryOf(lines[i]), decisionOf(answers[i]))
 		}
 		if rule.IsStopped && !api.IsAccepted(answers[i]) {
 			break
 		}
 	}
-	e.Decided(allowed, denied)
 	return answers, nil
+}
+
+// queryOf returns what a line asks to be decided.
+func queryOf(line *api.Call) query {
+	return query{session: line.Texts["session"], user: line.Texts["user"], operation: line.Texts["operation"], object: line.Texts["object"]}
 }
 
 // readStop reads from the target of a request whether a batch ends after the first line that is refused.
 func readStop(target string) (bool, error) {
 	at, err := url.ParseRequestURI(target)
 	if err != nil {
-		return false, api.BadRequest(http.StatusBadRequest)
+		return false, errNoQuery
 	}
 	switch at.RawQuery {
 	case "":
@@ -112,7 +113,7 @@ func readStop(target string) (bool, error) {
 	case "stop=first":
 		return true, nil
 	}
-	return false, api.BadRequest(http.StatusBadRequest)
+	return false, notRead("a batch has no query but stop=first")
 }
 
 // writeLines answers a request with lines of JSON.

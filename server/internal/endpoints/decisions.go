@@ -3,6 +3,7 @@ package endpoints
 import (
 	"encoding/json"
 	"net/http"
+	"strings"
 
 	"rbac-node/internal/api"
 )
@@ -34,21 +35,31 @@ func readQuery(fields map[string]json.RawMessage, keys ...string) (q query, err 
 	texts := map[string]*string{"session": &q.session, "user": &q.user, "operation": &q.operation, "object": &q.object}
 	count := 0
 	for key, text := range texts {
-		value, isThere := fields[key]
-		if !isThere {
+		if _, isThere := fields[key]; !isThere {
 			continue
 		}
-		if *text, err = api.Text(value); err != nil {
+		if *text, err = api.TextAt(fields, key); err != nil {
 			return q, err
 		}
 		if has(keys, key) {
 			count++
 		}
 	}
-	if count != 1 || q.operation == "" || q.object == "" || q.session+q.user == "" {
-		return q, errNotRead
+	if count != 1 || q.session+q.user == "" {
+		return q, notRead("one key has to be there, and not empty: %s", strings.Join(keys, " or "))
 	}
-	return q, nil
+	return q, q.check("operation", "object")
+}
+
+// check refuses a query without an operation or an object, with the name of what is missing.
+func (q query) check(operation, object string) error {
+	switch "" {
+	case q.operation:
+		return notRead("%s is missing", operation)
+	case q.object:
+		return notRead("%s is missing", object)
+	}
+	return nil
 }
 
 // decideAll decides queries of a visitor at one place in the order, if the policy is as a rule says.
@@ -78,14 +89,17 @@ func (e *Endpoints) decideAll(r *request, rule api.Rule, queries []query) ([]dec
 		return nil, err
 	}
 	decisions, err := decisionsOf(queries, answers, views)
-	allowed := 0
-	for _, one := range decisions {
-		if one.allowed {
-			allowed++
-		}
+	for i, one := range decisions {
+		e.decided(r, queries[i], one)
 	}
-	e.Decided(allowed, len(decisions)-allowed)
 	return decisions, err
+}
+
+// decided passes on the decision about a query.
+func (e *Endpoints) decided(r *request, q query, d decision) {
+	e.Decided(r.Request, r.visitor, api.Decision{
+		Session: q.session, User: q.user, Operation: q.operation, Object: q.object, IsAllowed: d.allowed, Code: d.code, Name: d.name,
+	})
 }
 
 // questionsAbout returns what is asked for a query about a user, and notes what is known of the office at its place.
@@ -156,12 +170,12 @@ func readFields(header http.Header) (q query, err error) {
 	} {
 		values := header[name]
 		if len(values) > 1 {
-			return q, api.BadRequest(http.StatusBadRequest)
+			return q, notRead("%s is there more than once", name)
 		}
 		*text = header.Get(name)
 	}
-	if q.operation == "" || q.object == "" || q.session != "" && q.user != "" {
-		return q, api.BadRequest(http.StatusBadRequest)
+	if q.session != "" && q.user != "" {
+		return q, notRead("%s and %s exclude each other", sessionField, userField)
 	}
-	return q, nil
+	return q, q.check(operationField, objectField)
 }

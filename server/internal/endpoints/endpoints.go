@@ -6,6 +6,7 @@ import (
 	"context"
 	"errors"
 	"net/http"
+	"strconv"
 	"strings"
 	"time"
 
@@ -45,8 +46,8 @@ type Options struct {
 	PublicURL string
 	// Note is called after each answer, with its kind and status, and when the request began.
 	Note func(kind api.Kind, status int, start time.Time)
-	// Decided is called with how many decisions about access have allowed something and how many have denied it.
-	Decided func(allowed, denied int)
+	// Decided is called with each decision about access, which doesn't say who has asked for it.
+	Decided func(r *http.Request, visitor Visitor, decided api.Decision)
 	// Sign writes on a command who asks for it and why, or refuses it.
 	Sign func(r *http.Request, visitor Visitor, call *api.Call) error
 	// Denied is called if a caller may not do something.
@@ -176,6 +177,42 @@ func (e *Endpoints) Serve(w http.ResponseWriter, r *http.Request, visitor Visito
 	}
 	e.Note(at.kind, status, start)
 }
+
+// errNotRead is the refusal of a request that can't be read, and notRead the same with what is wrong.
+var errNotRead = api.BadRequest(http.StatusBadRequest)
+
+func notRead(why string, values ...any) error {
+	return api.BadRequestSince(http.StatusBadRequest, why, values...)
+}
+
+// mostEchoed is how many bytes of what a client has sent are sent back at most, in the head of an answer.
+const mostEchoed = 100
+
+// echoed returns what a client has sent, or its beginning, in signs that a head may have.
+func echoed(text string) string {
+	if len(text) > mostEchoed {
+		return strconv.QuoteToASCII(text[:mostEchoed]) + ".."
+	}
+	return strconv.QuoteToASCII(text)
+}
+
+// noSuch is the refusal of a path that ends with the name of nothing.
+func noSuch(kind, name string) error {
+	refused := api.UnknownFunction
+	refused.Why = "there is no " + kind + " " + echoed(name)
+	return refused
+}
+
+// only returns the value of a key of a query.
+func only(key string, given []string) (string, error) {
+	if len(given) != 1 {
+		return "", notRead("%s is there more than once", echoed(key))
+	}
+	return given[0], nil
+}
+
+// errNoQuery is the refusal of a query that isn't one.
+var errNoQuery = notRead("the query isn't written as a URL has it")
 
 func has(methods []string, method string) bool {
 	for _, one := range methods {

@@ -188,7 +188,7 @@ func readListQueries(body []byte) (queries []listQuery, err error) {
 		}
 		query, err := readListLine(line)
 		if err == nil && len(queries) == mostLists {
-			err = errNotRead
+			err = notRead("a request has at most %d lists", mostLists)
 		}
 		if err != nil {
 			refused := errNotRead
@@ -198,7 +198,7 @@ func readListQueries(body []byte) (queries []listQuery, err error) {
 		queries = append(queries, query)
 	}
 	if len(queries) == 0 {
-		return nil, errNotRead
+		return nil, notRead("the body has no line with a list")
 	}
 	return queries, nil
 }
@@ -207,14 +207,14 @@ func readListQueries(body []byte) (queries []listQuery, err error) {
 func readListLine(line []byte) (query listQuery, err error) {
 	fields, err := api.Fields(line)
 	if err != nil {
-		return query, errNotRead
+		return query, err
 	}
 	list, values := "", url.Values{}
 	for key, value := range fields {
 		text := string(value)
 		if key != "limit" {
 			if text, err = api.Text(value); err != nil {
-				return query, errNotRead
+				return query, notRead("%s has to be a text", echoed(key))
 			}
 		}
 		if key == "list" {
@@ -230,7 +230,7 @@ func readListLine(line []byte) (query listQuery, err error) {
 func readListQuery(list, text string) (query listQuery, err error) {
 	values, err := url.ParseQuery(text)
 	if err != nil && columnsOf(list) != nil {
-		return query, errNotRead
+		return query, errNoQuery
 	}
 	return newListQuery(list, values)
 }
@@ -239,14 +239,15 @@ func readListQuery(list, text string) (query listQuery, err error) {
 func newListQuery(list string, values url.Values) (query listQuery, err error) {
 	columns := columnsOf(list)
 	if columns == nil {
-		return query, api.UnknownFunction
+		return query, noSuch("list", list)
 	}
 	query.list, query.Query = list, state.Query{Names: map[string]string{}, Limit: usualRows}
 	for key, given := range values {
-		if len(given) != 1 {
-			return query, errNotRead
+		text, err := only(key, given)
+		if err == nil {
+			err = query.set(list, columns, key, text)
 		}
-		if err := query.set(list, columns, key, given[0]); err != nil {
+		if err != nil {
 			return query, err
 		}
 	}
@@ -276,16 +277,18 @@ func (q *listQuery) set(list string, columns []string, key, text string) (err er
 	case key == "limit":
 		q.Limit, err = strconv.Atoi(text)
 		if err != nil || q.Limit < 1 || q.Limit > mostRows {
-			return errNotRead
+			return notRead("limit is a number from 1 to %d", mostRows)
 		}
 	case has(columns, key):
 		q.Names[key] = text
-	case list == "permissions" && key == "user" && q.holder == nil:
+	case list == "permissions" && (key == "user" || key == "role") && q.holder != nil:
+		return notRead("user and role exclude each other")
+	case list == "permissions" && key == "user":
 		q.holder, err = api.NewCall("userPermissions", "user", text)
-	case list == "permissions" && key == "role" && q.holder == nil:
+	case list == "permissions" && key == "role":
 		q.holder, err = api.NewCall("rolePermissions", "role", text)
 	default:
-		return errNotRead
+		return notRead("the list %s has no key %s", list, echoed(key))
 	}
 	return err
 }

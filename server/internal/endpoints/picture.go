@@ -74,20 +74,22 @@ func (e *Endpoints) picture(r *request) (int, error) {
 func readPictureQuery(text string) (query pictureQuery, err error) {
 	values, err := url.ParseQuery(text)
 	if err != nil {
-		return query, errNotRead
+		return query, errNoQuery
 	}
 	texts := map[string]*string{"role": &query.role, "user": &query.user, "operation": &query.operation, "object": &query.object}
 	for key, given := range values {
+		text, err := only(key, given)
+		if err != nil {
+			return query, err
+		}
 		place, isText := texts[key]
 		switch {
-		case len(given) != 1:
-			return query, errNotRead
 		case isText:
-			*place = given[0]
+			*place = text
 		case key == "from":
-			query.from = strings.Split(given[0], nameSeparator)
+			query.from = strings.Split(text, nameSeparator)
 		default:
-			return query, errNotRead
+			return query, notRead("a picture has no key %s", echoed(key))
 		}
 	}
 	return query, nil
@@ -106,7 +108,7 @@ func (q pictureQuery) part(s *state.State) (part state.Part, err error) {
 		part = s.Graph().Around(q.role, mostDrawn)
 	}
 	if len(part.Roles) > mostDrawn {
-		return part, api.BadRequest(http.StatusRequestEntityTooLarge)
+		return part, api.BadRequestSince(http.StatusRequestEntityTooLarge, "a picture has at most %d roles", mostDrawn)
 	}
 	return part, nil
 }

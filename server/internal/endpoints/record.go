@@ -72,7 +72,7 @@ func (e *Endpoints) links(r *request) (int, error) {
 	}
 	after, err := strconv.ParseInt(strings.TrimPrefix(r.URL.RawQuery, "after="), 10, 64)
 	if err != nil || after < 0 {
-		return 0, wrongFilter("after is the number of an entry, or 0")
+		return 0, notRead("after is the number of an entry, or 0")
 	}
 	ctx, cancel := context.WithTimeout(r.ctx, readingTimeout)
 	defer cancel()
@@ -112,25 +112,19 @@ func (r *request) replyRecord(page recorded.Page) (int, error) {
 	return r.replyValue(value)
 }
 
-// wrongFilter returns the refusal of a filter that chooses nothing as it is written.
-func wrongFilter(why string) error {
-	refused := errNotRead
-	refused.Why = why
-	return refused
-}
-
 // readRecordQuery reads which entries are wanted.
 func readRecordQuery(text string) (query recorded.Query, err error) {
 	values, err := url.ParseQuery(text)
 	if err != nil {
-		return query, errNotRead
+		return query, errNoQuery
 	}
 	query.Limit = usualRows
 	for key, given := range values {
-		if len(given) != 1 {
-			return query, wrongFilter(strconv.QuoteToASCII(key) + " is there more than once")
+		text, err := only(key, given)
+		if err == nil {
+			err = setFilter(&query, key, text)
 		}
-		if err := setFilter(&query, key, given[0]); err != nil {
+		if err != nil {
 			return query, err
 		}
 	}
@@ -148,29 +142,29 @@ func setFilter(query *recorded.Query, key, text string) (err error) {
 	case texts[key] != nil:
 		*texts[key] = text
 		if _, isKnown := api.KindOf(text); key == "function" && text != "" && !isKnown {
-			return wrongFilter("there is no function " + strconv.QuoteToASCII(text))
+			return notRead("there is no function %s", echoed(text))
 		}
 	case times[key] != nil:
 		if *times[key], err = recorded.ParseTime(text); err != nil {
-			return wrongFilter(key + ": " + err.Error())
+			return notRead("%s: %s", key, err)
 		}
 	case key == "refused":
 		query.IsRefused = text == "true"
 		if text != "true" && text != "false" {
-			return wrongFilter("refused is true or false")
+			return notRead("refused is true or false")
 		}
 	case key == "limit":
 		query.Limit, err = strconv.Atoi(text)
 		if err != nil || query.Limit < 1 || query.Limit > mostRows {
-			return wrongFilter("limit is a number from 1 to " + strconv.Itoa(mostRows))
+			return notRead("limit is a number from 1 to %d", mostRows)
 		}
 	case key == "before":
 		query.Before, err = strconv.ParseInt(text, 10, 64)
 		if err != nil || query.Before < 1 {
-			return wrongFilter("before is the number of an entry")
+			return notRead("before is the number of an entry")
 		}
 	default:
-		return wrongFilter("the record has no filter " + strconv.QuoteToASCII(key))
+		return notRead("the record has no filter %s", echoed(key))
 	}
 	return nil
 }

@@ -82,7 +82,7 @@ func readReportQuery(r *request) (query reportQuery, err error) {
 	query = reportQuery{name: strings.TrimPrefix(r.URL.Path, reportsPath), most: reports.MostLines, isCSV: true}
 	keys, known := reports.Filters(query.name)
 	if !known {
-		return query, api.UnknownFunction
+		return query, noSuch("report", query.name)
 	}
 	body, err := api.ReadBody(r.Request, longestFilter)
 	if err != nil {
@@ -112,25 +112,27 @@ func (q *reportQuery) set(keys []string, key string, value json.RawMessage) (err
 	case key == "format":
 		text, err := api.Text(value)
 		if err != nil || text != "csv" && text != "lines" {
-			return errNotRead
+			return notRead("format is csv or lines")
 		}
 		q.isCSV = text == "csv"
 	case key == "limit":
 		q.most, err = strconv.ParseInt(string(value), 10, 64)
 		if err != nil || q.most < 1 {
-			return errNotRead
+			return notRead("limit is a number from 1")
 		}
 	case !has(keys, key):
-		return errNotRead
+		return notRead("the report %s has no key %s", q.name, echoed(key))
 	case isText:
-		*place, err = api.Text(value)
+		if *place, err = api.Text(value); err != nil {
+			return notRead("%s has to be a text", key)
+		}
 	default: // It is left.
 		q.Left, err = strconv.ParseInt(string(value), 10, 64)
 		if q.HasLeft = true; err != nil {
-			return errNotRead
+			return notRead("left has to be a number")
 		}
 	}
-	return err
+	return nil
 }
 
 // ServeTicket answers a request with the report of its ticket, if it is one for a report. Who has the ticket needs no other identity:

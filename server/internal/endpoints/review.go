@@ -74,18 +74,21 @@ func readReview(r *request) (ended review, err error) {
 	if err != nil {
 		return ended, err
 	}
-	if ended.Name, err = api.Text(fields["review"]); err != nil || !isReviewName(ended.Name) {
-		return ended, errNotRead
+	if ended.Name, err = api.TextAt(fields, "review"); err != nil {
+		return ended, err
 	}
-	if ended.Digest, err = api.Text(fields["sha256"]); err != nil {
-		return ended, errNotRead
+	if !isReviewName(ended.Name) {
+		return ended, notRead("review has 1 to %d bytes, and no control character", longestReview)
+	}
+	if ended.Digest, err = api.TextAt(fields, "sha256"); err != nil {
+		return ended, err
 	}
 	if sum, err := hex.DecodeString(ended.Digest); err != nil || len(sum) != sumBytes || ended.Digest != strings.ToLower(ended.Digest) {
-		return ended, errNotRead
+		return ended, notRead("sha256 has %d digits of 0 to 9 and a to f", 2*sumBytes)
 	}
 	for key, count := range map[string]*int{"kept": &ended.Kept, "removed": &ended.Removed, "open": &ended.Open} {
 		if *count, err = strconv.Atoi(string(fields[key])); err != nil || *count < 0 || *count > mostReviewed {
-			return ended, errNotRead
+			return ended, notRead("%s is a number from 0 to %d", key, mostReviewed)
 		}
 	}
 	return ended, nil

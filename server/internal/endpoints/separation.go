@@ -42,7 +42,7 @@ func (e *Endpoints) explainCommand(r *request, line json.RawMessage) (int, error
 		return 0, err
 	}
 	if !state.IsSeparating(call.Function) {
-		return 0, errNotRead
+		return 0, notRead("command: %s can't violate a separation of duty set", call.Function)
 	}
 	if err := r.may(call); err != nil {
 		return 0, err

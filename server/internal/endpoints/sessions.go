@@ -73,7 +73,7 @@ func (e *Endpoints) makeSession(r *request) (int, error) {
 func readOpening(fields map[string]json.RawMessage) (*opening, error) {
 	o := &opening{made: made{Left: []left{}, Roles: []string{}}}
 	var err error
-	if o.user, err = api.Text(fields["user"]); err != nil {
+	if o.user, err = api.TextAt(fields, "user"); err != nil {
 		return nil, err
 	}
 	value, hasList := fields["roles"]
@@ -83,7 +83,7 @@ func readOpening(fields map[string]json.RawMessage) (*opening, error) {
 	o.hasList = true
 	listed, err := api.Texts(value)
 	if err != nil {
-		return nil, err
+		return nil, notRead("roles has to be a list of texts")
 	}
 	for _, role := range listed {
 		if !has(o.wanted, role) {
@@ -91,7 +91,7 @@ func readOpening(fields map[string]json.RawMessage) (*opening, error) {
 		}
 	}
 	if len(o.wanted) > api.MaxBatchCommands {
-		return nil, errNotRead
+		return nil, notRead("roles has at most %d roles", api.MaxBatchCommands)
 	}
 	return o, nil
 }

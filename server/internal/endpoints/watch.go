@@ -147,8 +147,11 @@ func readAfter(r *request) (int64, error) {
 	text := r.Header.Get("Last-Event-ID")
 	query := r.URL.Query()
 	for key, values := range query {
-		if key != "after" || len(values) != 1 {
-			return 0, errNotRead
+		if key != "after" {
+			return 0, notRead("a watch has no key %s", echoed(key))
+		}
+		if _, err := only(key, values); err != nil {
+			return 0, err
 		}
 	}
 	if text == "" {
@@ -156,7 +159,7 @@ func readAfter(r *request) (int64, error) {
 	}
 	after, err := strconv.ParseUint(text, 10, 63)
 	if err != nil {
-		return 0, errNotRead
+		return 0, notRead("after, or Last-Event-ID, has to be a number from 0")
 	}
 	return int64(after), nil
 }

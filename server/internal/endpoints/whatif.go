@@ -52,7 +52,8 @@ func readTried(r *request) ([]*api.Call, error) {
 	calls, err := api.ParseBatch(body)
 	for i := range calls {
 		if calls[i].Kind != api.Command {
-			err = &api.LineError{Number: api.LineOf(body, i), Refusal: api.BadRequest(http.StatusBadRequest)}
+			refused := api.BadRequestSince(http.StatusBadRequest, "%s is no command, and changes nothing", calls[i].Function)
+			err = &api.LineError{Number: api.LineOf(body, i), Refusal: refused}
 			break
 		}
 	}
@@ -61,7 +62,7 @@ func readTried(r *request) ([]*api.Call, error) {
 		r.w.Header().Set("Office-Line", strconv.Itoa(at.Number))
 	}
 	if err == nil && len(calls) == 0 {
-		err = api.BadRequest(http.StatusBadRequest)
+		err = notRead("the body has no command")
 	}
 	return calls, err
 }

@@ -16,7 +16,6 @@ import (
 
 	"rbac-node/internal/api"
 	"rbac-node/internal/logs"
-	"rbac-node/internal/metrics"
 	"rbac-node/internal/office"
 )
 
@@ -41,10 +40,9 @@ type Options struct {
 	First [][]byte
 	// Reads is after how many reads of its input a replay is started anew, as soon as nobody waits. It ends by itself after
 	// 1,000,000,000 reads.
-	Reads int64
-	Log   *logs.Logger
-	// Starts counts the starts, by the name.
-	Starts *metrics.Counter
+	Reads   int64
+	Log     *logs.Logger
+	Figures *Figures
 	// Before is called before each start of a replay, except after one that has answered all. No replay runs then, and all answers of
 	// the one before have been observed and kept. It may be nil, as the observer and the keeper may.
 	Before   func(ctx context.Context) error
@@ -94,11 +92,21 @@ func Open(ctx context.Context, options Options) (*Feed, error) {
 		f.keeping = newKeeping(f.Keeper, f.units, &f.resting)
 		go f.keeping.run()
 	}
+	f.Figures.begin(f.Name, f.waiting)
 	return f, nil
 }
 
 // IsAccepted reports whether the office accepted what it answers.
 func IsAccepted(answer []byte) bool { return bytes.HasPrefix(answer, []byte(`{"ok":true`)) }
+
+// waiting returns how many units wait for the replay, or for its answers.
+func (f *Feed) waiting() int {
+	count := len(f.units) + len(f.sent)
+	if f.keeping != nil {
+		count += len(f.keeping.asked)
+	}
+	return count
+}
 
 // Why returns why no line is answered now, or an empty text.
 func (f *Feed) Why() string {
@@ -243,12 +251,14 @@ func (f *Feed) send(u *Unit) {
 		u.lose()
 		return
 	}
+	sent := time.Now()
 	for i, line := range u.Lines {
 		i := i
 		f.reads += office.ReadsOf(line)
 		f.replay.Send(line, func(answer []byte) {
 			if u.Answers[i] = answer; i == len(u.Lines)-1 {
 				<-f.sent // It is this unit, since answers come in order.
+				f.Figures.seconds.Observe(f.Name, time.Since(sent).Seconds())
 				f.answered(u)
 			}
 		})
@@ -403,7 +413,7 @@ func (f *Feed) open(ctx context.Context) error {
 	if err != nil {
 		return err
 	}
-	f.Starts.Add(f.Name)
+	f.Figures.starts.Add(f.Name)
 	f.replay, f.reads = replay, 0
 	f.newest.Store(replay)
 	done, refused := make(chan struct{}), (*RefusedError)(nil)

@@ -5,6 +5,7 @@ import (
 	"context"
 	"errors"
 	"fmt"
+	"net/http/httptest"
 	"os"
 	"path/filepath"
 	"strings"
@@ -74,7 +75,7 @@ func optionsOf(t *testing.T, file string, hangTimeout time.Duration, log *logs.L
 	return Options{
 		Name: "office", Start: func() (*office.Replay, error) { return office.Start(program, file, hangTimeout) },
 		First: [][]byte{[]byte("1"), []byte("2")}, Reads: many, Log: log,
-		Starts: (&metrics.Registry{}).Counter("starts", "", "replay"),
+		Figures: NewFigures(&metrics.Registry{}),
 	}
 }
 
@@ -278,5 +279,27 @@ func TestTimeout(t *testing.T) {
 	cancel()
 	if _, err := b.Ask(ended, []byte("1")); err != api.Unavailable {
 		t.Errorf("%v and not %v", err, api.Unavailable)
+	}
+}
+
+// The figures say how long the replay took, how often it was started, and how much waits for it, by the name of the feed.
+func TestFigures(t *testing.T) {
+	registry := &metrics.Registry{}
+	figures := NewFigures(registry)
+	waiting := 3
+	figures.begin("office", func() int { return 7 })
+	figures.begin("office", func() int { return waiting }) // As after a reload.
+	figures.starts.Add("office")
+	figures.seconds.Observe("office", 0.0001)
+	answer := httptest.NewRecorder()
+	registry.ServeHTTP(answer, nil)
+	for _, wanted := range []string{
+		`rbac_node_replay_starts_total{replay="office"} 1`, `rbac_node_replay_waiting{replay="office"} 3`,
+		`rbac_node_replay_answer_seconds_bucket{replay="office",le="5e-05"} 0`, `rbac_node_replay_answer_seconds_bucket{replay="office",le="0.0001"} 1`,
+		`rbac_node_replay_answer_seconds_count{replay="office"} 1`,
+	} {
+		if !strings.Contains(answer.Body.String(), wanted+"\n") {
+			t.Errorf("no %s in %s", wanted, answer.Body.String())
+		}
 	}
 }

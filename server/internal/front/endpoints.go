@@ -16,7 +16,12 @@ func (f *Front) serveEndpoints(life context.Context) {
 		return
 	}
 	f.endpoints = endpoints.New(life, office, endpoints.Options{
-		PublicURL: f.PublicURL, Note: f.handler.Note, Decided: f.handler.Decided,
+		PublicURL: f.PublicURL, Note: f.handler.Note,
+		Decided: func(r *http.Request, visitor endpoints.Visitor, decided api.Decision) {
+			visit, _ := visitor.(*callers.Visit)
+			decided.Caller = callerOf(r, visit)
+			f.handler.Decided(decided)
+		},
 		Sign: func(r *http.Request, visitor endpoints.Visitor, call *api.Call) error {
 			visit, _ := visitor.(*callers.Visit)
 			return sign(r, visit, call)

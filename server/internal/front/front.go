@@ -16,6 +16,7 @@ import (
 
 	"rbac-node/internal/api"
 	"rbac-node/internal/callers"
+	"rbac-node/internal/decisions"
 	"rbac-node/internal/endpoints"
 	"rbac-node/internal/logs"
 	"rbac-node/internal/metrics"
@@ -43,7 +44,10 @@ type Options struct {
 	PublicURL     string
 	AnswerTimeout time.Duration
 	Log           *logs.Logger
-	Metrics       *metrics.Registry
+	// DecisionsShare is which share of the decisions is logged, and DecisionsFile where, or empty.
+	DecisionsShare float64
+	DecisionsFile  string
+	Metrics        *metrics.Registry
 	// Hangups gets SIGHUP from the beginning of the program, so that a signal that comes early doesn't end it.
 	Hangups <-chan os.Signal
 }
@@ -54,7 +58,9 @@ func (o *Options) IsOpen() bool { return o.Callers.Callers == "" }
 // A Front answers clients.
 type Front struct {
 	Options
-	guard   *callers.Guard
+	guard *callers.Guard
+	// logged is nil if no decisions are logged.
+	logged  *decisions.Log
 	journal *callers.Journal
 	refused *metrics.Counter
 	config  *tls.Config
@@ -95,7 +101,21 @@ func New(ctx context.Context, options Options) (*Front, error) {
 	if err := f.loadTLS(); err != nil {
 		return nil, err
 	}
-	return f, f.loadCallers(ctx)
+	if err := f.loadCallers(ctx); err != nil {
+		return nil, err
+	}
+	return f, f.logDecisions()
+}
+
+// logDecisions begins to log decisions, if that is wanted.
+func (f *Front) logDecisions() (err error) {
+	if f.DecisionsShare == 0 {
+		return nil
+	}
+	if f.logged, err = decisions.New(f.DecisionsShare, f.DecisionsFile, f.Log, f.Metrics); err != nil {
+		f.Close()
+	}
+	return err
 }
 
 // Listen begins to listen at all addresses. Nobody is answered yet.
@@ -177,6 +197,9 @@ func (f *Front) configAt(i int) *tls.Config {
 // Serve answers clients from an office.
 func (f *Front) Serve(life context.Context, start func(func() error), office api.Office) {
 	f.office, f.handler = office, api.NewHandler(life, office, f.Metrics)
+	if f.logged != nil {
+		f.handler.LogDecision = f.logged.Note
+	}
 	f.serveEndpoints(life)
 	f.isServing.Store(true)
 	if len(f.servers) == 0 {
@@ -200,6 +223,9 @@ func (f *Front) Close() {
 	}
 	if f.guard != nil {
 		f.guard.Close()
+	}
+	if f.logged != nil {
+		f.logged.Close()
 	}
 }
 

@@ -16,6 +16,7 @@ import (
 
 	"rbac-node/internal/api"
 	"rbac-node/internal/callers"
+	"rbac-node/internal/feed"
 	"rbac-node/internal/logs"
 	"rbac-node/internal/metrics"
 	"rbac-node/internal/programtest"
@@ -63,7 +64,7 @@ func newFront(t *testing.T, rules string, change func(*Options)) (*Front, *echo,
 		options.Callers = callers.Options{
 			Files:   callers.Files{Callers: write(t, folder, "callers", rules), Tokens: write(t, folder, "tokens", sumOf("secret")+" desk\n")},
 			Program: programtest.Path(t), AnswerTimeout: time.Minute, HangTimeout: time.Minute, Reads: 1 << 40, Log: options.Log,
-			Starts: options.Metrics.Counter("starts", "", "replay"),
+			Figures: feed.NewFigures(options.Metrics),
 		}
 		options.Refused = filepath.Join(folder, "refused")
 	}

@@ -166,6 +166,7 @@ type anybody struct{ *http.Request }
 
 func (a anybody) MayAny(context.Context, string) error        { return nil }
 func (a anybody) May(_ context.Context, call *api.Call) error { return sign(a.Request, nil, call) }
+func (a anybody) Caller() string                              { return callerOf(a.Request, nil) }
 
 // A judge lets a caller do what it may do, and notes what else it asks for.
 type judge struct {
@@ -177,6 +178,8 @@ type judge struct {
 func (j *judge) MayAny(ctx context.Context, function string) error {
 	return j.front.denied(j.Request, j.visit, j.visit.MayAny(ctx, function))
 }
+
+func (j *judge) Caller() string { return j.visit.Caller }
 
 func (j *judge) May(ctx context.Context, call *api.Call) error {
 	if err := sign(j.Request, j.visit, call); err != nil {

@@ -23,14 +23,7 @@ func sign(r *http.Request, visit *callers.Visit, call *api.Call) error {
 	if call.Kind != api.Command && call.Kind != api.Entry {
 		return nil
 	}
-	switch user := callers.PeerOf(r); {
-	case visit != nil:
-		call.Caller = visit.Caller
-	case user != "":
-		call.Caller = user
-	default:
-		call.Caller = openCaller
-	}
+	call.Caller = callerOf(r, visit)
 	reasons := r.Header[reasonField]
 	if len(reasons) == 0 {
 		return nil
@@ -40,6 +33,17 @@ func sign(r *http.Request, visit *callers.Visit, call *api.Call) error {
 	}
 	call.Reason = reasons[0]
 	return nil
+}
+
+// callerOf returns who asks.
+func callerOf(r *http.Request, visit *callers.Visit) string {
+	if visit != nil {
+		return visit.Caller
+	}
+	if user := callers.PeerOf(r); user != "" {
+		return user
+	}
+	return openCaller
 }
 
 // isReason reports whether a text can be recorded: it is short, and it is valid text without control characters.

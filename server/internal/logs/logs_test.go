@@ -4,7 +4,10 @@ import (
 	"bytes"
 	"encoding/json"
 	"errors"
+	"fmt"
+	"os"
 	"strings"
+	"syscall"
 	"testing"
 	"time"
 )
@@ -36,5 +39,42 @@ func TestLines(t *testing.T) {
 				t.Errorf("%v lacks something", found)
 			}
 		})
+	}
+}
+
+// Only in the journal each line begins with its level, which journald takes off.
+func TestJournal(t *testing.T) {
+	reading, writing, err := os.Pipe()
+	if err != nil {
+		t.Fatal(err)
+	}
+	defer reading.Close()
+	about, err := writing.Stat()
+	if err != nil {
+		t.Fatal(err)
+	}
+	stat := about.Sys().(*syscall.Stat_t)
+	for stream, begins := range map[string][]string{
+		fmt.Sprintf("%d:%d", stat.Dev, stat.Ino): {"<6>{", "<4>{", "<3>{"}, "": {"{", "{", "{"}, "1:1": {"{", "{", "{"}, "x": {"{", "{", "{"},
+	} {
+		t.Setenv("JOURNAL_STREAM", stream)
+		l := New(writing)
+		l.Info("a")
+		l.Warn("a")
+		l.Error("a")
+		text := make([]byte, 1000)
+		n, err := reading.Read(text)
+		lines := strings.Split(strings.TrimSpace(string(text[:n])), "\n")
+		if err != nil || len(lines) != len(begins) {
+			t.Fatalf("%q, %v", lines, err)
+		}
+		for i, line := range lines {
+			if !strings.HasPrefix(line, begins[i]+`"level"`) {
+				t.Errorf("%q: %s", stream, line)
+			}
+		}
+	}
+	if isJournal(&bytes.Buffer{}, "1:1") {
+		t.Error("a buffer is the journal")
 	}
 }

@@ -102,6 +102,17 @@ func (r *Registry) Gauge(name, help string, value func() float64) {
 	r.add(series{name, help, "gauge", func() []Sample { return []Sample{{name, "", value()}} }})
 }
 
+// Gauges adds a value for each value of a label, which are read when they are asked for.
+func (r *Registry) Gauges(name, help, label string, values func() map[string]float64) {
+	r.add(series{name, help, "gauge", func() (found []Sample) {
+		for text, number := range values() {
+			found = append(found, Sample{name, labelsOf([]string{label}, []string{text}), number})
+		}
+		sort.Slice(found, func(i, j int) bool { return found[i].Labels < found[j].Labels })
+		return found
+	}})
+}
+
 // LabelledGauge adds a value with a label, both of which are read when they are asked for. There is none while the label is empty.
 func (r *Registry) LabelledGauge(name, help, label string, value func() (string, float64)) {
 	r.add(series{name, help, "gauge", func() []Sample {

@@ -4,6 +4,7 @@ import (
 	"bytes"
 	"os"
 	"runtime"
+	"runtime/metrics"
 	"strconv"
 	"strings"
 	"syscall"
@@ -13,10 +14,11 @@ import (
 // clockTick is a part of a second in which Linux counts the time of a process.
 const clockTick = 0.01
 
-// AddProcess adds what is known of the process, under the names that Prometheus' own libraries give it, and the version of the program.
-func (r *Registry) AddProcess(version string) {
-	build := r.newGauge("rbac_node_build_info", "1, with the version of the program and that of Go.", "version", "goversion")
-	build.Add(version, runtime.Version())
+// AddProcess adds what is known of the process, under the names that Prometheus' own libraries give it, and of what the program was
+// built: its version, its sources and the proved program beside them.
+func (r *Registry) AddProcess(version, sources, program string) {
+	build := r.newGauge("rbac_node_build_info", "1, with of what the program was built.", "version", "goversion", "sources", "program")
+	build.Add(version, runtime.Version(), sources, program)
 	r.add(series{"process_cpu_seconds_total", "Time that processors have worked for the process.", "counter", func() []Sample {
 		return []Sample{{"process_cpu_seconds_total", "", processorSeconds()}}
 	}})
@@ -35,7 +37,30 @@ func (r *Registry) AddProcess(version string) {
 		open, _ := os.ReadDir("/proc/self/fd")
 		return float64(len(open))
 	})
+	r.newGauge("go_info", "1, with the version of Go.", "version").Add(runtime.Version())
 	r.Gauge("go_goroutines", "Goroutines.", func() float64 { return float64(runtime.NumGoroutine()) })
+	for _, one := range ofGo {
+		one := one
+		r.add(series{one.name, one.help, one.kind, func() []Sample { return []Sample{{one.name, "", readGo(one.source)}} }})
+	}
+}
+
+// ofGo are figures of Go's own, by their names there.
+var ofGo = []struct{ name, help, kind, source string }{
+	{"go_memstats_heap_alloc_bytes", "Memory of objects.", "gauge", "/memory/classes/heap/objects:bytes"},
+	{"go_memstats_sys_bytes", "Memory that the system has given to Go.", "gauge", "/memory/classes/total:bytes"},
+	{"go_memstats_next_gc_bytes", "Memory of objects at which garbage is collected.", "gauge", "/gc/heap/goal:bytes"},
+	{"go_gc_cycles_total_gc_cycles_total", "How often garbage was collected.", "counter", "/gc/cycles/total:gc-cycles"},
+}
+
+// readGo returns a figure of Go's own.
+func readGo(source string) float64 {
+	samples := []metrics.Sample{{Name: source}}
+	metrics.Read(samples)
+	if samples[0].Value.Kind() != metrics.KindUint64 {
+		return 0
+	}
+	return float64(samples[0].Value.Uint64())
 }
 
 // memoryBytes returns a field of what the system reports about the memory of the process, or 0.

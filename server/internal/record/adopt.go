@@ -80,7 +80,16 @@ func (t *Tool) Adopt(ctx context.Context, by, reason string) error {
 	case !errors.Is(err, errDiffers) && !errors.Is(err, errNoStart) && !errors.As(err, &wrong):
 		return err
 	}
-	err = r.withCopy(ctx, r.Office, func(copied, rows string) error {
+	if err := r.beginAnew(ctx, by, reason); err != nil {
+		return fmt.Errorf("record: %w", err)
+	}
+	fmt.Fprintf(t.Out, "the record begins anew over the office as it is, at entry %d\n", r.head.n)
+	return nil
+}
+
+// beginAnew begins a part over the office as it is, and says in the record who does that, why, and what was changed.
+func (r *Record) beginAnew(ctx context.Context, by, reason string) error {
+	return r.withCopy(ctx, r.Office, func(copied, rows string) error {
 		changed, err := r.changed(ctx, copied)
 		if err != nil {
 			return err
@@ -91,11 +100,6 @@ func (t *Tool) Adopt(ctx context.Context, by, reason string) error {
 		}
 		return addBase(r.dir, copied, base{r.head.n, rows})
 	})
-	if err != nil {
-		return fmt.Errorf("record: %w", err)
-	}
-	fmt.Fprintf(t.Out, "the record begins anew over the office as it is, at entry %d\n", r.head.n)
-	return nil
 }
 
 // adoptFirst begins the record of an office that has commands and no record.

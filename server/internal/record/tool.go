@@ -65,6 +65,8 @@ func (t *Tool) lockIfFree(ctx context.Context) (*os.File, error) {
 	path := t.Office + ".lock"
 	if t.Data != "" {
 		path = filepath.Join(t.Data, "lock")
+	} else if err := single.CheckRestored(t.Office); err != nil {
+		return nil, err
 	}
 	lock, err := single.Lock(within, path)
 	if errors.Is(err, os.ErrPermission) || errors.Is(err, syscall.EROFS) {

@@ -33,7 +33,7 @@ func (o Options) explain(out io.Writer, files []file, tokens map[string]string) 
 		line("\nAdd a user:\n  %s -H 'Authorization: Bearer %s' -d '{\"user\":\"ann\"}' %s/v1/addUser", curl, tokens[Administrator], url)
 		line("\nFor Prometheus, whose token may only read metrics:\n%s", o.scraping(url, tokens[Monitor]))
 	}
-	line("\nUndo this, once the front is stopped:\n  rm %s", strings.Join(paths, " "))
+	line("\nUndo this. The office stays where it is:\n  %srm %s", o.stop(), strings.Join(paths, " "))
 	_, err := io.WriteString(out, text.String())
 	return err
 }
@@ -41,9 +41,22 @@ func (o Options) explain(out io.Writer, files []file, tokens map[string]string) 
 // start returns the command that starts the front.
 func (o Options) start() string {
 	if o.Folder == packaged {
-		return fmt.Sprintf("systemctl enable --now rbac-node@%[1]s && systemctl restart rbac-node@%[1]s", o.Office)
+		return fmt.Sprintf("systemctl enable %[1]s && systemctl restart %[1]s", o.units())
 	}
 	return fmt.Sprintf("rbac-node serve --office %s %s", filepath.Join(o.Folder, o.Office), o.options())
+}
+
+// stop returns what stops the front before its files are removed, so that it never answers without its callers.
+func (o Options) stop() string {
+	if o.Folder == packaged {
+		return fmt.Sprintf("systemctl disable --now %s && ", o.units())
+	}
+	return ""
+}
+
+// units returns systemd's units of the office: its front and its backups.
+func (o Options) units() string {
+	return fmt.Sprintf("rbac-node@%[1]s rbac-backup@%[1]s.timer", o.Office)
 }
 
 // scraping returns what Prometheus has to know.

@@ -52,7 +52,12 @@ type file struct {
 	text []byte
 }
 
-var officeName = regexp.MustCompile(`^[A-Za-z0-9_][A-Za-z0-9_.-]*$`)
+var (
+	officeName = regexp.MustCompile(`^[A-Za-z0-9_][A-Za-z0-9_.-]*$`)
+	hostName   = regexp.MustCompile(`^[A-Za-z0-9*][A-Za-z0-9.-]*$`)
+	// optionWord is what systemd and a shell take as one word, as it is, from OPTIONS.
+	optionWord = regexp.MustCompile(`^[A-Za-z0-9_.,:/@%+=\[\]-]+$`)
+)
 
 // Run makes the files, and writes what to do next. If one of them exists, or can't be made, none is made.
 func Run(o Options, out io.Writer) error {
@@ -67,6 +72,13 @@ func Run(o Options, out io.Writer) error {
 		return err
 	}
 	o.Folder = folder
+	if err := o.check(); err != nil {
+		return err
+	}
+	group, err := o.groupID()
+	if err != nil {
+		return err
+	}
 	tokens, err := newTokens(Administrator, Monitor)
 	if err != nil {
 		return err
@@ -80,7 +92,7 @@ func Run(o Options, out io.Writer) error {
 		files = append(files, pair...)
 	}
 	files = append(files, file{o.path("conf"), []byte(fmt.Sprintf("OPTIONS=%q\n", o.options()))})
-	if err := makeAll(files, o.groupID()); err != nil {
+	if err := makeAll(files, group); err != nil {
 		return err
 	}
 	return o.explain(out, files, tokens)
@@ -90,28 +102,44 @@ func Run(o Options, out io.Writer) error {
 func (o Options) path(ending string) string { return filepath.Join(o.Folder, o.Office+"."+ending) }
 
 // options returns the options of the front.
-func (o Options) options() string {
+func (o Options) options() string { return strings.Join(o.optionWords(), " ") }
+
+func (o Options) optionWords() []string {
 	words := []string{"--listen", o.Listen, "--callers", o.path("callers"), "--tokens", o.path("tokens")}
 	if len(o.Hosts) > 0 {
 		words = append(words, "--tls-cert", o.path("crt"), "--tls-key", o.path("key"))
 	}
-	return strings.Join(words, " ")
+	return words
+}
+
+// check refuses names of hosts that no certificate can have, and options that the front would get in another form.
+func (o Options) check() error {
+	for _, host := range o.Hosts {
+		if net.ParseIP(host) == nil && !hostName.MatchString(host) {
+			return fmt.Errorf("%q is no name and no address of a machine", host)
+		}
+	}
+	for _, word := range o.optionWords() {
+		if !optionWord.MatchString(word) {
+			return fmt.Errorf("%q can't be an option of the front: give letters, digits and . , : / @ %% + = _ - [ ]", word)
+		}
+	}
+	return nil
 }
 
 // groupID returns the number of the group that may read the files, or -1 if nobody else may.
-func (o Options) groupID() int {
+func (o Options) groupID() (int, error) {
 	if o.Group == "" || os.Geteuid() != 0 {
-		return -1
+		return -1, nil
 	}
 	found, err := user.LookupGroup(o.Group)
-	if err != nil {
-		return -1
+	if err != nil && o.Folder != packaged {
+		return -1, nil // The front is run by whoever has made its files.
 	}
-	id, err := strconv.Atoi(found.Gid)
 	if err != nil {
-		return -1
+		return 0, fmt.Errorf("%w: the front of the package could not read the files; nothing was made", err)
 	}
-	return id
+	return strconv.Atoi(found.Gid)
 }
 
 // makeAll makes all files, or none.

@@ -108,3 +108,39 @@ func TestForms(t *testing.T) {
 		t.Error("a request without names is accepted")
 	}
 }
+
+// A word that systemd or a shell would divide or change is refused before anything is made, and so is a host that no certificate names.
+func TestWords(t *testing.T) {
+	dir := t.TempDir()
+	for _, o := range []Options{
+		{Folder: dir + "/a b", Listen: "127.0.0.1:80"}, {Folder: dir, Listen: "unix:/s --no-record"}, {Folder: dir, Listen: "unix:/$HOME"},
+		{Folder: dir, Listen: "127.0.0.1:80", Hosts: []string{"a b"}}, {Folder: dir, Listen: "127.0.0.1:80", Hosts: []string{""}},
+		{Folder: dir, Listen: "127.0.0.1:80", Hosts: []string{"bank.example", "$(id)"}}, {Folder: dir, Listen: "127.0.0.1:80", Hosts: []string{"-k"}},
+	} {
+		o.Office = "bank"
+		if err := Run(o, &strings.Builder{}); err == nil {
+			t.Errorf("%+v is accepted", o)
+		}
+	}
+	if left, _ := os.ReadDir(dir); len(left) > 0 {
+		t.Errorf("%v was made", left)
+	}
+	run(t, Options{Office: "bank", Folder: dir, Listen: "[::1]:8443", Hosts: []string{"*.bank.example", "::1"}})
+}
+
+// In the folder of the package the units are started and stopped too: first the front is stopped, and then its files are removed.
+func TestPackaged(t *testing.T) {
+	var said strings.Builder
+	o := Options{Office: "bank", Folder: packaged, Listen: "unix:/s,:8443", Hosts: []string{"bank.example"}}
+	if err := o.explain(&said, []file{{path: o.path("key")}}, nil); err != nil {
+		t.Fatal(err)
+	}
+	const units = "rbac-node@bank rbac-backup@bank.timer"
+	for _, wanted := range []string{
+		"\n  systemctl enable " + units + " && systemctl restart " + units + "\n", "\n  systemctl disable --now " + units + " && rm /etc/rbac/bank.key\n",
+	} {
+		if !strings.Contains(said.String(), wanted) {
+			t.Errorf("it doesn't say %q: %s", wanted, said.String())
+		}
+	}
+}

@@ -19,7 +19,6 @@ import (
 	"rbac-node/internal/faults"
 	"rbac-node/internal/feed"
 	"rbac-node/internal/logs"
-	"rbac-node/internal/metrics"
 	"rbac-node/internal/office"
 	"rbac-node/internal/trial"
 )
@@ -38,7 +37,7 @@ type Options struct {
 	AnswerTimeout, HangTimeout time.Duration
 	Reads                      int64
 	Log                        *logs.Logger
-	Starts                     *metrics.Counter
+	Figures                    *feed.Figures
 	// IsOpen says that everybody who can connect may do everything.
 	IsOpen bool
 	// SessionAge is after how much time a session ends, and SessionIdle after how much in which it isn't named. Zero is never.
@@ -94,8 +93,25 @@ func Open(ctx context.Context, options Options) (*Office, error) {
 	return o, nil
 }
 
+// RestoringSuffix is added to the path of an office for the folder in which a restore prepares what it puts in place of the office.
+const RestoringSuffix = ".restoring"
+
+// PlanOf returns the path of a file that is there while a restore of an office isn't finished.
+func PlanOf(office string) string { return filepath.Join(office+RestoringSuffix, "plan") }
+
+// CheckRestored refuses an office that is locked and whose restore isn't finished: it may have another record than its own.
+func CheckRestored(office string) error {
+	if _, err := os.Lstat(PlanOf(office)); !errors.Is(err, os.ErrNotExist) {
+		return fmt.Errorf("a restore of %s was interrupted: run its command, rbac-node restore, again", office)
+	}
+	return nil
+}
+
 // open opens the record and the office. The office is locked.
 func (o *Office) open(ctx context.Context) error {
+	if err := CheckRestored(o.File); err != nil {
+		return err
+	}
 	if o.CheckRecord != nil {
 		if err := o.CheckRecord(); err != nil {
 			return err
@@ -121,7 +137,7 @@ func (o *Office) open(ctx context.Context) error {
 			return office.Start(o.Program, o.File, o.HangTimeout, o.lock)
 		},
 		First: [][]byte{[]byte(`{"fn":"ssdRoleSets"}`)},
-		Reads: o.Reads, Log: o.Log, Starts: o.Starts,
+		Reads: o.Reads, Log: o.Log, Figures: o.Figures,
 	}
 	var err error
 	if o.OpenRecord != nil {

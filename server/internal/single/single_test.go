@@ -12,6 +12,7 @@ import (
 	"time"
 
 	"rbac-node/internal/api"
+	"rbac-node/internal/feed"
 	"rbac-node/internal/logs"
 	"rbac-node/internal/metrics"
 	"rbac-node/internal/programtest"
@@ -21,7 +22,7 @@ func optionsOf(t *testing.T, file string) Options {
 	return Options{
 		Locked: func() error { return nil }, Say: func(string) {},
 		File: file, Program: programtest.Path(t), AnswerTimeout: 20 * time.Second, HangTimeout: time.Minute, Reads: MostReads, Log: logs.New(&bytes.Buffer{}),
-		Starts: (&metrics.Registry{}).Counter("starts", "", "replay"),
+		Figures: feed.NewFigures(&metrics.Registry{}),
 	}
 }
 

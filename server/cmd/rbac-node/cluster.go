@@ -110,7 +110,7 @@ func (s *clusterSettings) adoptInto(ctx context.Context, shared *ledger.Ledger, 
 	}
 	head, undo := "", func() {}
 	if about, err := os.Stat(from); err == nil && about.IsDir() {
-		if from, head, undo, err = records.carry(ctx, s.common, from, s.Data); err != nil {
+		if from, head, undo, err = s.common.carryRecord(ctx, from, s.Data); err != nil {
 			return err
 		}
 	}
@@ -198,7 +198,7 @@ func (s *clusterSettings) serveNode(ctx context.Context, shared *ledger.Ledger, 
 		s.common.refused = filepath.Join(s.Data, "refused")
 	}
 	registry := &metrics.Registry{}
-	registry.AddProcess(version)
+	registry.AddProcess(version, sources, proved)
 	f, err := front.New(ctx, s.common.frontOptions(addresses, events, registry))
 	if err != nil {
 		return err
@@ -206,7 +206,7 @@ func (s *clusterSettings) serveNode(ctx context.Context, shared *ledger.Ledger, 
 	defer f.Close()
 	s.IsOpen, s.SessionAge = s.common.callers.Callers == "", s.common.sessionAge
 	if !s.common.record.isOff {
-		s.Record = records.follow(s.common, s.Data, s.Options.File(), s.partEntries, events, registry)
+		s.Record = s.common.followRecord(s.Data, s.Options.File(), s.partEntries, events, registry)
 	}
 	n, err := node.New(s.Options, shared, events, registry)
 	if err != nil {

@@ -29,25 +29,24 @@ type signCommand struct {
 	ca, cert, key, token string
 }
 
-var errSignUsage = errors.New("usage: rbac-node record sign --url URL --key FILE --heads FILE [options]")
-
-// sign signs the head of a record that a front on another machine keeps.
-func sign(words []string) error {
+// prepareSign defines the flags of `record sign`, and returns what signs the head of a record that a front on another machine keeps.
+func prepareSign(flags *flag.FlagSet) func([]string) error {
 	c := &signCommand{Signer: record.Signer{Out: os.Stdout}}
-	flags := flag.NewFlagSet("rbac-node record sign", flag.ContinueOnError)
-	flags.StringVar(&c.URL, "url", "", "the front, such as https://office.example:8443")
-	flags.StringVar(&c.ca, "ca", "", "file of the authority of the front's certificate; without it those of the system")
-	flags.StringVar(&c.token, "token", "", "file of a token that shows who asks")
-	flags.StringVar(&c.cert, "tls-cert", "", "file of a certificate that shows who asks")
-	flags.StringVar(&c.key, "tls-key", "", "file of its key")
-	flags.StringVar(&c.Key, "key", "", "file of the key that signs, of minisign or ssh-keygen")
-	flags.StringVar(&c.Heads, "heads", "", "file of the signed heads, to which one is added")
+	flags.StringVar(&c.URL, "url", "", "`URL` of the front, such as https://office.example:8443")
+	flags.StringVar(&c.ca, "ca", "", "`file` of the authority of the front's certificate; without it those of the system")
+	flags.StringVar(&c.token, "token", "", "`file` of a token that shows who asks")
+	flags.StringVar(&c.cert, "tls-cert", "", "`file` of a certificate that shows who asks")
+	flags.StringVar(&c.key, "tls-key", "", "`file` of its key")
+	flags.StringVar(&c.Key, "key", "", "`file` of the key that signs, of minisign or ssh-keygen")
+	flags.StringVar(&c.Heads, "heads", "", "`file` of the signed heads, to which one is added")
 	flags.BoolVar(&c.IsFirst, "begin", false, "sign the first head of a new file")
-	if err := flags.Parse(words); err != nil {
-		return err
-	}
-	if flags.NArg() > 0 || c.URL == "" || c.Key == "" || c.Heads == "" || (c.cert == "") != (c.key == "") {
-		return errSignUsage
+	return withArguments(0, func([]string) error { return c.sign() })
+}
+
+// sign signs the head.
+func (c *signCommand) sign() error {
+	if c.URL == "" || c.Key == "" || c.Heads == "" || (c.cert == "") != (c.key == "") {
+		return errUsage
 	}
 	if err := c.prepare(); err != nil {
 		return err
