@@ -56,6 +56,12 @@ def can_mount() -> bool:
     return can_run("unshare", "--mount", "mount", "-t", "tmpfs", "tmpfs", "/mnt")
 
 
+# What go.mod of the server requires directly, as Debian's packages have it.
+LIBRARIES = (
+    "github.com/coreos/go-systemd/daemon", "github.com/mattn/go-sqlite3", "go.etcd.io/etcd/clientv3", "go.uber.org/zap",
+    "golang.org/x/crypto/sha3", "golang.org/x/sync/errgroup", "google.golang.org/grpc", "gopkg.in/square/go-jose.v2/jwt",
+)  # fmt: skip
+
 # The programs, by the package that brings each.
 PROGRAMS = {
     "golang-go": "go", "gcc": "gcc cc", "g++": "g++ c++", "sqlite3": "sqlite3", "curl": "curl", "git": "git", "graphviz": "dot",
@@ -75,12 +81,10 @@ PROGRAMS = {
 }  # fmt: skip
 
 NEEDS = {name: Need(program(name), package) for package, names in PROGRAMS.items() for name in names.split()} | {
-    "sqlite-go": Need(library_of_go("github.com/mattn/go-sqlite3"), "golang-github-mattn-go-sqlite3-dev libc6-dev"),
-    "crypto-go": Need(library_of_go("golang.org/x/crypto/sha3"), "golang-golang-x-crypto-dev"),
-    "jose-go": Need(library_of_go("gopkg.in/square/go-jose.v2/jwt"), "golang-gopkg-square-go-jose.v2-dev"),
-    "etcd-go": Need(
-        lambda: all(map(Path.is_dir, (GOCODE / "go.etcd.io/etcd/clientv3", GOCODE / "go.uber.org/zap", GOCODE / "golang.org/x/sync"))),
-        "golang-etcd-server-dev golang-go.uber-zap-dev golang-golang-x-sync-dev",
+    "libraries of the server": Need(
+        lambda: all((GOCODE / path).is_dir() for path in LIBRARIES),
+        "golang-github-mattn-go-sqlite3-dev golang-golang-x-crypto-dev golang-gopkg-square-go-jose.v2-dev golang-etcd-server-dev "
+        "golang-go.uber-zap-dev golang-golang-x-sync-dev golang-github-coreos-go-systemd-dev libc6-dev",
     ),
     "casbin-go": Need(library_of_go("github.com/casbin/casbin"), "golang-github-casbin-casbin-dev"),
     "postgresql": Need(lambda: any(Path("/usr/lib/postgresql").glob("*/bin/initdb")), "postgresql"),

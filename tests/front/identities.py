@@ -238,7 +238,7 @@ def jwt(bench, claims, head=None, key="jwt.key"):
     return f"{signed}.{encoded(openssl(bench, f'openssl dgst -sha256 -sign {key}', signed.encode()))}"
 
 
-@pytest.mark.needs("jose-go", "openssl")
+@pytest.mark.needs("openssl")
 def check_jwts(bench):
     """A JWT shows who asks; what is wrong with one is tried in Go, and here once with a signature of openssl."""
     openssl(bench, "for key in jwt other; do openssl genrsa -out $key.key 2048; done")

@@ -103,7 +103,7 @@ def reply(front, method, path, body=None, fields=None):
         own.close()
 
 
-@pytest.mark.needs("sqlite-go", "crypto-go", "dot")
+@pytest.mark.needs("dot")
 def check_reasons(bench):
     """Each wrong request has its reason; a path of nothing names it; a body that is too long names its limit."""
     with Front(bench) as front:

@@ -12,7 +12,7 @@ from program.bench import PROGRAM
 
 PACKAGES = sorted({path.parent for path in SERVER.rglob("*_test.go") if SERVER / "vendor" not in path.parents})
 
-pytestmark = pytest.mark.needs("go", "gcc", "sqlite-go", "crypto-go", "jose-go", "etcd-go")
+pytestmark = pytest.mark.needs("go", "gcc", "libraries of the server")
 
 
 def name_of(folder):
