@@ -32,7 +32,7 @@ PARTS_OF_STD = {"core", "libc", "std_alloc"}
 # The pages of which each path and each link has to lead somewhere.
 LINKED = ["README.md", "CHANGELOG.md", "CONTRIBUTING.md", "SECURITY.md"]
 LINKED += [f"docs/{name}.md" for name in ("reference/api", "reference/contracts")]
-LINKED += [f"docs/howto/{name}.md" for name in ("audit", "integrate", "proxies", "operate")]
+LINKED += [f"docs/howto/{name}.md" for name in ("audit", "integrate", "install", "operate")]
 
 # The folders of the repository that pages name.
 FOLDERS = "bench bin clients crates deploy docs examples tests tools".split()

@@ -1,4 +1,4 @@
-"""The rules and the laws of the pages about them: each with the places of its definition, its function and its tests.
+"""The rules and the laws of their page: each with the places of its definition, its function and its tests.
 
 A place is a name, or `FILE: NAME` if several files have the name: FILE is the end of a path without its ending. The name of a test
 may be that of a file: a row of tests/rows, with the number of a line behind a colon, or a must-fail edit.
@@ -11,7 +11,7 @@ from dataclasses import dataclass
 
 from . import markdown, sources
 
-PAGE, LAWS = markdown.page("explanation/rules.md"), markdown.page("explanation/laws.md")
+PAGE = markdown.page("explanation/rules.md")
 ROOT = sources.ROOT
 
 # The table of the laws, and what the column of definitions has for a rule that no definition is of.
@@ -204,18 +204,18 @@ def of_law(row):
 
 @functools.lru_cache(maxsize=None)
 def rules():
-    """All rules of the two pages."""
+    """All rules and laws of the page."""
     found = []
     for part in re.split(r"^## ", PAGE, flags=re.M)[1:]:
         table, _, text = part.partition("\n")
         for row in [row for rows in markdown.tables(text) for row in rows]:
-            if table in BY_NAME:
+            if table == OF_LAWS:
+                found.append(rule_of(OF_LAWS, row[0].replace("`", ""), of_law(row)))
+            elif table in BY_NAME:
                 found += [rule_of(table, name, texts) for name, texts in of_function(table, row)]
             else:
                 cells = {"definition": quoted(row[1]), "function": quoted(row[2]), "test": quoted(row[3])}
                 found.append(rule_of(table, row[0], cells, is_tested=row[1] == ONLY_TESTED))
-    for row in [row for rows in markdown.tables(LAWS) for row in rows]:
-        found.append(rule_of(OF_LAWS, row[0].replace("`", ""), of_law(row)))
     return found
 
 
