@@ -10,7 +10,7 @@ PAGE = markdown.page("explanation/architecture.md")
 
 # The most bytes of a page that is read as a whole. These are longer: each is a reference.
 MOST_BYTES = 20 * 1024
-LONGER = {"api.md", "cluster.md", "rules.md"}
+LONGER = {"api.md", "cluster.md"}
 
 # What a build leaves.
 OUT = "out"

@@ -1,4 +1,4 @@
-"""The rules and the laws of their page: each with the places of its definition, its function and its tests.
+"""The rules and the laws of their page and of tests/places.txt: each with the places of its definition, its function and its tests.
 
 A place is a name, or `FILE: NAME` if several files have the name: FILE is the end of a path without its ending. The name of a test
 may be that of a file: a row of tests/rows, with the number of a line behind a colon, or a must-fail edit.
@@ -11,8 +11,8 @@ from dataclasses import dataclass
 
 from . import markdown, sources
 
-PAGE = markdown.page("explanation/rules.md")
 ROOT = sources.ROOT
+PAGE = markdown.page("explanation/rules.md") + (ROOT / "tests/places.txt").read_text(encoding="utf-8")
 
 # The table of the laws, and what the column of definitions has for a rule that no definition is of.
 OF_LAWS, ONLY_TESTED = "Laws", "only tested"
@@ -204,7 +204,7 @@ def of_law(row):
 
 @functools.lru_cache(maxsize=None)
 def rules():
-    """All rules and laws of the page."""
+    """All rules and laws of the page and of tests/places.txt."""
     found = []
     for part in re.split(r"^## ", PAGE, flags=re.M)[1:]:
         table, _, text = part.partition("\n")
