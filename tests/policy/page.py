@@ -33,7 +33,7 @@ def check_commands(bench):
         for name, language in (("policy.toml", "toml"), ("model.conf", "ini")):
             (text,) = markdown.blocks(PAGE, language)
             bench.write(name, "".join(f"{line}\n" for line in text).encode())
-            bench.same(f"the page names {name}", f"as `{name}`" in PAGE, True)
+            bench.same(f"the page names {name}", f"as `{name}`" in markdown.in_one_line(PAGE), True)
         for line, shown in runs([line for block in markdown.blocks(PAGE, "console") for line in block]):
             reader.shows(line, shown)
 
