@@ -111,6 +111,7 @@ NEEDS = {name: Need(program(name), package) for package, names in PROGRAMS.items
     "units of etcd": Need(Path("/usr/lib/systemd/system/etcd.service").exists, "etcd-server"),
     "history": Need(lambda: True),
     "program for arm64": Need(Path(PROGRAM_FOR_ARM64).is_file),
+    "rt": Need(program("rt")),
     "library for arm64": Need(lambda: os.path.isfile(os.environ.get("RBAC_ARCHIVE_ARM64", ""))),
 }  # fmt: skip
 

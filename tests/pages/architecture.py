@@ -10,7 +10,7 @@ PAGE = markdown.page("explanation/architecture.md")
 
 # The most bytes of a page that is read as a whole. These are longer: each is a reference.
 MOST_BYTES = 20 * 1024
-LONGER = {"api.md", "cluster.md", "contracts.md"}
+LONGER = {"api.md", "cluster.md"}
 
 # What a build leaves.
 OUT = "out"
@@ -28,8 +28,17 @@ def said_by(*command):
 
 
 def check_lists(bench):
-    """The lists of crates and files are those that bin/files makes of the first comments."""
+    """The table of crates is that of the first comments, and the list of files has each file of the crates that has a subject."""
     bench.same("bin/files --check", said_by("bin/files", "--check"), (0, ""))
+    status, said = said_by("bin/files", "--list")
+    listed = [line.partition(": ")[0] for line in said.splitlines()]
+    bench.same("it lists files that are there", (status, [path for path in listed if not (ROOT / path).is_file()]), (0, []))
+    there = {str(path.relative_to(ROOT)) for path in (ROOT / "crates").glob("*/src/**/*.rt") if path.name != "lib.rt"}
+    bench.same("sources that are not listed", sorted(there - set(listed)), [])
+    bench.same("each once, with what it has", (len(set(listed)), [line for line in said.splitlines() if line.endswith(": ")]), (len(listed), []))
+    one = said_by("bin/files", "--list", "role_order")[1].splitlines()
+    bench.same("those of one crate", one, [line for line in said.splitlines() if line.startswith("crates/role_order/")])
+    bench.same("no such crate", said_by("bin/files", "--list", "fish")[0], 2)
 
 
 def check_pictures(bench):

@@ -6,7 +6,7 @@ import subprocess
 from . import markdown, sources
 
 ROOT = sources.ROOT
-PAGE = markdown.page("howto/extend.md")
+PAGE = markdown.section((ROOT / "CONTRIBUTING.md").read_text(encoding="utf-8"), "## How to add a command")
 
 # Files outside crates/ that are written by hand, and files in it: `bin/commands` finds both if they lack a command. The front's copy
 # of the office and the random lines have some commands by a part of their names.
@@ -50,7 +50,7 @@ def check_missing(bench):
 def check_page(bench):
     """Each file and each script that the page names exists."""
     paths = [path for path in re.findall(r"(?<![\w/.-])(?:bin|deploy|docs|tests|tools)/[\w./-]*\w", PAGE) if "NAME" not in path]
-    bench.same("paths of extend.md to nothing", [path for path in paths if not (ROOT / path).exists()], [])
-    lemmas = markdown.page("reference/lemmas.md")
+    bench.same("paths of CONTRIBUTING.md to nothing", [path for path in paths if not (ROOT / path).exists()], [])
+    listed = subprocess.run([ROOT / "bin/files", "--list"], capture_output=True, text=True, check=True).stdout
     named = re.findall(r"\b([A-Z]\w+(?:Laws|Plans|Turns)|Refusing|Commanded)\b", PAGE)
-    bench.same("lemma files that do not exist", [name for name in named if f"| {name} |" not in lemmas], [])
+    bench.same("lemma files that do not exist", [name for name in named if f"/{name}.antt: " not in listed], [])

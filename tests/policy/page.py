@@ -32,7 +32,7 @@ def check_commands(bench):
         texts = [*markdown.blocks(PAGE, "toml"), *markdown.blocks(PAGE, "ini")]
         for name, text in zip(("policy.toml", "callers.toml", "model.conf"), texts, strict=True):
             bench.write(name, "".join(f"{line}\n" for line in text).encode())
-            bench.same(f"the page names {name}", f"as `{name}`" in PAGE, True)
+            bench.same(f"the page names {name}", f"as `{name}`" in markdown.in_one_line(PAGE), True)
         for line, shown in runs([line for block in markdown.blocks(PAGE, "console") for line in block]):
             reader.shows(line, shown)
 
