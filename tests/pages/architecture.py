@@ -8,8 +8,8 @@ from . import markdown, sources
 ROOT = sources.ROOT
 PAGE = markdown.page("explanation/architecture.md")
 
-# The most bytes of a page that is read as a whole. These are longer: each is a reference.
-MOST_BYTES = 20 * 1024
+# The most bytes of all pages with the first one, and of a page that is read as a whole. These are longer: each is a reference.
+MOST_BYTES_OF_ALL, MOST_BYTES = 300 * 1024, 20 * 1024
 LONGER = {"api.md", "cluster.md"}
 
 # What a build leaves.
@@ -68,12 +68,15 @@ def check_folders(bench):
 
 
 def check_bytes(bench):
-    """No page is longer than one reads at a time, except those that are known to be."""
+    """No page is longer than one reads at a time, except those that are known to be, and all together aren't too long."""
+    total = (ROOT / "README.md").stat().st_size
     for path in sorted((ROOT / "docs").rglob("*.md")):
         size = path.stat().st_size
+        total += size
         bench.same(
             f"{path.name} has at most {MOST_BYTES:,} bytes, and not {size:,}", size <= MOST_BYTES or path.name in LONGER, True
         )
+    bench.same(f"all pages have at most {MOST_BYTES_OF_ALL:,} bytes, and not {total:,}", total <= MOST_BYTES_OF_ALL, True)
 
 
 def check_lines(bench):
