@@ -475,12 +475,12 @@ def out_of_last(front):
 
 
 def check_usage(bench):
-    """Command lines that can't work end with one line."""
-    for words in [("record",), ("record", "fly", "--office", "o"), ("record", "head"), ("backup", "--office", "o"), ("backup", "x"),
-                  ("record", "head", "--office", bench.path("none")), ("record", "verify", "--office", bench.path("none")),
-                  ("record", "adopt", "--office", bench.path("none"), *WHO), ("record", "show", "--office", "o", "word")]:  # fmt: skip
+    """Command lines that can't work end with one line, and with status 2 if they name no command."""
+    for wanted, words in [(2, ("record",)), (2, ("record", "fly", "--office", "o")), (1, ("record", "head")), (1, ("backup", "--office", "o")), (1, ("backup", "x")),
+                          (1, ("record", "head", "--office", bench.path("none"))), (1, ("record", "verify", "--office", bench.path("none"))),
+                          (1, ("record", "adopt", "--office", bench.path("none"), *WHO)), (1, ("record", "show", "--office", "o", "word"))]:  # fmt: skip
         status, out, said = tool(*words, program=False)
-        bench.same(f"{' '.join(words)}", (status, out, said.count("\n")), (1, "", 1))
+        bench.same(f"{' '.join(words)}", (status, out, said.count("\n")), (wanted, "", 1))
     bench.same("what it makes", os.listdir(bench.folder), [])
 
 
