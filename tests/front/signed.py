@@ -383,7 +383,7 @@ def check_page(bench):
     with Shell(bench) as reader:
         (bench.folder / "bin/rbac-node").symlink_to(os.environ[PROGRAM])
         type_all(bench, reader, page)
-    said = tool("record", "sign", "--help", program=False)[2]
-    bench.same("the options", set(re.findall(r"`(--[\w-]+)`", page.split("## 2.")[0])), {f"-{one}" for one in re.findall(r"^  (-[\w-]+)", said, re.M)})
+    said = tool("record", "sign", "--help", program=False)[1]
+    bench.same("the options", set(re.findall(r"`(--[\w-]+)`", page.split("## 2.")[0])), set(re.findall(r"^  (--[\w-]+)", said, re.M)))
     bench.same("the languages", set(re.findall(r"^```(\w+)$", page, re.M)), {"console", "sh"})
     bench.same("long lines", [line for line in page.splitlines() if len(line) > 130 and not line.startswith("|")], [])
