@@ -6,7 +6,9 @@ import (
 	"fmt"
 	"os"
 	"path/filepath"
+	"strings"
 	"syscall"
+	"unicode"
 
 	"rbac-node/single"
 )
@@ -94,8 +96,16 @@ func (r replacement) plan() (*plan, error) {
 	if err := json.Unmarshal(text, p); err != nil {
 		return nil, fmt.Errorf("%s: %w", r.planPath(), err)
 	}
+	// Whoever may write the folder of the office may write a plan, which root carries out and prints.
+	if !strings.HasPrefix(p.Before, r.before()) || strings.Contains(p.Before[len(r.before()):], "/") ||
+		strings.IndexFunc(p.Backup+p.Before+strings.ReplaceAll(p.Done, "\n", ""), unicode.IsControl) >= 0 {
+		return nil, fmt.Errorf("%s: no restore has written this: look who has, and move the folder away", r.planPath())
+	}
 	return p, nil
 }
+
+// before returns how the folder for what was there before begins.
+func (r replacement) before() string { return r.office + ".before-" }
 
 // write makes durable all that was prepared, and then the plan.
 func (r replacement) write(p plan) error {
