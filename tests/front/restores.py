@@ -359,6 +359,8 @@ def all_of(trace):
 def after_kill(bench, what, front, then):
     """What a kill has left, by what the program and a front do with it."""
     done = subprocess.run([RBAC, "check", front.office], capture_output=True, text=True, check=False)
+    # Otherwise the unit of the program alone would make an empty office there.
+    bench.same(f"{what}: there is an office", os.path.getsize(front.office) > 0, True)
     if not os.path.exists(f"{front.office}.restoring/plan"):
         bench.same(f"{what}: check", (done.returncode, done.stdout), (0, "good\n"))
         found = rows_of(front.office, bench.path("found"))
