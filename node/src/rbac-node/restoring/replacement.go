@@ -154,6 +154,22 @@ func (r replacement) finish(p plan) error {
 			}
 		}
 	}
+	if err := r.putRecord(p); err != nil {
+		return err
+	}
+	if isOffice {
+		if err := r.putOffice(); err != nil {
+			return err
+		}
+	}
+	if err := sync(filepath.Dir(r.office)); err != nil {
+		return err
+	}
+	return os.RemoveAll(r.folder())
+}
+
+// putRecord moves the earlier record away, if it is still there, and puts the one that was prepared in its place.
+func (r replacement) putRecord(p plan) error {
 	isRecord, err := exists(r.in(recordName))
 	if err != nil {
 		return err
@@ -163,26 +179,21 @@ func (r replacement) finish(p plan) error {
 			return err
 		}
 	}
-	if isRecord {
-		if err := os.Rename(r.in(recordName), r.office+recordSuffix); err != nil {
-			return err
-		}
+	if !isRecord {
+		return nil
 	}
-	if isOffice {
-		if err := os.Remove(r.office + walSuffix); err != nil && !errors.Is(err, os.ErrNotExist) {
-			return err
-		}
-		if err := sync(filepath.Dir(r.office)); err != nil {
-			return err
-		}
-		if err := os.Rename(r.in(officeName), r.office); err != nil {
-			return err
-		}
+	return os.Rename(r.in(recordName), r.office+recordSuffix)
+}
+
+// putOffice puts the office that was prepared in place of the earlier one, whose log has another name by now.
+func (r replacement) putOffice() error {
+	if err := os.Remove(r.office + walSuffix); err != nil && !errors.Is(err, os.ErrNotExist) {
+		return err
 	}
 	if err := sync(filepath.Dir(r.office)); err != nil {
 		return err
 	}
-	return os.RemoveAll(r.folder())
+	return os.Rename(r.in(officeName), r.office)
 }
 
 // keep gives what is at a path a name in the folder for what was there before, by a link or by a move.
