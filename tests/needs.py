@@ -56,6 +56,12 @@ def can_mount() -> bool:
     return can_run("unshare", "--mount", "mount", "-t", "tmpfs", "tmpfs", "/mnt")
 
 
+# What go.mod of the server requires directly, as Debian's packages have it.
+LIBRARIES = (
+    "github.com/coreos/go-systemd/daemon", "github.com/mattn/go-sqlite3", "go.etcd.io/etcd/clientv3", "go.uber.org/zap",
+    "golang.org/x/crypto/sha3", "golang.org/x/sync/errgroup", "google.golang.org/grpc", "gopkg.in/square/go-jose.v2/jwt",
+)  # fmt: skip
+
 # The programs, by the package that brings each.
 PROGRAMS = {
     "golang-go": "go", "gcc": "gcc cc", "g++": "g++ c++", "sqlite3": "sqlite3", "curl": "curl", "git": "git", "graphviz": "dot",
@@ -67,6 +73,7 @@ PROGRAMS = {
     "openssl": "openssl", "openssh-client": "ssh-keygen", "strace": "strace", "psmisc": "fuser", "mount": "mount",
     "util-linux": "setpriv unshare findmnt", "iproute2": "ip",
     "nginx-light": "nginx", "haproxy": "haproxy", "logrotate": "logrotate", "rsync": "rsync", "restic": "restic",
+    "slapd": "slapd slapadd slapcat", "ldap-utils": "ldapsearch ldapwhoami",
     "minisign": "minisign", "btrfs-progs": "mkfs.btrfs", "e2fsprogs": "mkfs.ext4 chattr", "procps": "pgrep", "man-db": "man mandb apropos",
     "groff": "groff", "mandoc": "mandoc", "systemd": "systemd-analyze", "systemd-container": "systemd-nspawn",
     "dpkg-dev": "dpkg-buildpackage", "debhelper": "dh dh_installsysusers", "lintian": "lintian", "fish": "fish", "zsh": "zsh",
@@ -74,12 +81,10 @@ PROGRAMS = {
 }  # fmt: skip
 
 NEEDS = {name: Need(program(name), package) for package, names in PROGRAMS.items() for name in names.split()} | {
-    "sqlite-go": Need(library_of_go("github.com/mattn/go-sqlite3"), "golang-github-mattn-go-sqlite3-dev libc6-dev"),
-    "crypto-go": Need(library_of_go("golang.org/x/crypto/sha3"), "golang-golang-x-crypto-dev"),
-    "jose-go": Need(library_of_go("gopkg.in/square/go-jose.v2/jwt"), "golang-gopkg-square-go-jose.v2-dev"),
-    "etcd-go": Need(
-        lambda: all(map(Path.is_dir, (GOCODE / "go.etcd.io/etcd/clientv3", GOCODE / "go.uber.org/zap", GOCODE / "golang.org/x/sync"))),
-        "golang-etcd-server-dev golang-go.uber-zap-dev golang-golang-x-sync-dev",
+    "libraries of the server": Need(
+        lambda: all((GOCODE / path).is_dir() for path in LIBRARIES),
+        "golang-github-mattn-go-sqlite3-dev golang-golang-x-crypto-dev golang-gopkg-square-go-jose.v2-dev golang-etcd-server-dev "
+        "golang-go.uber-zap-dev golang-golang-x-sync-dev golang-github-coreos-go-systemd-dev libc6-dev",
     ),
     "casbin-go": Need(library_of_go("github.com/casbin/casbin"), "golang-github-casbin-casbin-dev"),
     "postgresql": Need(lambda: any(Path("/usr/lib/postgresql").glob("*/bin/initdb")), "postgresql"),
@@ -106,6 +111,7 @@ NEEDS = {name: Need(program(name), package) for package, names in PROGRAMS.items
     "units of etcd": Need(Path("/usr/lib/systemd/system/etcd.service").exists, "etcd-server"),
     "history": Need(lambda: True),
     "program for arm64": Need(Path(PROGRAM_FOR_ARM64).is_file),
+    "rt": Need(program("rt")),
     "library for arm64": Need(lambda: os.path.isfile(os.environ.get("RBAC_ARCHIVE_ARM64", ""))),
 }  # fmt: skip
 

@@ -70,7 +70,7 @@ CLIENTS = {
 
 # The clients as parameters, and what a check of the front needs.
 NAMES = [pytest.param(name, marks=pytest.mark.needs(*filter(None, [need]))) for name, (need, _, _) in CLIENTS.items()]
-FRONT = ("go", "gcc", "sqlite-go", "crypto-go")
+FRONT = ("go", "gcc", "libraries of the server")
 
 
 def build(folder):

@@ -14,7 +14,7 @@ FIRST = {"judged", "records", "keeping"}
 def pytest_collection_modifyitems(items):
     for item in items:
         if item.path.parent.name == "cluster" and item.path.stem not in OF_SOURCES:
-            item.add_marker(pytest.mark.needs("go", "etcd", "etcdctl", "gcc", "etcd-go", "jose-go", "sqlite-go"))
+            item.add_marker(pytest.mark.needs("go", "etcd", "etcdctl", "gcc", "libraries of the server"))
             item.add_marker(pytest.mark.xdist_group("clusters 1" if item.path.stem in FIRST else "clusters 2"))
             item.add_marker(pytest.mark.slow)
 

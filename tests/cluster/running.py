@@ -23,12 +23,11 @@ def build(folder, root=None):
 
 def build_faulty(folder):
     """Builds rbac-node with the tag by which it can have a fault into a folder. The variable FAULT then names one."""
-    done = subprocess.run([TESTS.parent / "bin/node", "--features"], capture_output=True, text=True, check=True)
-    settings = {**os.environ, "NODE_FEATURES": f"{done.stdout.strip()},faults"}
+    settings = {**os.environ, "NODE_TAGS": "faults"}
     subprocess.run([TESTS.parent / "bin/node", "--build", folder / "rbac-node"], env=settings, check=True, stdout=sys.stderr)
 
 
 def fault_of(name):
     """How the variable names a fault of the sources."""
-    text = (TESTS.parent / "node/src/rbac-node/faults/nodes.go").read_text(encoding="utf-8")
+    text = (TESTS.parent / "server/internal/faults/nodes.go").read_text(encoding="utf-8")
     return re.findall(rf'^\t{name} = "(.+)"$', text, re.M)[0]

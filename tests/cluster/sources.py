@@ -3,9 +3,10 @@
 import json
 import re
 
+from front.sources import all_sources
 from program.bench import TESTS
 
-SOURCES = TESTS.parent / "node/src/rbac-node"
+SOURCES = TESTS.parent / "server/internal"
 
 
 def check_functions(bench):
@@ -28,7 +29,7 @@ def check_length(bench):
 def check_limits(bench):
     """The intervals and limits on the page are those of the sources."""
     page = " ".join((TESTS.parent / "docs/howto/cluster.md").read_text(encoding="utf-8").split())
-    sources = "".join(path.read_text(encoding="utf-8") for path in sorted(SOURCES.rglob("*.go")))
+    sources = all_sources()
     for source, text in [
         ('"every", 10_000', "After each 10,000 commands"),
         ('"every-bytes", 64<<20', "after each 64 MiB of commands since the last snapshot"),

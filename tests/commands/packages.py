@@ -237,9 +237,9 @@ def check_sums(bench, packages):
 
 
 # The paths that pages name, and those that the package leaves out, as bin/package says.
-FOLDERS = "bench|bin|clients|crates|deploy|docs|examples|library|node|release|tests|tools"
+FOLDERS = "bench|bin|clients|crates|deploy|docs|examples|library|release|server|tests|tools"
 PATHS = rf"(?<![\w/.-])(?:{FOLDERS}|\.ci)/[\w./-]*"
-LEFT_OUT = ("bench/", "bin/", "crates/", "library/", "node/", "release/librbac_c.a", "tests/", ".ci/")
+LEFT_OUT = ("bench/", "bin/", "crates/", "library/", "server/", "release/librbac_c.a", "tests/", ".ci/")
 
 
 def check_places(bench, packages):

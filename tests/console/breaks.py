@@ -98,9 +98,10 @@ def broken(bench, name):
     root = bench.folder / "sources"
     (root / "bin").mkdir(parents=True)
     shutil.copy(ROOT / "bin/node", root / "bin/node")
-    shutil.copytree(ROOT / "node", root / "node")
+    shutil.copy(ROOT / "bin/vendor", root / "bin/vendor")
+    shutil.copytree(ROOT / "server", root / "server")
     file, old, new, *_ = BREAKS[name]
-    path = root / "node/src/rbac-node" / file
+    path = root / "server/internal" / file
     text, count = place_of(old).subn(lambda _: new, path.read_text(encoding="utf-8"))
     bench.same("the places of the edit", count, 1)
     path.write_text(text, encoding="utf-8")

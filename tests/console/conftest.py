@@ -22,7 +22,7 @@ WITHOUT_BROWSER = {"downloads", "serving", "page", "breaks", "sources"}
 def pytest_collection_modifyitems(items):
     for item in items:
         if item.path.parent.name == "console" and item.path.stem != "sources":
-            item.add_marker(pytest.mark.needs("go", "sqlite-go", "crypto-go", "gcc"))
+            item.add_marker(pytest.mark.needs("go", "libraries of the server", "gcc"))
             if item.path.stem not in WITHOUT_BROWSER:
                 item.add_marker(pytest.mark.needs("chromium", "chromedriver", "selenium"))
             if item.path.stem == "limits":

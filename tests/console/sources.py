@@ -4,7 +4,7 @@ import re
 
 from program.bench import TESTS
 
-SITE = TESTS.parent / "node/src/rbac-node/console/site"
+SITE = TESTS.parent / "server/internal/console/site"
 MOST_LINES, MOST_BYTES, LONGEST_FILE = 3_400, 200_000, 800
 
 

@@ -1,4 +1,4 @@
-"""A layer above the files of this machine, in which systemd may be booted: the commands of docs/howto/proxies.md."""
+"""A layer above the files of this machine, in which systemd may be booted: the commands of docs/howto/operate.md for nginx."""
 
 import shutil
 
@@ -10,7 +10,7 @@ from program.bench import PROGRAM
 
 from .common import DEPLOY, run
 
-PAGE = markdown.page("howto/proxies.md")
+PAGE = markdown.section(markdown.page("howto/operate.md"), "## 8. A proxy before the program alone")
 
 # A layer above the files of this machine, with the files that are installed.
 LAYER = """

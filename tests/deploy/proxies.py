@@ -20,6 +20,8 @@ from program.web import HOST, Server, free_port
 
 from .common import DEPLOY, run, wait_until
 
+PAGE = markdown.section(markdown.page("howto/operate.md"), "## 8. A proxy before the program alone")
+
 pytestmark = pytest.mark.needs("nginx", "openssl")
 
 NGINX = DEPLOY / "nginx"
@@ -58,7 +60,7 @@ DISGUISED = [
 def sorts():
     """Returns the functions that each group may call, according to the page and the sources."""
     questions, commands = set(sources.question_keys()), set(sources.command_keys())
-    table, _ = markdown.tables(markdown.page("howto/proxies.md"))
+    table, _ = markdown.tables(PAGE)
     said = {row[0]: set(re.findall(r"`(\w+)`", row[1])) for row in table}
     return {
         "applications": said["applications"],
@@ -281,7 +283,7 @@ NO_SERVER = 502
 
 def check_own_answers(bench):
     """The statuses that the page says nginx itself answers are those that it answers, and none is a decision."""
-    table = markdown.tables(markdown.page("howto/proxies.md"))[1]
+    table = markdown.tables(PAGE)[1]
     listed = [int(row[0]) for row in table]
     bench.same("the statuses of the page", listed, sorted({NO_SERVER, *(status for status, _ in OWN.values())}))
     hasty = "client_body_timeout 1s;\nproxy_read_timeout 1s;"

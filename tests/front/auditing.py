@@ -53,7 +53,7 @@ def check_form(bench):
     """The page of the record is short, and names each option by which entries are chosen."""
     bench.same("the page is short", len(RECORD.encode()) <= MOST_BYTES, True)
     bench.same("long lines", [line for line in RECORD.splitlines() if len(line) > 135 and not line.startswith("|")], [])
-    source = (TESTS.parent / "node/src/rbac-node/recording_sqlite.go").read_text(encoding="utf-8")
+    source = (TESTS.parent / "server/cmd/rbac-node/recording_sqlite.go").read_text(encoding="utf-8")
     known = re.findall(r'&?c\.(?:filter|format)[\w.]*, "([a-z]+)"|flags\.Func\("(since|until)"', source)
     (table,) = markdown.tables(markdown.section(RECORD, "## 3. Entries for programs"))
     listed = [name for row in table for name in re.findall(r"`--([a-z]+)`", row[0])]

@@ -8,7 +8,7 @@ from needs import lacking
 
 from .running import LONG, PROGRAM, build
 
-NEEDED = ("go", "sqlite-go", "crypto-go", "gcc")
+NEEDED = ("go", "libraries of the server", "gcc")
 # What needs nothing but the sources.
 OF_SOURCES = {"sources"}
 

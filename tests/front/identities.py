@@ -17,7 +17,6 @@ from program.bench import PROGRAM as RBAC
 from program.bench import TESTS
 
 from .program import HOST, Front, over_tls, refused_start, until
-from .running import features
 from .sources import keys_of_functions
 
 # Makes two authorities of the same name, and certificates: CN by the first name, and what is wrong by the second.
@@ -239,7 +238,7 @@ def jwt(bench, claims, head=None, key="jwt.key"):
     return f"{signed}.{encoded(openssl(bench, f'openssl dgst -sha256 -sign {key}', signed.encode()))}"
 
 
-@pytest.mark.needs("jose-go", "openssl")
+@pytest.mark.needs("openssl")
 def check_jwts(bench):
     """A JWT shows who asks; what is wrong with one is tried in Go, and here once with a signature of openssl."""
     openssl(bench, "for key in jwt other; do openssl genrsa -out $key.key 2048; done")

@@ -13,7 +13,7 @@ PAGES = {name: markdown.page(name) for name in ("reference/front.md", "howto/cal
 # Options of other programs on the pages: of etcd, etcdctl, curl, useradd, systemctl, bin/node and the tests; and of `record adopt` and
 # `setup`.
 OTHERS = {
-    "advertise-client-urls", "build", "by", "cacert", "data-dir", "dns", "endpoints", "features", "gate", "home-dir", "initial-advertise-peer-urls",
+    "advertise-client-urls", "build", "by", "cacert", "data-dir", "dns", "endpoints", "gate", "home-dir", "initial-advertise-peer-urls",
     "initial-cluster", "initial-cluster-state", "initial-cluster-token", "listen-client-urls", "listen-peer-urls", "long", "now", "part",
     "peer-urls", "prefix", "print-value-only", "quota-backend-bytes", "reason", "shell", "system", "unix-socket", "version",
 }  # fmt: skip

@@ -1,4 +1,4 @@
-"""The commands of docs/reference/front.md and docs/howto/callers.md print what they show, each page from its top to its end."""
+"""The commands of the tutorial of the front and of the page of callers print what they show, each page from its top to its end."""
 
 import os
 import re
@@ -13,7 +13,8 @@ from program.bench import SECONDS, TESTS
 
 from .running import PROGRAM
 
-PAGE, CALLERS = markdown.page("reference/front.md"), markdown.page("howto/callers.md")
+PAGE, CALLERS = markdown.page("tutorial/secured-front.md"), markdown.page("howto/callers.md")
+FRONT = markdown.page("reference/front.md")
 
 # The most bytes that each page may have.
 MOST_BYTES = 20_000
@@ -33,7 +34,7 @@ def check_commands(bench):
         for name, language in FILES.items():
             (lines,) = markdown.blocks(PAGE, language)
             bench.write(name, reader.here("".join(f"{line}\n" for line in lines)).encode())
-            bench.same(f"the page names {name}", f"as `{name}`" in PAGE, True)
+            bench.same(f"the page names {name}", f"as `{name}`" in markdown.in_one_line(PAGE), True)
         type_all(bench, reader, PAGE)
 
 
@@ -72,11 +73,12 @@ def runs(lines):
 
 def check_form(bench):
     """The pages are short, their lines are too, and each block is of a language that is run or compared."""
-    for name, page in (("FRONT", PAGE), ("CALLERS", CALLERS)):
+    for name, page in (("the tutorial", PAGE), ("FRONT", FRONT), ("CALLERS", CALLERS)):
         bench.same(f"{name} is short", len(page.encode()) <= MOST_BYTES, True)
         bench.same(f"long lines of {name}", [line for line in page.splitlines() if len(line) > 130 and not line.startswith("|")], [])
     bench.same("the languages of CALLERS", set(re.findall(r"^```(\w+)$", CALLERS, re.M)), {"console"})
-    bench.same("the languages", set(re.findall(r"^```(\w+)$", PAGE, re.M)), {"console", "sh", *FILES.values()})
+    bench.same("the languages", set(re.findall(r"^```(\w+)$", PAGE, re.M)), {"console", *FILES.values()})
+    bench.same("the languages of FRONT", re.findall(r"^```(\w+)$", FRONT, re.M), [])
 
 
 @pytest.mark.needs("systemd-analyze")

@@ -1,5 +1,6 @@
 """Builds the front."""
 
+import os
 import subprocess
 import sys
 from pathlib import Path
@@ -9,6 +10,9 @@ from program.bench import TESTS
 # The variables that tell the checks which program they try, and whether there are to be more kills.
 PROGRAM, LONG = "RBAC_FRONT", "RBAC_FRONT_LONG"
 
+# The sources, and the tags with which bin/node builds them.
+SERVER, TAGS = TESTS.parent / "server", "netgo,osusergo"
+
 
 def build(folder, root=TESTS.parent):
     """Builds rbac-node of a repository into a folder, and returns its path."""
@@ -17,7 +21,9 @@ def build(folder, root=TESTS.parent):
     return path
 
 
-def features():
-    """What the program that bin/node builds here can do besides serving one machine: `etcd`, `jose`."""
-    done = subprocess.run([TESTS.parent / "bin/node", "--features"], capture_output=True, text=True, check=True)
-    return done.stdout.strip().split(",")
+def go(*words, folder=SERVER, **more):
+    """Returns what a command of Go prints about the server, and its status. It uses the libraries that bin/vendor copies, as bin/node does."""
+    subprocess.run([TESTS.parent / "bin/vendor"], check=True, stdout=sys.stderr)
+    settings = {**os.environ, "GO111MODULE": "on", "GOFLAGS": "-mod=vendor", "GOPROXY": "off", "GOWORK": "off", "CGO_ENABLED": "1", **more}
+    done = subprocess.run(words, cwd=folder, env=settings, capture_output=True, text=True, stdin=subprocess.DEVNULL, check=False)
+    return done.stdout + done.stderr, done.returncode

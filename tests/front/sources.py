@@ -5,13 +5,19 @@ import re
 from pages import markdown
 from program.bench import TESTS
 
-SOURCES = TESTS.parent / "node/src/rbac-node"
+SERVER = TESTS.parent / "server"
+SOURCES = SERVER / "internal"
 PAGE = markdown.page("reference/front.md") + markdown.page("howto/callers.md")
 LISTS = markdown.page("reference/lists.md")
 
 
 def text_of(*names):
     return "".join((SOURCES / name).read_text(encoding="utf-8") for name in names)
+
+
+def all_sources():
+    """All sources of the server, without its libraries."""
+    return "".join(path.read_text(encoding="utf-8") for folder in ("cmd/rbac-node", "internal") for path in sorted((SERVER / folder).rglob("*.go")))
 
 
 def keys_of_functions():
@@ -40,9 +46,7 @@ def check_refusals(bench):
 
 def check_limits(bench):
     """The limits on the page are those of the sources."""
-    page, sources = markdown.in_one_line(PAGE + LISTS + markdown.page("howto/record.md")), "".join(
-        path.read_text(encoding="utf-8") for path in sorted(SOURCES.rglob("*.go"))
-    )
+    page, sources = markdown.in_one_line(PAGE + LISTS + markdown.page("howto/record.md")), all_sources()
     for source, text in [
         (
             "RequestTimeout, headTimeout = 10 * time.Second, 5 * time.Second",

@@ -20,7 +20,6 @@ from program.web import listening
 
 from .identities import CERTIFICATES, openssl, rules, secured, tls_words
 from .program import HOST, Front, Unix, refused_start, until
-from .running import features
 
 OK = '{"ok":true}'
 
@@ -146,41 +145,6 @@ def check_decisions(bench):
         ]:  # fmt: skip
             ask()
             bench.same(what, counted(), wanted)
-
-
-def check_without_libraries(bench):
-    """A program that is built by Go alone says what it can't do, and serves one machine."""
-    root = os.path.dirname(os.path.dirname(os.path.dirname(os.path.abspath(__file__))))
-    path = bench.path("bare")
-    environment = {**os.environ, "GO111MODULE": "off", "GOPATH": f"{root}/node", "CGO_ENABLED": "0", "GOFLAGS": ""}
-    subprocess.run(["go", "build", "-o", path, "rbac-node"], env=environment, check=True)
-    bench.write("callers", b"")
-    for words, says in [
-        (["serve", "--etcd", "http://127.0.0.1:1", "--listen", "127.0.0.1:0"], "built without etcd"),
-        (["serve", "--office", bench.path("office"), "--program", RBAC], "built without SQLite"),
-        (["record", "head", "--office", bench.path("office")], "built without SQLite"),
-        (["serve", "--office", bench.path("office"), "--no-record", "--session-age", "1h"], "built without SQLite"),
-        (["adopt", "x"], "built without etcd"),
-        (["callers", "--check", "--program", RBAC, "--callers", bench.path("callers"), "--oidc-keys", "k"], "built without JWTs"),
-    ]:
-        done = subprocess.run([path, *words], capture_output=True, text=True, check=False)
-        bench.same(f"{words[0]} {says}", (done.returncode, says in done.stderr), (1, True))
-    old = os.environ["RBAC_FRONT"]
-    os.environ["RBAC_FRONT"] = path
-    try:
-        with Front(bench, "--no-record") as front:
-            bench.same("a command", front.ask("addUser", {"user": "ann"}), (200, OK))
-            bench.same("a batch", front.ask("batch", '{"fn":"assignedRoles","user":"ann"}'), (200, '{"ok":true,"value":[]}\n'))
-            for path in ("/lists/users", "/snapshot", "/watch?after=1"):
-                bench.same(path, front.exchange("GET", path)[0], 404)
-            asked = '{"user":"ann","operation":"open","object":"safe"}'
-            for path in ("/v1/decideByUser", "/explain"):
-                bench.same(path, front.exchange("POST", path, asked)[0], 404)
-            bench.same("a condition", front.ask("addUser", {"user": "bob"}, If_Policy_Revision="1")[0], 400)
-        bench.same("no record was made", os.path.exists(bench.path("office.record")), False)
-    finally:
-        os.environ["RBAC_FRONT"] = old
-
 
 def check_first_start(bench):
     """Without --listen the front makes the office and a socket for its user and group alone, and says that it is open."""

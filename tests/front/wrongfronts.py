@@ -6,20 +6,17 @@ harm under kills: the tests of the package find it. A missing lock is found by a
 
 import os
 import re
-import subprocess
 
 import pytest
 
 from program.bench import PROGRAM as RBAC
-from program.bench import TESTS, Bench
+from program.bench import Bench
 
-from .building import RECORD
 from .program import Front, children, refused_start
 from .recordkills import Rounds
-from .running import PROGRAM, build, features
+from .running import PROGRAM, SERVER, TAGS, build, go
 
-ROOT = TESTS.parent
-SOURCES = ROOT / "node/src/rbac-node"
+SOURCES = SERVER / "internal"
 OK = '{"ok":true}'
 
 # How many rounds of kills a wrong front gets.
@@ -80,7 +77,6 @@ def check_places(bench):
     texts = [path.read_text(encoding="utf-8") for path in SOURCES.rglob("*.go") if path.parent.name != "faults"]
     for name in FAULTS:
         bench.same(f"{name} has a place", any(f"faults.Has(faults.{name})" in text for text in texts), True)
-    bench.same("bin/node builds it", "faults" in features(), False)
     with open(os.environ[PROGRAM], "rb") as file:
         bench.same("the program that is tried can have one", FAULT.encode() in file.read(), False)
 
@@ -91,14 +87,11 @@ def check_places(bench):
 def check_wrong_front(bench, name, monkeypatch):
     """A front with a fault is found."""
     monkeypatch.setenv(FAULT, FAULTS[name])
-    tags = ",".join([*features(), "faults"])
     if name == "ShortestBeginning":
-        environment = {**os.environ, "GO111MODULE": "off", "GOPATH": f"{ROOT}/node:/usr/share/gocode", "RBAC_PROGRAM": RBAC}
-        words = ["go", "test", "-count=1", f"-tags={tags}", "-run=TestBefore", RECORD]
-        done = subprocess.run(words, cwd=ROOT / "node", env=environment, capture_output=True, text=True, check=False)
-        bench.same("its tests fail", (done.returncode, "TestBefore" in done.stdout), (1, True))
+        said, status = go("go", "test", "-count=1", f"-tags={TAGS},faults", "-run=TestBefore", "./internal/record", RBAC_PROGRAM=RBAC)
+        bench.same("its tests fail", (status, "TestBefore" in said), (1, True))
         return
-    monkeypatch.setenv("NODE_FEATURES", tags)
+    monkeypatch.setenv("NODE_TAGS", "faults")
     monkeypatch.setenv(PROGRAM, build(bench.folder))
     found = is_found_by_late_replay(bench, "unlocked") if name == "Unlocked" else is_found_by_kills(bench.folder / "rounds")
     bench.same("it is found", found, True)

@@ -6,7 +6,7 @@ import pytest
 
 from . import running
 
-NEEDED = pytest.mark.needs("go", "gcc", "sqlite-go", "crypto-go", "jose-go", "buildah", "strip", "dpkg-buildpackage", "users of images")
+NEEDED = pytest.mark.needs("go", "gcc", "libraries of the server", "buildah", "strip", "dpkg-buildpackage", "users of images")
 
 
 def pytest_collection_modifyitems(items):

@@ -135,7 +135,7 @@ def check_page(bench):
         )
 
 
-# The user of the image, and what docs/reference/front.md makes for an application with a token over TLS.
+# The user of the image, and what docs/tutorial/secured-front.md makes for an application with a token over TLS.
 USER = 10001
 MADE = ["callers.jsonl", "tokens", "rbac.crt", "rbac.key"]
 
@@ -144,8 +144,8 @@ MADE = ["callers.jsonl", "tokens", "rbac.crt", "rbac.key"]
 def check_followed(bench):
     """What docs/howto/container.md installs is what the image reads, its user can read it, and nobody else but root."""
     page = (ROOT / "docs/howto/container.md").read_text(encoding="utf-8")
-    first = (ROOT / "docs/reference/front.md").read_text(encoding="utf-8").split("## 2. ")[0]
-    bench.same("docs/reference/front.md makes them", [name for name in MADE if f"`{name}`" not in page or name not in first], [])
+    first = (ROOT / "docs/tutorial/secured-front.md").read_text(encoding="utf-8")
+    bench.same("docs/tutorial/secured-front.md makes them", [name for name in MADE if f"`{name}`" not in page or name not in first], [])
     for folder in (bench.folder.parent, bench.folder):
         folder.chmod(0o755)
     for name in MADE:

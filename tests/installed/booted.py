@@ -14,7 +14,7 @@ from pages import markdown
 
 from .running import OLDER, made, older
 
-PAGE, FRONT = markdown.page("howto/operate.md"), markdown.page("reference/front.md")
+PAGE = markdown.page("howto/install.md") + markdown.page("howto/operate.md")
 
 # What all steps use. apt asks nothing, rebuilds no list of manual pages, and prints only if it fails.
 PREPARING = f"""
@@ -224,14 +224,14 @@ ls /etc/systemd/system/*.wants | grep -c '^rbac-'
 """
 
 
-def block_with(words, page=PAGE):
-    """The lines of the one block of commands of a page that contains a text. What apt prints is seen only if it fails."""
-    (found,) = [block for block in markdown.blocks(page, "sh") if words in "\n".join(block)]
+def block_with(words):
+    """The lines of the one block of commands of the pages that contains a text. What apt prints is seen only if it fails."""
+    (found,) = [block for block in markdown.blocks(PAGE, "sh") if words in "\n".join(block)]
     return [re.sub(r"^apt ", "quietly apt ", line) for line in found]
 
 
 def quoted(words):
-    """The one command between backquotes on the page that begins with some words, without what prints on the terminal."""
+    """The one command between backquotes on the pages that begins with some words, without what prints on the terminal."""
     (found,) = set(re.findall(rf"`({re.escape(words)}[^`]*)`", markdown.in_one_line(PAGE)))
     return re.sub(r"^apt ", "quietly apt ", found)
 
@@ -251,7 +251,7 @@ def steps():
         "office": [enabling, *block_with("addUser"), "echo", MADE],
         "files": [FILES],
         "second": [enabling.replace("office", "second"), SECOND],
-        "callers": [*block_with("office.callers", FRONT), CALLERS],
+        "callers": [*block_with("office.callers"), CALLERS],
         "alone": [alone, ALONE],
         "backups": [quoted("systemctl start rbac-backup@office"), BACKUPS],
         "restored": [*block_with("rbac-node restore"), RESTORED],

@@ -12,7 +12,7 @@ from . import running
 def pytest_collection_modifyitems(items):
     for item in items:
         if item.path.parent.name == "installed" and item.path.stem != "units":
-            item.add_marker(pytest.mark.needs("go", "sqlite-go", "crypto-go", "jose-go", "etcd-go"))
+            item.add_marker(pytest.mark.needs("go", "libraries of the server"))
             item.add_marker(NEEDED)
             item.add_marker(pytest.mark.xdist_group("release"))
 

@@ -28,10 +28,10 @@ def check_settings(bench):
 
 
 def check_page(bench):
-    """docs/howto/operate.md names the units, and where the units and the package have everything."""
-    page = markdown.in_one_line(markdown.page("howto/operate.md"))
+    """The pages about installing and operating name the units, and where the units and the package have everything."""
+    page = markdown.in_one_line(markdown.page("howto/install.md") + markdown.page("howto/operate.md"))
     for words in (*PLACES, "keeps the last 48", "8080"):
-        bench.same(f"the page names {words}", words in page, True)
+        bench.same(f"the pages name {words}", words in page, True)
     units = "".join(path.read_text(encoding="utf-8") for path in DEPLOY.glob("rbac-*@.*"))
     for words in (*(place.replace("NAME", "%i") for place in PLACES), "BACKUPS=48", "PORT=8080"):
         bench.same(f"the units name {words}", words in units, True)

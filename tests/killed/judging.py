@@ -1,7 +1,7 @@
 """What all checks of this folder have to have met together."""
 
 # The least number of replays that are killed, and of those that are killed before they have answered all of their lines.
-LEAST, LEAST_AMID = 500, 100
+LEAST, LEAST_AMID = 250, 50
 
 
 def judge_counts(counts):

@@ -163,10 +163,12 @@ def migrate_amid_kills(bench, path, state, moments):
 
 
 def offices():
-    """The offices of both ways: a few, and those that are tried with `--long` alone."""
+    """The offices of both ways: a few, as many for the gate, and those that are tried with `--long` alone."""
     for way, (most, _, _) in MORE_OFFICES.items():
         for number in range(most):
-            yield pytest.param(way, number, marks=[pytest.mark.long] if number >= OFFICES[way][0] else [])
+            few = OFFICES[way][0]
+            marks = [pytest.mark.long] if number >= few else [pytest.mark.gate] if number >= few // 2 else []
+            yield pytest.param(way, number, marks=marks)
 
 
 @pytest.mark.parametrize("way, number", offices())

@@ -87,7 +87,7 @@ threads = [threading.Thread(target=work) for _ in range(2)]
 for thread in threads:
     thread.start()
 faults = 0
-for _ in range(40):
+for _ in range(CHILDREN):
     child = os.fork()
     if child == 0:
         signal.alarm(20)
@@ -122,7 +122,8 @@ def check_python(bench):
 @pytest.mark.needs("python-headers")
 def check_forks(bench):
     """A process forks while other threads change the office, and each child has it whole."""
-    bench.same("children that failed", run_python(FORKS), ("0\n", "", 0))
+    children = 40 if bench.is_gate or bench.is_long else 15
+    bench.same("children that failed", run_python(FORKS.replace("CHILDREN", str(children))), ("0\n", "", 0))
 
 
 @pytest.mark.needs("go")

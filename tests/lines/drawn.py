@@ -105,10 +105,11 @@ def compare(script, faults):
 
 
 def scripts():
-    """The scripts: those of the limits, evenly spread ones, and random ones, each 20 of them one check."""
+    """The scripts: those of the limits, evenly spread ones, and random ones, each 20 of them one check, half of them for the gate."""
     yield from (pytest.param("limit", [name], id=f"limit {name}") for name in limits.SCRIPTS)
     yield from (pytest.param("even", [start], id=f"even {start}") for start in (1, 2, 3))
-    yield from (pytest.param("seed", range(first, first + EACH), id=f"seed {first}") for first in range(0, SEEDS, EACH))
+    for first in range(0, SEEDS, EACH):
+        yield pytest.param("seed", range(first, first + EACH), id=f"seed {first}", marks=[pytest.mark.gate] if first >= SEEDS // 2 else [])
 
 
 @pytest.mark.parametrize("sort, which", scripts())

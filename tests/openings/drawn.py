@@ -16,7 +16,7 @@ from machine.drawing import Draws
 from machine.replaying import Replay
 from machine.state import LIMITS, State, reach
 from machine.texts import rows
-from program.cases import shares
+from program.cases import cases
 from program.offices import Office, read_rows, same_rows
 
 from .files import expect_good, expect_migrated, expect_refused, judged, loose, read, statements_of, write
@@ -274,7 +274,7 @@ def try_file(bench, statements, seed):
     return f"{'loose' if is_loose else 'own'} tables: {word_of(answer)}"
 
 
-@pytest.mark.parametrize("first", shares(10_000, EACH, FILES, MORE_FILES))
+@pytest.mark.parametrize("first", cases(range(10_000, 10_375, EACH), range(10_000 + FILES, 10_000 + MORE_FILES, EACH), [10_375]))
 def check_files(bench, first):
     """Files from this seed on are opened and answered as the model does."""
     statements = statements_of(Office(bench, "new").path)

@@ -8,9 +8,9 @@ from . import markdown, sources
 ROOT = sources.ROOT
 PAGE = markdown.page("explanation/architecture.md")
 
-# The most bytes of a page that is read as a whole. These are longer: each is a reference.
-MOST_BYTES = 20 * 1024
-LONGER = {"api.md", "cluster.md", "contracts.md"}
+# The most bytes of all pages with the first one, and of a page that is read as a whole. These are longer: each is a reference.
+MOST_BYTES_OF_ALL, MOST_BYTES = 300 * 1024, 20 * 1024
+LONGER = {"api.md", "cluster.md"}
 
 # What a build leaves.
 OUT = "out"
@@ -28,8 +28,17 @@ def said_by(*command):
 
 
 def check_lists(bench):
-    """The lists of crates and files are those that bin/files makes of the first comments."""
+    """The table of crates is that of the first comments, and the list of files has each file of the crates that has a subject."""
     bench.same("bin/files --check", said_by("bin/files", "--check"), (0, ""))
+    status, said = said_by("bin/files", "--list")
+    listed = [line.partition(": ")[0] for line in said.splitlines()]
+    bench.same("it lists files that are there", (status, [path for path in listed if not (ROOT / path).is_file()]), (0, []))
+    there = {str(path.relative_to(ROOT)) for path in (ROOT / "crates").glob("*/src/**/*.rt") if path.name != "lib.rt"}
+    bench.same("sources that are not listed", sorted(there - set(listed)), [])
+    bench.same("each once, with what it has", (len(set(listed)), [line for line in said.splitlines() if line.endswith(": ")]), (len(listed), []))
+    one = said_by("bin/files", "--list", "role_order")[1].splitlines()
+    bench.same("those of one crate", one, [line for line in said.splitlines() if line.startswith("crates/role_order/")])
+    bench.same("no such crate", said_by("bin/files", "--list", "fish")[0], 2)
 
 
 def check_pictures(bench):
@@ -59,12 +68,15 @@ def check_folders(bench):
 
 
 def check_bytes(bench):
-    """No page is longer than one reads at a time, except those that are known to be."""
+    """No page is longer than one reads at a time, except those that are known to be, and all together aren't too long."""
+    total = (ROOT / "README.md").stat().st_size
     for path in sorted((ROOT / "docs").rglob("*.md")):
         size = path.stat().st_size
+        total += size
         bench.same(
             f"{path.name} has at most {MOST_BYTES:,} bytes, and not {size:,}", size <= MOST_BYTES or path.name in LONGER, True
         )
+    bench.same(f"all pages have at most {MOST_BYTES_OF_ALL:,} bytes, and not {total:,}", total <= MOST_BYTES_OF_ALL, True)
 
 
 def check_lines(bench):

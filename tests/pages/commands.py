@@ -6,19 +6,19 @@ import subprocess
 from . import markdown, sources
 
 ROOT = sources.ROOT
-PAGE = markdown.page("howto/extend.md")
+PAGE = markdown.section((ROOT / "CONTRIBUTING.md").read_text(encoding="utf-8"), "## How to add a command")
 
 # Files outside crates/ that are written by hand, and files in it: `bin/commands` finds both if they lack a command. The front's copy
 # of the office and the random lines have some commands by a part of their names.
 FOUND = ["crates/admin_mgr/specs/Verdict.antt", "crates/role_json/src/calls.rt", "docs/reference/api.md", "tests/machine/commands.py"]
-FOUND += ["node/src/rbac-node/state/apply.go", "tests/machine/drawing.py"]
+FOUND += ["server/internal/state/apply.go", "tests/machine/drawing.py"]
 
 # What writes each of these files.
 WRITTEN = {
     "docs/openapi.json": "bin/openapi",
     "clients/python/rbac_client/_functions.py": "bin/clients",
     "clients/javascript/types/functions.d.ts": "tsc -p clients/javascript",
-    "node/src/rbac-node/api/table.go": "bin/commands",
+    "server/internal/api/table.go": "bin/commands",
     "tests/office/requests/keys.rt.test": "bin/commands",
 }
 
@@ -50,7 +50,7 @@ def check_missing(bench):
 def check_page(bench):
     """Each file and each script that the page names exists."""
     paths = [path for path in re.findall(r"(?<![\w/.-])(?:bin|deploy|docs|tests|tools)/[\w./-]*\w", PAGE) if "NAME" not in path]
-    bench.same("paths of extend.md to nothing", [path for path in paths if not (ROOT / path).exists()], [])
-    lemmas = markdown.page("reference/lemmas.md")
+    bench.same("paths of CONTRIBUTING.md to nothing", [path for path in paths if not (ROOT / path).exists()], [])
+    listed = subprocess.run([ROOT / "bin/files", "--list"], capture_output=True, text=True, check=True).stdout
     named = re.findall(r"\b([A-Z]\w+(?:Laws|Plans|Turns)|Refusing|Commanded)\b", PAGE)
-    bench.same("lemma files that do not exist", [name for name in named if f"| {name} |" not in lemmas], [])
+    bench.same("lemma files that do not exist", [name for name in named if f"/{name}.antt: " not in listed], [])

@@ -14,8 +14,8 @@ PAGE = markdown.page("explanation/model.md")
 CRATES = sources.ROOT / "crates"
 
 # The pages that name refusals beside their codes.
-REFUSING = [f"explanation/{name}.md" for name in "model laws rules proofs architecture".split()]
-REFUSING += ["DECISIONS.md", "howto/extend.md", *(f"reference/{name}.md" for name in ("api", "contracts", "tables"))]
+REFUSING = [f"explanation/{name}.md" for name in "model rules proofs architecture".split()]
+REFUSING += ["DECISIONS.md", *(f"reference/{name}.md" for name in ("api", "contracts", "tables"))]
 
 # The tests that meet each limit of the commands.
 LIMITS = "office/commands/limits.rt.test"

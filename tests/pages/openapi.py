@@ -46,7 +46,7 @@ PYTHON = {"object": dict, "array": list, "string": str, "boolean": bool, "intege
 # What only the front answers: the refusals by the table of docs/reference/front.md and by its sources, and paths of no function.
 OF_FRONT = [row[:2] for table in markdown.tables(markdown.section(markdown.page("reference/front.md"), "## 5. What clients see"))
             for row in table if re.fullmatch(r"\d{3} [\w ]+", row[0])]  # fmt: skip
-SOURCE = sources.ROOT / "node/src/rbac-node/api/api.go"
+SOURCE = sources.ROOT / "server/internal/api/api.go"
 PATHS_OF_FRONT = {
     "/healthz": ["get"],
     "/metrics": ["get"],
@@ -245,7 +245,7 @@ def check_structure(bench):
 
 def check_reason(bench):
     """The field for the reason of a command has the name and the length that the front reads."""
-    source = (sources.ROOT / "node/src/rbac-node/front/signing.go").read_text(encoding="utf-8")
+    source = (sources.ROOT / "server/internal/front/signing.go").read_text(encoding="utf-8")
     reason = COMPONENTS["parameters"]["Reason"]
     bench.same("its name", f'reasonField   = "{reason["name"]}"' in source, True)
     bench.same("its length", f'longestReason = {reason["schema"]["maxLength"]}\n' in source, True)

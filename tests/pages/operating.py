@@ -17,7 +17,7 @@ from tools.running import lines_of_damage, numbers_shown
 from . import command_line, markdown, sources
 from .shell import Shell, runs
 
-PAGE = markdown.page("howto/operate.md")
+PAGE, INSTALLING = markdown.page("howto/operate.md"), markdown.page("howto/install.md")
 CHECKS = markdown.section(PAGE, "## 5. What `check` reports")
 
 # Each damage of the small office with the statements that make it.
@@ -51,7 +51,7 @@ def repairs():
     return statements(markdown.section(PAGE, "## 4. Restoring")), statements(CHECKS)
 
 
-def commands_for(language, part=PAGE):
+def commands_for(language, part=PAGE + INSTALLING):
     """The blocks of a language, each as one text."""
     return ["\n".join(block) for block in markdown.blocks(part, language)]
 
@@ -78,24 +78,25 @@ def check_length(bench):
 
 @pytest.mark.needs("fuser")
 def check_commands(bench):
-    """The commands of the page, from its top to its end, print what is shown below them."""
+    """The commands of the pages, from their top to its end, print what is shown below them."""
     office = small_office(bench, "office1")
     office.become_version_1()
     with reader_of(bench) as reader:
-        for block in markdown.blocks(PAGE, "console"):
+        for block in markdown.blocks(PAGE + INSTALLING, "console"):
             for command, shown in runs(block):
                 reader.shows(command, shown)
             reader.waits()
 
 
 def check_blocks(bench):
-    """Each block of the page is of a language that is run or compared, here or by tests/installed."""
-    bench.same("the languages", set(re.findall(r"^```(\w+)$", PAGE, re.M)), {"console", "sh", "sql"})
-    bench.same("blocks without a language", PAGE.count("```"), 2 * len(re.findall(r"^```\w+$", PAGE, re.M)))
+    """Each block of the pages is of a language that is run or compared, here or by tests/installed."""
+    text = PAGE + INSTALLING
+    bench.same("the languages", set(re.findall(r"^```(\w+)$", text, re.M)), {"console", "sh", "sql"})
+    bench.same("blocks without a language", text.count("```"), 2 * len(re.findall(r"^```\w+$", text, re.M)))
     here = ["--limit 1000\n", "rsync "]
     # By tests/installed.
     elsewhere = ["apt install ./rbac_*.deb ./rbac-node_*.deb\nsystemctl enable", "addUser", "rbac-node restore", "systemctl start rbac-backup@"]
-    elsewhere += ["systemctl disable --now rbac\n"]
+    elsewhere += ["systemctl disable --now rbac\n", "office.callers", "deploy/nginx/common.conf"]
     bench.same("blocks that are not run", len(commands_for("sh")), len({block_with(words) for words in here + elsewhere}))
 
 
@@ -216,7 +217,7 @@ def check_version_1(bench):
         ("CHANGELOG.md", "Only programs before it, which were never released, made offices of version 1."),
         ("docs/reference/api.md", "unless a program before 1.0.0 made it"),
         ("docs/explanation/model.md", "only programs before 1.0.0 made offices of version 1"),
-        ("docs/howto/operate.md", "Only programs before 1.0.0 made offices of version 1"),
+        ("docs/howto/install.md", "Only programs before 1.0.0 made offices of version 1"),
     ):
         text = (sources.ROOT / path).read_text(encoding="utf-8")
         bench.same(f"{path} states: {words}", words in markdown.in_one_line(text), True)
@@ -224,7 +225,7 @@ def check_version_1(bench):
 
 def check_groups(bench):
     """The table of groups names functions of the sources, and states how many the others are."""
-    table, _ = markdown.tables(markdown.page("howto/proxies.md"))
+    table, _ = markdown.tables(markdown.section(PAGE, "## 8. A proxy before the program alone"))
     said, questions, all_of_them = dict(table), sources.question_keys(), sources.functions().values()
     named = re.findall(r"`(\w+)`", said["applications"])
     bench.same("functions that do not exist", sorted(set(named) - set(all_of_them)), [])

@@ -5,8 +5,8 @@ import re
 from . import sources
 
 ROOT = sources.ROOT
-PAGES = ["docs/DECISIONS.md", "docs/howto/extend.md", "docs/reference/tables.md"]
-PAGES += [f"docs/explanation/{name}.md" for name in "architecture laws model proofs rules".split()]
+PAGES = ["CONTRIBUTING.md", "docs/DECISIONS.md", "docs/reference/tables.md"]
+PAGES += [f"docs/explanation/{name}.md" for name in "architecture model proofs rules trust".split()]
 PAGES += [f"{folder}/README.md" for folder in ("bench", "examples", "tests")]
 
 # The most words that a page may have.

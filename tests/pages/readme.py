@@ -13,17 +13,15 @@ PAGE = (ROOT / "README.md").read_text(encoding="utf-8")
 CONTRACTS, ARCHITECTURE = markdown.page("reference/contracts.md"), markdown.page("explanation/architecture.md")
 BENCHMARKS = (ROOT / "bench/README.md").read_text(encoding="utf-8")
 
-# The most bytes that the page may have, and the most lines of its first text.
-MOST_BYTES = 11_500
+# The most bytes and lines that the page may have, and the most lines of its first text.
+MOST_BYTES, MOST_LINES = 11_500, 120
 MOST_FIRST = 5
 
 # The pages that the first page has to lead to.
-PAGES = "CHANGELOG.md SECURITY.md " + " ".join(
-    f"docs/{name}.md"
-    for name in (
-        *("reference/front", "howto/callers", "howto/operate", "howto/container", "howto/console", "howto/audit", "howto/integrate"),
-        *("howto/embed", "reference/api", "reference/contracts", "howto/cluster"),
-    )
+PAGES = "CHANGELOG.md SECURITY.md docs/README.md docs/tutorial/secured-front.md " + " ".join(
+    [f"docs/howto/{name}.md" for name in ("install", "container", "integrate", "embed", "cluster")]
+    + [f"docs/explanation/{name}.md" for name in ("trust", "model", "rules")]
+    + [f"docs/reference/{name}.md" for name in ("api", "tables")]
 )
 
 # What the library of the toolchain consists of. A crate names such a part if its proofs do.
@@ -32,7 +30,7 @@ PARTS_OF_STD = {"core", "libc", "std_alloc"}
 # The pages of which each path and each link has to lead somewhere.
 LINKED = ["README.md", "CHANGELOG.md", "CONTRIBUTING.md", "SECURITY.md"]
 LINKED += [f"docs/{name}.md" for name in ("reference/api", "reference/contracts")]
-LINKED += [f"docs/howto/{name}.md" for name in ("audit", "integrate", "proxies", "operate")]
+LINKED += [f"docs/howto/{name}.md" for name in ("audit", "integrate", "install", "operate")]
 
 # The folders of the repository that pages name.
 FOLDERS = "bench bin clients crates deploy docs examples tests tools".split()
@@ -56,7 +54,7 @@ def crates():
 
 def check_length(bench):
     """The page is short, and first says in a few lines what it is for."""
-    bench.same("the page is short", len(PAGE.encode()) <= MOST_BYTES, True)
+    bench.same("the page is short", (len(PAGE.encode()) <= MOST_BYTES, len(PAGE.splitlines()) <= MOST_LINES), (True, True))
     title, first, _ = PAGE.split("\n\n", 2)
     bench.same("the title is one line", (title[:2], title.count("\n")), ("# ", 0))
     bench.same("the first text is short", len(first.splitlines()) <= MOST_FIRST, True)
@@ -66,6 +64,9 @@ def check_links(bench):
     """The page leads to each page that a reader wants first, and has the version of the sources."""
     links = re.findall(r"\]\(([^)#]+)", PAGE)
     bench.same("pages without a link", [page for page in PAGES.split() if page not in links], [])
+    index = [path.removesuffix("#") for path in re.findall(r"\]\(([^)#]+)", markdown.page("README.md"))]
+    there = {str(path.relative_to(markdown.DOCS)) for path in markdown.DOCS.rglob("*.md")} - {"README.md"}
+    bench.same("pages that the index of docs/ doesn't list", sorted(there - set(index)), [])
     bench.same("the version", re.findall(r"This is version ([\d.]+)", PAGE), [(ROOT / "VERSION").read_text(encoding="ascii").strip()])
     bench.same("no formula", re.findall("[λ∀∃≡×]", PAGE), [])
 
@@ -128,15 +129,11 @@ def cell(section, row, column, table=0):
 
 def figures():
     """The numbers of each row of the table of speed, as the benchmarks have them, in the units of the row."""
-    cases = markdown.tables(markdown.section(BENCHMARKS, "## access"))[1]
-    slowest = max((float(row[1]), row[0].strip("`")) for row in cases)
     synced = re.search(SYNCED, markdown.in_one_line(BENCHMARKS)).groups()
     front = {row[0].replace("`", ""): row for row in markdown.tables(markdown.section(BENCHMARKS, "## front"))[0]}
     yield [float(front[name][3].split()[0].replace(",", "")) for name in ("front, callers checked", "rbac serve")]
-    yield [cell("replay", "access", 4), cell("replay", "access", 5)]
     yield [cell("http", "checkAccess, allowed", 2), cell("http", "checkAccess, allowed", 3)]
     yield [cell("access", name, 1) / 1000 for name in DECIDING]
-    yield [slowest[0], cell("access", slowest[1], 3, 1)]
     yield [float(number.replace(",", "")) for number in synced]
     yield [cell("tables", "addInheritance, joining them", column) / 1000 for column in (3, 5)]
     yield [cell("tables", *at) / 1000 for at in (("connection", 3), ("open", 3), ("open", 5))]

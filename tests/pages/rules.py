@@ -1,4 +1,4 @@
-"""The rules and the laws of the pages about them: each with the places of its definition, its function and its tests.
+"""The rules and the laws of their page and of tests/places.txt: each with the places of its definition, its function and its tests.
 
 A place is a name, or `FILE: NAME` if several files have the name: FILE is the end of a path without its ending. The name of a test
 may be that of a file: a row of tests/rows, with the number of a line behind a colon, or a must-fail edit.
@@ -11,8 +11,8 @@ from dataclasses import dataclass
 
 from . import markdown, sources
 
-PAGE, LAWS = markdown.page("explanation/rules.md"), markdown.page("explanation/laws.md")
 ROOT = sources.ROOT
+PAGE = markdown.page("explanation/rules.md") + (ROOT / "tests/places.txt").read_text(encoding="utf-8")
 
 # The table of the laws, and what the column of definitions has for a rule that no definition is of.
 OF_LAWS, ONLY_TESTED = "Laws", "only tested"
@@ -204,18 +204,18 @@ def of_law(row):
 
 @functools.lru_cache(maxsize=None)
 def rules():
-    """All rules of the two pages."""
+    """All rules and laws of the page and of tests/places.txt."""
     found = []
     for part in re.split(r"^## ", PAGE, flags=re.M)[1:]:
         table, _, text = part.partition("\n")
         for row in [row for rows in markdown.tables(text) for row in rows]:
-            if table in BY_NAME:
+            if table == OF_LAWS:
+                found.append(rule_of(OF_LAWS, row[0].replace("`", ""), of_law(row)))
+            elif table in BY_NAME:
                 found += [rule_of(table, name, texts) for name, texts in of_function(table, row)]
             else:
                 cells = {"definition": quoted(row[1]), "function": quoted(row[2]), "test": quoted(row[3])}
                 found.append(rule_of(table, row[0], cells, is_tested=row[1] == ONLY_TESTED))
-    for row in [row for rows in markdown.tables(LAWS) for row in rows]:
-        found.append(rule_of(OF_LAWS, row[0].replace("`", ""), of_law(row)))
     return found
 
 

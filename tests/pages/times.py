@@ -5,7 +5,7 @@ import re
 from . import markdown, sources
 
 PAGES = ["README.md"]
-PAGES += ["docs/reference/api.md", *(f"docs/howto/{name}.md" for name in ("audit", "cluster", "integrate", "operate", "proxies"))]
+PAGES += ["docs/reference/api.md", *(f"docs/howto/{name}.md" for name in ("audit", "cluster", "integrate", "operate"))]
 
 # A time, or a rate.
 TIME = r"(?<![\w.,-])\d[\d,.]*(?: to \d[\d,.]*)? ?(?:microseconds|milliseconds|us|ms|seconds|s|minutes|hours)\b"
@@ -17,8 +17,7 @@ SETTINGS = {
     "docs/reference/api.md": ["5 seconds"],
     "docs/howto/cluster.md": ["10 seconds", "90 seconds", "10 s"],
     "docs/howto/integrate.md": ["3 seconds", "5 seconds", "10 seconds", "100 seconds"],
-    "docs/howto/proxies.md": ["30 seconds", "60 seconds"],
-    "docs/howto/operate.md": ["10 seconds", "60 seconds"],
+    "docs/howto/operate.md": ["10 seconds", "30 seconds", "60 seconds"],
 }
 
 # What a section has to name beside a time.

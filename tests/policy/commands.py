@@ -1,8 +1,12 @@
 """Runs the commands as their users do."""
 
+import io
 import os
 import subprocess
 import sys
+from contextlib import chdir
+from importlib import import_module
+from unittest.mock import patch
 
 from program.bench import SECONDS, TESTS, Done
 
@@ -19,14 +23,27 @@ def command(name, *words, folder=None, given=b"", seconds=SECONDS):
     return Done(done.stdout, done.stderr, done.returncode)
 
 
-def policy(bench, *words, given=b"", seconds=SECONDS):
+def command_here(name, *words, folder, given=b""):
+    """The same without a process of its own, whose start takes longer than most commands do."""
+    streams = {stream: io.TextIOWrapper(io.BytesIO(content)) for stream, content in (("stdin", given), ("stdout", b""), ("stderr", b""))}
+    start = import_module(f"rbac_policy.{name.removeprefix('rbac-')}_command").start
+    with chdir(folder), patch.multiple(sys, argv=[name, *map(str, words)], **streams):
+        try:
+            start()
+        except SystemExit as ended:
+            status = ended.code
+    out, err = (streams[stream].detach().getvalue() for stream in ("stdout", "stderr"))
+    return Done(out, err, status)
+
+
+def policy(bench, *words, given=b""):
     """Runs `rbac-policy` in the folder of a bench."""
-    return command("rbac-policy", *words, folder=bench.folder, given=given, seconds=seconds)
+    return command_here("rbac-policy", *words, folder=bench.folder, given=given)
 
 
-def people(bench, *words, given=b"", seconds=SECONDS):
+def people(bench, *words, given=b""):
     """Runs `rbac-people` in the folder of a bench."""
-    return command("rbac-people", *words, folder=bench.folder, given=given, seconds=seconds)
+    return command_here("rbac-people", *words, folder=bench.folder, given=given)
 
 
 def ends(bench, what, done, status, out=None, err=None):

@@ -11,7 +11,7 @@ from needs import lacking
 from program.bench import PROGRAM, TESTS
 
 # What a front with lists needs.
-OF_FRONT = ("go", "sqlite-go", "crypto-go", "gcc")
+OF_FRONT = ("go", "libraries of the server", "gcc")
 
 PACKAGE = TESTS.parent / "clients/python"
 sys.path.insert(0, str(PACKAGE))

@@ -15,18 +15,19 @@ from .commands import ends, people, policy
 from .conftest import OF_FRONT
 from .mistakes import GOOD
 from .pairs import draw_pair, make_office, rows_of
+from .persons import digest
 from .plans import CHANGED
 
 pytestmark = pytest.mark.needs(*OF_FRONT)
 
-# How many random pairs are tried over a front.
-PAIRS = 12
+# How many random pairs are tried over a front, and with --gate.
+PAIRS, PAIRS_OF_GATE = 6, 24
 
 
 @pytest.mark.seeds()
 def check_pairs(bench, seed):
     """Each of some plans turns the office of a front into another one; pull, plan and apply then find no difference."""
-    for number in range(PAIRS):
+    for number in range(PAIRS_OF_GATE if bench.is_gate or bench.is_long else PAIRS):
         drawn = random.Random(f"{seed} {number}")
         first, second = draw_pair(drawn, number)
         name = f"office {number}"
@@ -158,3 +159,7 @@ def check_people(bench):
         bench.same("the lines of refusals", done.err.decode().splitlines(), refused)
         pulled = policy(bench, "pull", "--users", *at).out.decode()
         bench.same("the users", pulled.count('= ["employee"]'), 251)
+        front.ask("createSession", {"user": "bob", "roles": ["teller"], "session": "bob 1"})
+        bench.write("people.csv", b"user,locked\nbob,yes\n")
+        wanted = f"Changes: 1 lockUserAccount\n  lock the user bob\nSessions that end:\n  {digest('bob 1')} of bob\n"
+        ends(bench, "the sessions that end", people(bench, "plan", "people.csv", *at), 1, wanted)

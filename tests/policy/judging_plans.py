@@ -35,8 +35,9 @@ def missing_sets(state, first, second):
         olds, news, now = (getattr(one, part) for one in (first, second, state))
         wanted = [(name, olds[name], news[name]) for name in olds.keys() & news.keys()]
         wanted += [(name, duty, duty) for name, duty in olds.items() if duty in news.values()]
+        there = set(now.values())
         for name, *demands in wanted:
-            if not any(as_strong(duty, demand) for duty in now.values() for demand in demands):
+            if there.isdisjoint(demands) and not any(as_strong(duty, demand) for duty in there for demand in demands):
                 missing.append(f"{part} {name}")
     return missing
 

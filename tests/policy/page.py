@@ -10,7 +10,7 @@ from pages import markdown
 from pages.shell import Shell, runs
 from program.bench import TESTS
 
-from .commands import command, ends
+from .commands import command_here, ends
 from .conftest import OF_FRONT
 
 PAGE = markdown.page("howto/policy.md")
@@ -27,13 +27,12 @@ def check_commands(bench):
             ("bin/rbac-policy", TESTS.parent / "bin/rbac-policy"),
             ("bin/rbac-people", TESTS.parent / "bin/rbac-people"),
             ("bin/rbac-node", os.environ[FRONT]),
-            ("examples", TESTS.parent / "examples"),
         ):
             (bench.folder / name).symlink_to(path)
-        for name, language in (("policy.toml", "toml"), ("model.conf", "ini")):
-            (text,) = markdown.blocks(PAGE, language)
+        texts = [*markdown.blocks(PAGE, "toml"), *markdown.blocks(PAGE, "ini")]
+        for name, text in zip(("policy.toml", "callers.toml", "model.conf"), texts, strict=True):
             bench.write(name, "".join(f"{line}\n" for line in text).encode())
-            bench.same(f"the page names {name}", f"as `{name}`" in PAGE, True)
+            bench.same(f"the page names {name}", f"as `{name}`" in markdown.in_one_line(PAGE), True)
         for line, shown in runs([line for block in markdown.blocks(PAGE, "console") for line in block]):
             reader.shows(line, shown)
 
@@ -47,10 +46,10 @@ def check_form(bench):
 @pytest.mark.parametrize("name", ["rbac-policy", "rbac-people"])
 def check_options(bench, name):
     """The page names each command and each option, and no other; so does the manual page."""
-    done = command(name, "--help")
+    done = command_here(name, "--help", folder=bench.folder)
     ends(bench, "the help", done, 0)
     found = set(re.findall(r"^    (\w+)  ", done.out.decode(), re.M))
-    texts = {one: command(name, one, "--help").out.decode() for one in found}
+    texts = {one: command_here(name, one, "--help", folder=bench.folder).out.decode() for one in found}
     options = {option for text in texts.values() for option in re.findall(r"(--[a-z-]+)", text)} - {"--help"}
     manual = markdown.page(f"{name}.1").replace("\\-", "-")
     bench.same("commands and options are found", (len(found) > 1, len(options) > 10), (True, True))

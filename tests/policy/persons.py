@@ -1,8 +1,16 @@
 """People from CSV: files as spreadsheets write them, each mistake with its line, and what becomes of those who have left."""
 
+import json
+import random
+import re
+
 import pytest
 
+from program.offices import read_rows
+
+from . import drawing
 from .commands import ends, people, policy
+from .pairs import make_office
 from .plans import good_office
 
 # Files that say the same.
@@ -99,3 +107,72 @@ def check_leavers(bench):
     ends(bench, "deleted", people(bench, *words, "--confirm", "11"), 0, "Done: 11 changes. Refused: 0.\n")
     pulled = policy(bench, "pull", "--users", "--file", "office").out.decode()
     bench.same("the users that are left", pulled.count('"user '), 89)
+
+
+def check_sessions(bench):
+    """A plan names the sessions that end by their digests alone, and after apply these have ended and no others have."""
+    good_office(bench)
+    names = {"ann": ["a1", "a2"], "bob": ["b1"], "cat": ["c1"], "dan": ["d1"]}
+    bench.write("people.csv", b"user,roles\nann,teller;employee\nbob,teller\ncat,teller\ndan,teller\n")
+    ends(bench, "all", people(bench, "apply", "people.csv", "--file", "office", "--yes"), 0)
+    lines = [create(user, name, "employee" if name == "a2" else "teller") for user, some in names.items() for name in some]
+    bench.run(["replay", "office"], b"".join(lines))
+    # ann keeps the session that doesn't need the role that she loses, and bob, who isn't in the file, is locked.
+    bench.write("people.csv", b"user,roles,locked\nann,employee,\ncat,teller,yes\ndan,teller;auditor,\n")
+    words = ["people.csv", "--file", "office", "--leavers", "lock"]
+    wanted = [f"  {digest} of {user}" for user, digest in sorted([("ann", digest("a1")), ("bob", digest("b1")), ("cat", digest("c1"))])]
+    for done in (people(bench, "plan", *words), people(bench, "apply", *words, "--confirm", "1", "--yes")):
+        shown = done.out.decode().partition("Sessions that end:\n")[2].splitlines()
+        bench.same("the sessions that end", [line for line in shown if line.startswith("  ")], wanted)
+        bench.same("dan's session is named", digest("d1") in done.out.decode(), False)
+        bench.same("a name is shown", any(name in done.out.decode().split() for some in names.values() for name in some), False)
+    bench.same("the sessions that are left", left_sessions(bench, "office"), {"a2", "d1"})
+    bench.write("people.csv", b"user,roles\nann,employee;nobody\n")
+    done = people(bench, "plan", "people.csv", "--file", "office")
+    ends(bench, "only a refusal", done, 1, "Changes: none\n", "people.csv:2: refused: assign the user ann to the role nobody: 4 NoRole")
+    bench.same("no session ends", "Sessions that end" in done.out.decode(), False)
+
+
+@pytest.mark.seeds()
+def check_random_sessions(bench, seed):
+    """For random offices and people the sessions that a plan names are those that apply ends."""
+    named = 0
+    for number in range(8):
+        drawn = random.Random(f"{seed} {number}")
+        state = drawing.draw_state(drawn, 250)
+        opened = [("createSession", user, frozenset([role]), f"{user} {role}") for user, role in sorted(state.assignments)]
+        state = drawing.tried(state, *opened)
+        office = f"office {number}"
+        make_office(bench, office, state)
+        users, roles = sorted(state.users), sorted(state.roles)
+        some = drawn.sample(users, len(users) // 2)
+        lines = [f"{user},{';'.join(drawn.sample(roles, min(len(roles), 2)))},{drawn.choice(['', 'yes'])}" for user in some]
+        bench.write("people.csv", "\n".join(["user,roles,locked", *lines]).encode())
+        words = ["people.csv", "--file", office, "--leavers", drawn.choice(["keep", "lock", "delete"])]
+        shown = people(bench, "plan", *words).out.decode()
+        before = left_sessions(bench, office)
+        done = people(bench, "apply", *words, "--yes")
+        if count := re.search(rb"Use --confirm (\d+)", done.err):
+            people(bench, "apply", *words, "--yes", "--confirm", count[1].decode())
+        ended = {digest(name) for name in before - left_sessions(bench, office)}
+        said = set(re.findall(r"^  ([0-9a-f]{32}) of ", shown, re.M))
+        bench.same(f"the sessions that end ({number})", said, ended)
+        named += len(said)
+    bench.same("some sessions end", named > 0, True)
+
+
+def create(user, name, role):
+    """The line that makes a session."""
+    return json.dumps({"fn": "createSession", "user": user, "roles": [role], "session": name}).encode() + b"\n"
+
+
+def digest(name):
+    """The digest of a session's name."""
+    from rbac_client import session_digest
+
+    return session_digest(name)
+
+
+def left_sessions(bench, office):
+    """The names of the sessions of an office in a file."""
+    return {name for kind, name, _ in read_rows(bench.path(office))["pair_row"] if kind == 7}

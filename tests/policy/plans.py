@@ -10,7 +10,7 @@ import pytest
 from machine.state import State
 
 from . import drawing, judging_plans
-from .commands import BIN, PYTHON, ends, policy
+from .commands import BIN, PYTHON, command, ends, people, policy
 from .mistakes import GOOD
 from .pairs import make_office, rows_of
 
@@ -53,6 +53,21 @@ Users who lose permissions:
     ends(bench, "apply", policy(bench, "apply", "changed.toml", "--file", "office", "--yes"), 0, "Done: 2 changes.\n")
     ends(bench, "plan afterwards", policy(bench, "plan", "changed.toml", "--file", "office"), 0, "No difference.\n")
     ends(bench, "apply again", policy(bench, "apply", "changed.toml", "--file", "office", "--yes"), 0, "No difference.\n")
+
+
+def check_processes(bench):
+    """As a process a command prints the same, and ends with the same status, as within the process of these checks."""
+    good_office(bench)
+    bench.write("people.csv", b"user,roles\nbob,teller\ncat,nobody\n")
+    for run, name, words, status in (
+        (policy, "rbac-policy", ["validate", "good.toml"], 0),
+        (policy, "rbac-policy", ["plan", "changed.toml", "--file", "office"], 1),
+        (policy, "rbac-policy", ["apply", "changed.toml", "--file", "office"], 2),
+        (policy, "rbac-policy", ["plan", "good.toml"], 2),
+        (people, "rbac-people", ["plan", "people.csv", "--file", "office"], 1),
+    ):
+        done = command(name, *words, folder=bench.folder)
+        bench.same(" ".join([name, *words]), (done, done.status), (run(bench, *words), status))
 
 
 def check_saved_plan(bench):

@@ -13,7 +13,7 @@ from . import driving
 def pytest_collection_modifyitems(items):
     for item in items:
         if item.path.parent.name == "replica":
-            item.add_marker(pytest.mark.needs("go", "gcc", "sqlite-go", "crypto-go"))
+            item.add_marker(pytest.mark.needs("go", "gcc", "libraries of the server"))
 
 
 @pytest.fixture(scope="session", autouse=True)

@@ -45,10 +45,13 @@ CHANGES = [
 ]
 RARER = [(errno.EIO, "ever"), (errno.ENOSPC, "once"), ("exit", "once")]
 
-# Each way of stopping a change, and each other call; the rarer ways with `--long` alone.
+FULL = (errno.ENOSPC, "ever")
+
+# Each way of stopping a change, and each other call; a disk that stays full with `--gate` and the rarer ways with `--long` alone.
 WAYS = cases(
-    [*(("changes", *one) for one in CHANGES if one not in RARER), ("others", errno.EIO, "once")],
+    [*(("changes", *one) for one in CHANGES if one not in (*RARER, FULL)), ("others", errno.EIO, "once")],
     [*(("changes", *one) for one in RARER), ("others", errno.EIO, "ever")],
+    [("changes", *FULL)],
 )
 
 

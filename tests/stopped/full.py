@@ -17,8 +17,8 @@ from .stories import REFUSED, judge_end, judge_office, lay, story_named
 
 STORIES = ["init", "replay", "replay of version 1", "import", "migrate"]
 
-# The bytes by which the limit of a file's size grows from run to run, and with `--long`; and the greatest limit.
-WIDE_STEP, STEP = 2_999, 499
+# The bytes by which the limit of a file's size grows from run to run, with `--gate`, and with `--long`; and the greatest limit.
+WIDEST_STEP, WIDE_STEP, STEP = 6_997, 2_999, 499
 MOST_BYTES = 2_000_000
 
 # How many pages of a file system may be free at most, and how many it has.
@@ -39,7 +39,8 @@ def check_limit_sizes(bench, name, is_ignored):
     """Runs a story under a limit of a file's size that grows from run to run, until it is done under it."""
     counts = Counter()
     content, story = story_named(bench, name, beside(bench, "records.csv"))
-    for size in range(0, MOST_BYTES, STEP if bench.is_long else WIDE_STEP):
+    step = STEP if bench.is_long else WIDE_STEP if bench.is_gate else WIDEST_STEP
+    for size in range(0, MOST_BYTES, step):
         path = lay(bench, content)
         done = run_program(bench, story.words(path), story.given, preexec_fn=partial(limit_files, size, is_ignored))
         undisturbed = done.status == 0 and os.listdir(bench.folder) == ["office"]

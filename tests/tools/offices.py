@@ -11,6 +11,7 @@ from machine.drawing import WEIGHTS, Draws
 from machine.replaying import Replay
 from machine.state import authorized_roles
 from machine.texts import json_text, rows
+from program.cases import shares
 from program.offices import Office, read_rows, same_rows
 
 from . import wanted
@@ -293,7 +294,7 @@ def try_office(bench, seed):
     return counts
 
 
-@pytest.mark.parametrize("first", range(0, OFFICES, EACH))
+@pytest.mark.parametrize("first", shares(0, EACH, OFFICES, OFFICES))
 def check_offices(bench, first):
     """Random offices, from this seed on."""
     counts = Counter()

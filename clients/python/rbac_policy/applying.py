@@ -42,21 +42,24 @@ def _mistakes(policy: Policy, plan: Plan, effects: Effects) -> Iterable[Mistake]
 
 
 def show(plan: Plan, effects: Effects, names_sessions: bool, is_whole: bool) -> None:
-    """Prints a plan. Sessions are shown by their digests: whoever knows a name can use the session."""
-
-    def session_text(name: str) -> str:
-        return session_digest(name) if names_sessions else name
-
-    _show("Changes:", map(sentence, plan.commands), is_whole)
-    _show("Users who gain permissions:", _permissions(effects.gained), is_whole)
-    _show("Users who lose permissions:", _permissions(effects.lost), is_whole)
-    _show("Permissions that users have before and after, but not all the time:", _permissions(effects.away), is_whole)
-    ended = sorted(effects.ended.items(), key=lambda one: (one[1], one[0]))
-    _show("Sessions that end:", (f"{session_text(name)} of {shown(user)}" for name, user in ended), is_whole)
-    _show("Sets that both have, and that are away for a moment (--gap allows it):", plan.gaps, is_whole)
+    """Prints a plan."""
+    show_lines("Changes:", map(sentence, plan.commands), is_whole)
+    show_lines("Users who gain permissions:", _permissions(effects.gained), is_whole)
+    show_lines("Users who lose permissions:", _permissions(effects.lost), is_whole)
+    show_lines("Permissions that users have before and after, but not all the time:", _permissions(effects.away), is_whole)
+    show_sessions(effects.ended, names_sessions, is_whole)
+    show_lines("Sets that both have, and that are away for a moment (--gap allows it):", plan.gaps, is_whole)
 
 
-def _show(title: str, lines: Iterable[str], is_whole: bool) -> None:
+def show_sessions(ended: dict[str, str], names_sessions: bool, is_whole: bool) -> None:
+    """Prints sessions that end, with their users, by their digests: whoever knows a name can use the session."""
+    texts = {name: session_digest(name) if names_sessions else name for name in ended}
+    some = sorted(ended.items(), key=lambda one: (one[1], texts[one[0]]))
+    show_lines("Sessions that end:", (f"{texts[name]} of {shown(user)}" for name, user in some), is_whole)
+
+
+def show_lines(title: str, lines: Iterable[str], is_whole: bool) -> None:
+    """Prints lines below a title, but not too many of them, and nothing if there are none."""
     found = list(lines)
     if not found:
         return

@@ -4,7 +4,7 @@ import json
 from collections.abc import Iterable
 from dataclasses import dataclass, field
 
-from .model import Command
+from .model import Command, State
 from .planning import Plan
 from .program import OK, Replay, memory_office
 
@@ -41,10 +41,7 @@ def effects_of(plan: Plan) -> Effects:
         between = _permissions(office, (user for user in samples if not found.get(user) and not wanted.get(user)))
         _do(office, plan.commands[plan.lowest :], effects)
         after = _permissions(office, (user for user in samples if wanted.get(user) is False))
-        questions = [{"fn": "sessionRoles", "session": session} for session in plan.found.sessions]
-        for (session, (user, _)), answer in zip(plan.found.sessions.items(), office.do(questions)):
-            if not answer.startswith(OK):
-                effects.ended[session] = user
+        effects.ended = ended_sessions(office, plan.found)
     nothing: frozenset[Permission] = frozenset()
     for sample, users in samples.items():
         had, kept, has = (answers.get(sample, nothing) for answers in (before, between, after))
@@ -52,6 +49,13 @@ def effects_of(plan: Plan) -> Effects:
             if changed:
                 kind.update((user, set(changed)) for user in users)
     return effects
+
+
+def ended_sessions(office: Replay, found: State) -> dict[str, str]:
+    """The sessions of a state that an office no longer has, with their users."""
+    questions = [{"fn": "sessionRoles", "session": session} for session in found.sessions]
+    answers = zip(found.sessions.items(), office.do(questions))
+    return {session: user for (session, (user, _)), answer in answers if not answer.startswith(OK)}
 
 
 def _samples(plan: Plan) -> dict[str, list[str]]:

@@ -2,7 +2,9 @@
 
 import base64
 import re
+from collections import Counter
 from collections.abc import Iterator
+from datetime import datetime, timezone
 from pathlib import Path
 
 from .imported import Imported
@@ -10,10 +12,20 @@ from .model import Stop, shown
 
 _GROUPS = ("groupofnames", "groupofuniquenames", "posixgroup")
 
-# What says that an account is locked. An empty value doesn't.
+# What names the members of an entry that is a group of another kind.
+_MEMBERS = ("member", "uniquemember", "memberuid", "memberurl", "roleoccupant")
+
+# What says that an account is locked. An empty value doesn't. A lock of the first kind is for ever if it has the second value.
 _LOCKS = ("pwdaccountlockedtime", "nsaccountlock")
+_FOR_EVER = "000001010000Z"
+
+# What a server keeps about entries beside what they are given: an export has all of it or nothing.
+_OF_SERVER = ("entryuuid", "nsuniqueid", "createtimestamp", *_LOCKS)
 
 Entry = dict[str, list[str]]
+
+# A distinguished name in one spelling: for each part, its keys and values.
+Name = tuple[tuple[tuple[str, str], ...], ...]
 
 
 def from_ldif(path: str) -> Imported:
@@ -21,24 +33,35 @@ def from_ldif(path: str) -> Imported:
     found = Imported()
     entries = list(_entries(path, found))
     by_dn = {_plain(entry["dn"][0]): entry for entry in entries}
-    roles: dict[str, str] = {}
-    users: dict[str, str] = {}
+    roles: dict[Name, str] = {}
+    users: dict[Name, str] = {}
     for dn, entry in by_dn.items():
-        classes = {name.lower() for name in entry.get("objectclass", [])}
-        if classes & {*_GROUPS}:
-            roles[dn] = _name(entry, "cn")
+        if {name.lower() for name in entry.get("objectclass", [])} & {*_GROUPS}:
+            roles[dn] = _name(dn, entry, "cn")
         elif "uid" in entry:
-            users[dn] = _name(entry, "uid")
-        elif "groupofurls" in classes or "dynamicgroup" in classes:
-            found.leave(f"the group {shown(entry['dn'][0])}", "its members are found by a search")
+            users[dn] = _name(dn, entry, "uid")
+        elif any(key in entry for key in _MEMBERS):
+            reason = (
+                "its members are found by a search"
+                if "memberurl" in entry
+                else "it is of another kind than those that are read"
+            )
+            found.leave(f"the group {shown(entry['dn'][0])}", reason)
     for sort, names in (("groups", roles), ("users", users)):
-        for name in names.values():
-            if list(names.values()).count(name) > 1:
-                raise Stop(f"{path}: several {sort} have the name {shown(name)}")
+        if several := [name for name, count in Counter(names.values()).items() if count > 1]:
+            raise Stop(f"{path}: several {sort} have the name {shown(several[0])}")
     found.roles |= set(roles.values())
     for dn, user in users.items():
-        found.users[user] = any(value and value.lower() != "false" for key in _LOCKS for value in by_dn[dn].get(key, []))
-    by_uid = {uid: user for dn, user in users.items() for uid in by_dn[dn]["uid"]}
+        found.users[user] = _is_locked(found, by_dn[dn], user)
+    if users and not any(key in entry for entry in entries for key in _OF_SERVER):
+        found.leave(
+            "locks of users",
+            "the file lacks what the server keeps: export it by slapcat, or have ldapsearch ask for '*' and '+'",
+        )
+    by_uid: dict[str, set[str]] = {}
+    for dn, user in users.items():
+        for uid in by_dn[dn]["uid"]:
+            by_uid.setdefault(uid, set()).add(user)
     for dn, role in roles.items():
         _read_members(found, by_dn[dn], role, roles, users, by_uid)
     _read_primary(found, by_dn, roles, users)
@@ -46,8 +69,27 @@ def from_ldif(path: str) -> Imported:
     return found
 
 
+def _is_locked(found: Imported, entry: Entry, user: str) -> bool:
+    """Whether a user can't log in now. What may change by itself is left."""
+    locks = [value for key in _LOCKS for value in entry.get(key, []) if value and value.lower() != "false"]
+    if locks:
+        if _FOR_EVER not in locks and "true" not in map(str.lower, locks):
+            found.leave(
+                f"whether {shown(user)} is still locked", f"the directory has locked it at {locks[0]}, perhaps for a time"
+            )
+        return True
+    now = datetime.now(timezone.utc).strftime("%Y%m%d%H%M%SZ")
+    starts, ends = entry.get("pwdstarttime", [""])[0], entry.get("pwdendtime", [""])[0]
+    for time, what in ((starts, "begins"), (ends, "ends")):
+        if time > now:
+            found.leave(f"that the account of {shown(user)} {what} at {time}", "an office knows no time")
+    if expires := entry.get("shadowexpire"):
+        found.leave(f"that the account of {shown(user)} ends at day {expires[0]} of POSIX", "an office knows no time")
+    return starts > now or "" < ends <= now
+
+
 def _read_members(
-    found: Imported, entry: Entry, role: str, roles: dict[str, str], users: dict[str, str], by_uid: dict[str, str]
+    found: Imported, entry: Entry, role: str, roles: dict[Name, str], users: dict[Name, str], by_uid: dict[str, set[str]]
 ) -> None:
     for key in ("member", "uniquemember"):
         for dn in entry.get(key, []):
@@ -60,12 +102,12 @@ def _read_members(
                 found.leave(f"the member {shown(dn)} of {shown(role)}", "the file has no user and no group with this name")
     for uid in entry.get("memberuid", []):
         if uid in by_uid:
-            found.assignments.add((by_uid[uid], role))
+            found.assignments |= {(user, role) for user in by_uid[uid]}
         else:
             found.leave(f"the member {shown(uid)} of {shown(role)}", "the file has no user with this uid")
 
 
-def _read_primary(found: Imported, by_dn: dict[str, Entry], roles: dict[str, str], users: dict[str, str]) -> None:
+def _read_primary(found: Imported, by_dn: dict[Name, Entry], roles: dict[Name, str], users: dict[Name, str]) -> None:
     """A user of POSIX is a member of the group whose number the user has."""
     numbers: dict[str, list[str]] = {}
     for dn, role in roles.items():
@@ -76,18 +118,39 @@ def _read_primary(found: Imported, by_dn: dict[str, Entry], roles: dict[str, str
             found.assignments |= {(user, role) for role in numbers.get(number, [])}
 
 
-def _name(entry: Entry, key: str) -> str:
+def _name(dn: Name, entry: Entry, key: str) -> str:
     """The name of an entry: its value at a key, of several the one in its distinguished name."""
     values = entry.get(key, [])
     if not values:
         raise Stop(f"the entry {shown(entry['dn'][0])} has no {key}")
-    first = re.match(rf"(?i)\s*{key}\s*=\s*((?:[^,+\\]|\\.)*)", entry["dn"][0])
-    return first[1].strip() if first and first[1].strip() in values else values[0]
+    first = dict(dn[0]).get(key)
+    return next((value for value in values if _folded(value) == first), values[0])
 
 
-def _plain(dn: str) -> str:
-    """A distinguished name without what makes no difference."""
-    return ",".join(re.sub(r"\s*=\s*", "=", part.strip()).lower() for part in re.split(r"(?<!\\),", dn))
+def _plain(dn: str) -> Name:
+    """A distinguished name without what makes no difference: case, spaces, escapes, and the order within a part."""
+    return tuple(tuple(sorted(map(_pair, _split(part, "+")))) for part in _split(dn, ",;"))
+
+
+def _split(text: str, signs: str) -> list[str]:
+    """The parts of a text between signs that aren't escaped."""
+    return re.findall(rf"(?:[^\\{signs}]|\\.)+", text)
+
+
+def _pair(text: str) -> tuple[str, str]:
+    """The key and the value of a part of a distinguished name."""
+    key, _, value = text.partition("=")
+    plain = re.sub(rb"\\([0-9A-Fa-f]{2}|.)", _unescaped, value.encode())
+    return key.strip().lower(), _folded(plain.decode(errors="surrogateescape"))
+
+
+def _unescaped(found: re.Match[bytes]) -> bytes:
+    return bytes.fromhex(found[1].decode()) if len(found[1]) == 2 else found[1]
+
+
+def _folded(value: str) -> str:
+    """A value without case and needless spaces."""
+    return " ".join(value.casefold().split())
 
 
 def _entries(path: str, found: Imported) -> Iterator[Entry]:
@@ -101,7 +164,7 @@ def _entries(path: str, found: Imported) -> Iterator[Entry]:
     unfolded = re.sub(r"\r?\n ", "", text)
     for block in re.split(r"(?:\r?\n){2,}", unfolded.strip("\r\n")):
         entry: Entry = {}
-        for line in block.splitlines():
+        for line in re.split(r"\r?\n", block):
             if not line or line.startswith("#") or line.lower().startswith("version:"):
                 continue
             parts = re.fullmatch(r"([A-Za-z0-9.-]+)(?:;[A-Za-z0-9;-]+)?:([:<]?) *(.*)", line)

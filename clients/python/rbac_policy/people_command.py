@@ -5,16 +5,17 @@ import json
 import sys
 from collections import Counter
 from collections.abc import Sequence
+from dataclasses import dataclass
 
-from .applying import agrees, is_needless, run as apply_to
+from .applying import agrees, is_needless, run as apply_to, show_lines, show_sessions
 from .arguments import add_target, run, target_of
+from .effects import ended_sessions
 from .meter import Meter
 from .model import Command, State, Stop, sentence, shown
 from .people import Changes, changes_of, needs_confirmation, read_people
 from .program import OK, memory_office
 from .target import Target, refusal_text
 
-_MOST_SHOWN = 40
 _STATUSES = """The status is 0 if all is done, or nothing differs; 1 if a plan has a difference, or a command was refused; 2 if nothing could
 be done. docs/howto/policy.md describes the file."""
 
@@ -27,14 +28,12 @@ def main(words: Sequence[str]) -> int:
         print(f"{arguments.people}:{line}: {text}", file=sys.stderr)
     if people.mistakes:
         raise Stop("the file has mistakes: nothing was done")
-    target, _ = target_of(arguments)
+    target, names_sessions = target_of(arguments)
     try:
         found = target.read()
         changes = changes_of(found, people.people, arguments.leavers)
-        refusals = _tried(found, changes)
-        return (
-            _apply(arguments, target, found, changes, refusals) if arguments.is_apply else _plan(arguments, changes, refusals)
-        )
+        plan = _tried(arguments, found, changes, names_sessions)
+        return _apply(plan, target, found) if arguments.is_apply else _show_plan(plan)
     finally:
         target.close()
 
@@ -60,35 +59,51 @@ def _parser() -> argparse.ArgumentParser:
     return parser
 
 
-def _tried(found: State, changes: Changes) -> dict[int, dict[str, object]]:
-    """The refusals of the commands, by their places: the program does them over a copy of the office in memory."""
+@dataclass(frozen=True)
+class Plan:
+    """What would be done: the refusals of its commands, by their places, and the sessions that end, with their users."""
+
+    arguments: argparse.Namespace
+    changes: Changes
+    refusals: dict[int, dict[str, object]]
+    ended: dict[str, str]
+    names_sessions: bool
+
+
+def _tried(arguments: argparse.Namespace, found: State, changes: Changes, names_sessions: bool) -> Plan:
+    """A plan, which the program has done over a copy of the office in memory."""
     with memory_office(found) as office:
         answers = office.do(changes.commands)
-    return {place: json.loads(answer) for place, answer in enumerate(answers) if not answer.startswith(OK)}
+        ended = ended_sessions(office, found)
+    refusals = {place: json.loads(answer) for place, answer in enumerate(answers) if not answer.startswith(OK)}
+    return Plan(arguments, changes, refusals, ended, names_sessions)
 
 
-def _plan(arguments: argparse.Namespace, changes: Changes, refusals: dict[int, dict[str, object]]) -> int:
-    """Shows what would be done."""
-    _show(arguments, changes, refusals)
-    for place, refusal in refusals.items():
-        _print_refusal(arguments.people, changes, place, refusal)
-    if arguments.leavers == "keep" and changes.absent:
-        print(f"Users who are not in the file, and stay: {len(changes.absent):,}")
-    return 1 if changes.commands else 0
+def _show_plan(plan: Plan) -> int:
+    """Shows what would be done, and returns the exit status."""
+    _show(plan)
+    _print_refusals(plan)
+    if plan.arguments.leavers == "keep" and plan.changes.absent:
+        print(f"Users who are not in the file, and stay: {len(plan.changes.absent):,}")
+    return 1 if plan.changes.commands else 0
 
 
-def _show(arguments: argparse.Namespace, changes: Changes, refusals: dict[int, dict[str, object]]) -> None:
-    if not changes.commands:
+def _show(plan: Plan) -> None:
+    accepted = [command for place, command in enumerate(plan.changes.commands) if place not in plan.refusals]
+    if not plan.changes.commands:
         print("No difference.")
         return
-    kinds = Counter(command["fn"] for place, command in enumerate(changes.commands) if place not in refusals)
-    print("Changes:", ", ".join(f"{count:,} {function}" for function, count in sorted(kinds.items())) or "none")
-    accepted = [sentence(command) for place, command in enumerate(changes.commands) if place not in refusals]
-    most = len(accepted) if arguments.all else _MOST_SHOWN
-    for text in accepted[:most]:
-        print(f"  {text}")
-    if len(accepted) > most:
-        print(f"  and {len(accepted) - most:,} more (--all shows them)")
+    kinds = Counter(command["fn"] for command in accepted)
+    counts = ", ".join(f"{count:,} {function}" for function, count in sorted(kinds.items()))
+    show_lines(f"Changes: {counts}", map(sentence, accepted), plan.arguments.all)
+    if not accepted:
+        print("Changes: none")
+    show_sessions(plan.ended, plan.names_sessions, plan.arguments.all)
+
+
+def _print_refusals(plan: Plan) -> None:
+    for place, refusal in plan.refusals.items():
+        _print_refusal(plan.arguments.people, plan.changes, place, refusal)
 
 
 def _print_refusal(path: str, changes: Changes, place: int, refusal: dict[str, object]) -> None:
@@ -96,10 +111,9 @@ def _print_refusal(path: str, changes: Changes, place: int, refusal: dict[str, o
     print(f"{path}{line}: refused: {refusal_text(changes.commands[place], refusal)}", file=sys.stderr)
 
 
-def _apply(
-    arguments: argparse.Namespace, target: Target, found: State, changes: Changes, refusals: dict[int, dict[str, object]]
-) -> int:
+def _apply(plan: Plan, target: Target, found: State) -> int:
     """Does what is accepted, and says what isn't."""
+    arguments, changes = plan.arguments, plan.changes
     count = needs_confirmation(found, changes)
     if count and arguments.confirm != count:
         verb = {"lock": "locked", "delete": "deleted"}[arguments.leavers]
@@ -107,12 +121,11 @@ def _apply(
         raise Stop(
             f"{count:,} of {len(found.users):,} users would be {verb} ({some}, ..): nothing was done. Use --confirm {count}"
         )
-    _show(arguments, changes, refusals)
+    _show(plan)
     if not changes.commands:
         return 0
     if not arguments.yes:
-        for place, refusal in refusals.items():
-            _print_refusal(arguments.people, changes, place, refusal)
+        _print_refusals(plan)
         if not agrees():
             print("Nothing was done.")
             return 1

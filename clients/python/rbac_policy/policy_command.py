@@ -17,7 +17,7 @@ from .model import Stop
 from .reading import Policy, read_policy
 from .testing import run_tests
 from .validating import validate
-from .writing import write_policy
+from .writing import write_callers, write_policy
 
 _STATUSES = """The status is 0 if all is done, valid or passed, or if nothing differs; 1 if there are mistakes, a test failed, a plan
 has a difference, or a command was refused; 2 if nothing could be done. docs/howto/policy.md describes the files."""
@@ -190,7 +190,7 @@ def _callers(arguments: argparse.Namespace) -> int:
     elif len(arguments.policy) > 1:
         raise Stop("--back reads one file")
     else:
-        sys.stdout.write(write_policy(read_callers(arguments.policy[0]), is_of_callers=True))
+        sys.stdout.write(write_callers(read_callers(arguments.policy[0])))
     return 0
 
 

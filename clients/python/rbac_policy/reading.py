@@ -6,6 +6,7 @@ from dataclasses import dataclass, field, replace
 from pathlib import Path as File
 from typing import Any
 
+from .groups import members
 from .mistakes import Lines, Mistake, Path, name_fault
 from .model import SET_FUNCTIONS, Command, DutySet, State, shown
 
@@ -204,8 +205,20 @@ def _permissions(policy: Policy, path: Path, value: Any) -> Iterator[tuple[tuple
     if _is(policy, path, value, dict, 'a table of objects, such as { vault = ["open"] }'):
         for ob, operations in value.items():
             if _is_name(policy, (*path, ob), ob):
-                for op, at in _names(policy, (*path, ob), operations):
+                for op, at in _operations(policy, (*path, ob), operations):
                     yield (ob, op), at
+
+
+def _operations(policy: Policy, path: Path, value: Any) -> Iterator[tuple[str, Path]]:
+    """The operations of a list. In that of callers a group of functions means all of them: none of these is beside it."""
+    found: dict[str, str] = {}
+    for name, at in _names(policy, path, value):
+        for op in members(name) if policy.is_of_callers else [name]:
+            if op in found:
+                policy.note(at, f"{shown(op)} is one of {shown(found[op] if name == op else name)}, which this list has")
+                break
+            found[op] = name
+            yield op, at
 
 
 def _set(policy: Policy, sort: str, name: str, value: Any) -> None:

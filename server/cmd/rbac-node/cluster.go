@@ -1,0 +1,245 @@
+package main
+
+import (
+	"context"
+	"errors"
+	"fmt"
+	"net/http"
+	"net/url"
+	"os"
+	"path/filepath"
+	"strings"
+	"syscall"
+	"time"
+
+	"go.etcd.io/etcd/clientv3"
+	"go.etcd.io/etcd/etcdserver/etcdserverpb"
+	"go.uber.org/zap"
+	"google.golang.org/grpc"
+
+	"rbac-node/internal/front"
+	"rbac-node/internal/ledger"
+	"rbac-node/internal/logs"
+	"rbac-node/internal/metrics"
+	"rbac-node/internal/node"
+	"rbac-node/internal/office"
+	"rbac-node/internal/single"
+	"rbac-node/internal/web"
+)
+
+const (
+	// snapshotTimeout is how long a snapshot may take to be sent to another node.
+	snapshotTimeout = 5 * time.Minute
+	// peerConnections is how many connections of other nodes and of monitoring there may be at once.
+	peerConnections = 128
+)
+
+// connect returns a client of etcd.
+func (s *clusterSettings) connect() (*clientv3.Client, error) {
+	quiet := zap.NewProductionConfig()
+	quiet.Level = zap.NewAtomicLevelAt(zap.ErrorLevel)
+	config := clientv3.Config{
+		Endpoints: strings.Split(s.etcd, ","), DialTimeout: 5 * time.Second, LogConfig: &quiet, Username: s.user,
+		DialKeepAliveTime: 10 * time.Second, DialKeepAliveTimeout: 3 * time.Second,
+		DialOptions: []grpc.DialOption{grpc.WithReturnConnectionError()},
+	}
+	var err error
+	if config.TLS, err = s.etcdTLS.Client(hostsOf(config.Endpoints)...); err != nil {
+		return nil, err
+	}
+	if s.passwordFile != "" {
+		if config.Password, err = passwordIn(s.passwordFile); err != nil {
+			return nil, err
+		}
+		config.DialOptions = append(config.DialOptions, grpc.WithChainUnaryInterceptor(withPasswordIn(s.passwordFile)))
+	}
+	return clientv3.New(config)
+}
+
+func passwordIn(file string) (string, error) {
+	password, err := os.ReadFile(file)
+	if err != nil {
+		return "", fmt.Errorf("password: %w", err)
+	}
+	return strings.TrimSpace(string(password)), nil
+}
+
+// withPasswordIn makes a client of etcd ask for each token with the password that a file has then.
+func withPasswordIn(file string) grpc.UnaryClientInterceptor {
+	return func(
+		ctx context.Context, method string, request, reply any, conn *grpc.ClientConn, invoke grpc.UnaryInvoker, options ...grpc.CallOption,
+	) error {
+		if asked, is := request.(*etcdserverpb.AuthenticateRequest); is {
+			password, err := passwordIn(file)
+			if err != nil {
+				return err
+			}
+			request = &etcdserverpb.AuthenticateRequest{Name: asked.Name, Password: password}
+		}
+		return invoke(ctx, method, request, reply, conn, options...)
+	}
+}
+
+// hostsOf returns the names and addresses in URLs.
+func hostsOf(urls []string) (hosts []string) {
+	for _, one := range urls {
+		if at, err := url.Parse(one); err == nil {
+			hosts = append(hosts, at.Hostname())
+		}
+	}
+	return hosts
+}
+
+// isChosen reports whether the command line names members of etcd.
+func (s *clusterSettings) isChosen() bool { return s.etcd != "" }
+
+// adopt makes the office of a file the beginning of a new cluster.
+func (s *clusterSettings) adopt(common *settings, from string) error {
+	shared, _, closeAll, err := s.open(common)
+	if err != nil {
+		return err
+	}
+	defer closeAll()
+	return untilSignal(func(ctx context.Context) error { return s.adoptInto(ctx, shared, from) })
+}
+
+func (s *clusterSettings) adoptInto(ctx context.Context, shared *ledger.Ledger, from string) error {
+	store, err := office.Open(s.Data, s.Program)
+	if err != nil {
+		return err
+	}
+	head, undo := "", func() {}
+	if about, err := os.Stat(from); err == nil && about.IsDir() {
+		if from, head, undo, err = s.common.carryRecord(ctx, from, s.Data); err != nil {
+			return err
+		}
+	}
+	defer func() { undo() }()
+	file, err := store.Begin(from)
+	if err != nil {
+		return err
+	}
+	defer os.Remove(file)
+	// From the moment when etcd knows of it, nodes wait for the snapshot.
+	if err := office.Run(ctx, s.Program, "check", file); err != nil {
+		return err
+	}
+	revision, err := shared.Adopt(ctx)
+	if err != nil {
+		return err
+	}
+	undo = func() {} // From now on nodes need it.
+	snapshot, err := store.Finish(ctx, file, office.Snapshot{Revision: revision, Record: head})
+	if err != nil {
+		return err
+	}
+	fmt.Printf("snapshot %d has the digest %s\n", snapshot.Revision, snapshot.Digest)
+	return nil
+}
+
+// open checks the settings, and opens the log in etcd.
+func (s *clusterSettings) open(common *settings) (*ledger.Ledger, *logs.Logger, func(), error) {
+	s.common, s.Program, s.AnswerTimeout, s.HangTimeout = common, common.program, common.answerTimeout, common.hangTimeout
+	s.Reads = single.MostReads
+	if err := s.check(); err != nil {
+		return nil, nil, nil, err
+	}
+	client, err := s.connect()
+	if err != nil {
+		return nil, nil, nil, fmt.Errorf("etcd: %w", err)
+	}
+	events := logs.New(os.Stderr, "node", s.Name)
+	return ledger.New(client, s.prefix, events), events, func() { _ = client.Close() }, nil
+}
+
+// lockFolder makes a folder, and locks it until the file is closed.
+func lockFolder(folder string) (*os.File, error) {
+	if err := os.MkdirAll(folder, 0o700); err != nil {
+		return nil, err
+	}
+	lock, err := os.OpenFile(filepath.Join(folder, "lock"), os.O_RDWR|os.O_CREATE, 0o600)
+	if err != nil {
+		return nil, err
+	}
+	if err := syscall.Flock(int(lock.Fd()), syscall.LOCK_EX|syscall.LOCK_NB); err != nil {
+		lock.Close()
+		return nil, fmt.Errorf("lock of the folder, which no other node may use: %w", err)
+	}
+	return lock, nil
+}
+
+// serve runs a node until a signal comes or something fails.
+func (s *clusterSettings) serve(common *settings) error {
+	shared, events, closeAll, err := s.open(common)
+	if err != nil {
+		return err
+	}
+	defer closeAll()
+	// Until here a signal ends the process at once, even while etcd does not answer.
+	return untilSignal(func(ctx context.Context) error { return s.serveNode(ctx, shared, events) })
+}
+
+// serveNode serves clients and other nodes.
+func (s *clusterSettings) serveNode(ctx context.Context, shared *ledger.Ledger, events *logs.Logger) error {
+	lock, err := lockFolder(s.Data)
+	if err != nil {
+		return err
+	}
+	defer lock.Close()
+	if _, err := s.peerTLS.Client(); err != nil {
+		return fmt.Errorf("other nodes: %w", err)
+	}
+	s.Fetch = &http.Client{Timeout: snapshotTimeout, Transport: &http.Transport{DialTLSContext: s.peerTLS.Dial}}
+	addresses, err := s.common.listenOr("127.0.0.1:8080")
+	if err != nil {
+		return err
+	}
+	if s.common.refused == "" {
+		s.common.refused = filepath.Join(s.Data, "refused")
+	}
+	registry := &metrics.Registry{}
+	registry.AddProcess(version, sources, proved)
+	f, err := front.New(ctx, s.common.frontOptions(addresses, events, registry))
+	if err != nil {
+		return err
+	}
+	defer f.Close()
+	s.IsOpen, s.SessionAge = s.common.callers.Callers == "", s.common.sessionAge
+	if !s.common.record.isOff {
+		s.Record = s.common.followRecord(s.Data, s.Options.File(), s.partEntries, events, registry)
+	}
+	n, err := node.New(s.Options, shared, events, registry)
+	if err != nil {
+		return err
+	}
+	if err := f.Listen(); err != nil {
+		return err
+	}
+	events.Info("started", "peer", s.peer)
+	return s.answer(ctx, f, n, events, registry)
+}
+
+// answer answers clients and other nodes until the context ends or something fails.
+func (s *clusterSettings) answer(ctx context.Context, f *front.Front, n *node.Node, events *logs.Logger, all *metrics.Registry) error {
+	listener, err := web.Listen(s.peer, s.peerTLS)
+	if err != nil {
+		return err
+	}
+	failed := make(chan error, 1)
+	peers := web.Serve(reportingTo(failed), listener, peerHandler(n, all),
+		web.Limits{Connections: peerConnections, AnswerTimeout: snapshotTimeout})
+	err = answer(ctx, f, n, failed, events, func(within context.Context) { web.Shutdown(within, peers) })
+	if ctx.Err() != nil && errors.Is(err, context.Canceled) {
+		return nil // The signal came while the node was recovering.
+	}
+	return err
+}
+
+// peerHandler serves other nodes and monitoring.
+func peerHandler(n *node.Node, registry *metrics.Registry) http.Handler {
+	mux := http.NewServeMux()
+	mux.Handle("/snapshot", n.Snapshots())
+	mux.HandleFunc("/healthz", n.ServeHealth)
+	mux.Handle("/metrics", registry)
+	return mux
+}

@@ -1,0 +1,70 @@
+package main
+
+import (
+	"context"
+	"errors"
+	"os"
+
+	"rbac-node/internal/front"
+	"rbac-node/internal/logs"
+	"rbac-node/internal/metrics"
+	"rbac-node/internal/single"
+)
+
+var errNotLocal = errors.New("an address that other machines can reach needs --tls-cert and --callers")
+
+// serveOne serves the office of a file until the context ends or something fails.
+func (s *settings) serveOne(ctx context.Context) error {
+	addresses, err := s.listenOr(socketOf(s.office))
+	if err != nil {
+		return err
+	}
+	for _, address := range addresses {
+		if !address.IsLocal() && (s.tls.Cert == "" || s.callers.Callers == "") {
+			return errNotLocal
+		}
+	}
+	if err := single.CheckFile(ctx, s.program, s.office); err != nil {
+		return err
+	}
+	if s.refused == "" {
+		s.refused = s.office + ".refused"
+	}
+	log, registry := logs.New(os.Stderr), &metrics.Registry{}
+	registry.AddProcess(version, sources, proved)
+	options := s.frontOptions(addresses, log, registry)
+	options.IsHostChecked, options.HasMetrics = true, true
+	f, err := front.New(ctx, options)
+	if err != nil {
+		return err
+	}
+	defer f.Close()
+	one := single.Options{
+		File: s.office, Program: s.program, AnswerTimeout: s.answerTimeout, HangTimeout: s.hangTimeout, Reads: single.MostReads,
+		Log: log, Figures: options.Callers.Figures, IsOpen: options.IsOpen(),
+		SessionAge: s.sessionAge, SessionIdle: s.sessionIdle,
+	}
+	failed := make(chan error, 1)
+	one.Say = f.Say
+	one.Locked = func() error {
+		if err := f.Listen(); err != nil {
+			return err
+		}
+		f.Begin(reportingTo(failed))
+		return nil
+	}
+	if err := s.addRecord(&one, registry); err != nil {
+		return err
+	}
+	office, err := single.Open(ctx, one)
+	if err != nil {
+		return err
+	}
+	registry.Gauge("rbac_node_ready", "1 if the office answers.", func() float64 {
+		if office.IsReady() {
+			return 1
+		}
+		return 0
+	})
+	return answer(ctx, f, office, failed, log, func(context.Context) {})
+}

@@ -1,0 +1,236 @@
+package main
+
+import (
+	"context"
+	"errors"
+	"flag"
+	"fmt"
+	"os"
+	"strings"
+	"time"
+
+	"rbac-node/internal/logs"
+	"rbac-node/internal/record"
+	"rbac-node/internal/recorded"
+)
+
+// missingStatus is the status of verify if all that is here is good, but entries are missing.
+const missingStatus = 2
+
+// toolHangTimeout is how long a replay of the record may answer nothing in a command other than serve.
+const toolHangTimeout = 10 * time.Minute
+
+// recordCommand is what a command about a record needs.
+type recordCommand struct {
+	record.Tool
+	head, heads, signers string
+	by, reason           string
+	filter               record.Filter
+	access               record.AccessQuery
+	format               record.Format
+	export               record.Export
+}
+
+// ofRecords are those that work with a record here.
+var ofRecords = []struct{ name, arguments, summary string }{
+	{"record verify", "--office FILE", "verifies a record, and the office by it"},
+	{"record show", "--office FILE", "prints entries of a record"},
+	{"record access", "--office FILE --at TIME", "prints who had access at a time"},
+	{"record export", "--office FILE --syslog RECEIVER", "sends the entries of a record to syslog"},
+	{"record head", "--office FILE", "prints the number and the link of the last entry"},
+	{"record cut", "--office FILE", "closes the file of a record, and begins another one"},
+	{"record adopt", "--office FILE --by WHO --reason WHY", "begins a record over an office that was written behind it, or never had one"},
+	{"backup", "--office FILE FOLDER", "copies an office and its record into a new folder of a folder"},
+}
+
+// recordCommands returns the commands about records and backups.
+func recordCommands() (all []command) {
+	for _, one := range ofRecords {
+		name := strings.TrimPrefix(one.name, "record ")
+		all = append(all, command{one.name, one.arguments, one.summary, func(flags *flag.FlagSet) func([]string) error {
+			return prepareRecord(flags, name)
+		}})
+	}
+	return append(all,
+		command{"record sign", "--url URL --key FILE --heads FILE", "signs the head of a record that a front on another machine keeps", prepareSign},
+		command{"restore", "--office FILE --by WHO --reason WHY BACKUP", "puts a backup in place of an office and its record", prepareRestore})
+}
+
+// prepareRecord defines the flags of a command about a record, and returns what does it.
+func prepareRecord(flags *flag.FlagSet, name string) func([]string) error {
+	c := &recordCommand{format: record.Text, Tool: record.Tool{HangTimeout: toolHangTimeout, Out: os.Stdout, Err: os.Stderr, Log: logs.New(os.Stderr)}}
+	c.define(flags, name)
+	count := 0
+	if name == "backup" {
+		count = 1
+	}
+	return withArguments(count, func(arguments []string) error {
+		given := 0
+		for _, path := range []string{c.Office, c.Data, c.Part} {
+			if path != "" {
+				given++
+			}
+		}
+		if given != 1 {
+			return fmt.Errorf("give one of --office, --data and --part: %w", errUsage)
+		}
+		return untilSignal(func(ctx context.Context) error {
+			if name == "backup" {
+				return c.Backup(ctx, arguments[0])
+			}
+			return c.do(ctx, name)
+		})
+	})
+}
+
+// define defines the flags of a command.
+func (c *recordCommand) define(flags *flag.FlagSet, name string) {
+	flags.StringVar(&c.Office, "office", "", "`file` of the office")
+	switch name {
+	case "verify", "show", "access", "export", "head", "cut", "backup":
+		flags.StringVar(&c.Data, "data", "", "`folder` of a node of several machines, in place of --office")
+	}
+	switch name {
+	case "verify", "show", "access", "export", "head":
+		flags.StringVar(&c.Part, "part", "", "`file` of an earlier part alone, in place of --office")
+	}
+	if name != "show" && name != "head" && name != "export" {
+		flags.StringVar(&c.Program, "program", "rbac", "the proved `program`, a path or a name that is looked up in PATH")
+	}
+	if name == "verify" || name == "access" {
+		flags.StringVar(&c.head, "head", "", "a `head` N:HASH that is known from elsewhere")
+		flags.StringVar(&c.heads, "heads", "", "`file` of such heads, one in a line, or the log of a front")
+		flags.StringVar(&c.signers, "signers", "", "`file` of who may have signed these heads: as ssh-keygen(1) describes it, or public keys of minisign")
+	}
+	if name == "show" || name == "access" {
+		flags.Var(&c.format, "format", "`format` of the lines: text, csv or json")
+	}
+	switch name {
+	case "adopt":
+		flags.StringVar(&c.by, "by", "", "`who` adopts the office")
+		flags.StringVar(&c.reason, "reason", "", "`why`, such as the number of a ticket")
+	case "export":
+		flags.StringVar(&c.export.To, "syslog", "", "`receiver`: unix:PATH, udp:HOST:PORT or tcp:HOST:PORT")
+		flags.StringVar(&c.export.Place, "place", "", "`file` that has up to where was sent")
+		flags.BoolVar(&c.export.IsFollowing, "follow", false, "send new entries too, until SIGTERM")
+	case "access":
+		flags.Func("at", "at this `time`, such as 2026-11-27T09:30, in UTC", timeOf(&c.access.At))
+		flags.Int64Var(&c.access.Entry, "entry", 0, "after the entry with this `number`, in place of --at")
+		flags.StringVar(&c.access.User, "user", "", "only this `user`")
+		flags.StringVar(&c.access.Operation, "operation", "", "only this `operation`")
+		flags.StringVar(&c.access.Object, "object", "", "only this `object`")
+	case "show":
+		c.defineFilter(flags)
+	}
+}
+
+// defineFilter defines the flags that choose entries.
+func (c *recordCommand) defineFilter(flags *flag.FlagSet) {
+	flags.StringVar(&c.filter.User, "user", "", "only commands that name this `user`")
+	flags.StringVar(&c.filter.Role, "role", "", "only commands that name this `role`")
+	flags.StringVar(&c.filter.Object, "object", "", "only commands that name this `object`")
+	flags.StringVar(&c.filter.Operation, "operation", "", "only commands that name this `operation`")
+	flags.StringVar(&c.filter.Set, "set", "", "only commands that name this separation of duty `set`")
+	flags.StringVar(&c.filter.Session, "session", "", "only commands that name the session with this `digest`")
+	flags.StringVar(&c.filter.Reason, "reason", "", "only commands with this `text` in their reason")
+	flags.StringVar(&c.filter.Function, "function", "", "only commands of this `function`")
+	flags.StringVar(&c.filter.Caller, "caller", "", "only commands of this `caller`")
+	flags.Func("since", "only commands from this `time` on, such as 2026-11-27T09", timeOf(&c.filter.Since))
+	flags.Func("until", "only commands before this `time`", timeOf(&c.filter.Until))
+	flags.BoolVar(&c.filter.IsRefused, "refused", false, "only commands that were refused")
+}
+
+// timeOf returns a function that reads a time of a filter into a place.
+func timeOf(place *string) func(text string) error {
+	return func(text string) (err error) {
+		*place, err = recorded.ParseTime(text)
+		return err
+	}
+}
+
+// do does a command.
+func (c *recordCommand) do(ctx context.Context, name string) error {
+	switch name {
+	case "verify":
+		return c.verify(ctx)
+	case "show":
+		return c.Show(ctx, c.filter, c.format)
+	case "access":
+		return c.askAccess(ctx)
+	case "export":
+		return c.Export(ctx, c.export)
+	case "head":
+		return c.PrintHead(ctx)
+	case "cut":
+		return c.Cut(ctx)
+	case "adopt":
+		return c.Adopt(ctx, c.by, c.reason)
+	}
+	return errUsage
+}
+
+// knownHeads returns the heads that the command line may have.
+func (c *recordCommand) knownHeads(ctx context.Context) ([]record.Head, error) {
+	heads, err := c.readHeads(ctx)
+	if err != nil {
+		return nil, err
+	}
+	if c.head != "" {
+		head, err := record.ParseHead(c.head)
+		if err != nil {
+			return nil, err
+		}
+		heads = append(heads, head)
+	}
+	return heads, nil
+}
+
+// verify verifies a record.
+func (c *recordCommand) verify(ctx context.Context) error {
+	heads, err := c.knownHeads(ctx)
+	if err != nil {
+		return err
+	}
+	return withStatus(c.Verify(ctx, heads))
+}
+
+// askAccess prints who had access.
+func (c *recordCommand) askAccess(ctx context.Context) (err error) {
+	if c.access.Heads, err = c.knownHeads(ctx); err != nil {
+		return err
+	}
+	c.access.Format = c.format
+	return withStatus(c.Access(ctx, c.access))
+}
+
+// withStatus gives the error of a record that is good, but from which entries are missing, a status of its own.
+func withStatus(err error) error {
+	if errors.Is(err, record.ErrMissing) {
+		return statusError{missingStatus, err}
+	}
+	return err
+}
+
+// readHeads reads the file of heads, if the command line names one.
+func (c *recordCommand) readHeads(ctx context.Context) (heads []record.Head, err error) {
+	if c.heads == "" && c.signers != "" {
+		return nil, errors.New("--signers needs --heads")
+	}
+	if c.heads == "" {
+		return nil, nil
+	}
+	file, err := os.Open(c.heads)
+	if err != nil {
+		return nil, err
+	}
+	defer file.Close()
+	if c.signers == "" {
+		heads, err = record.ReadHeads(file)
+	} else {
+		heads, err = record.ReadSignedHeads(ctx, file, c.signers)
+	}
+	if err != nil {
+		return nil, fmt.Errorf("%s: %w", c.heads, err)
+	}
+	return heads, nil
+}

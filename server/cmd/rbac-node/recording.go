@@ -1,0 +1,66 @@
+package main
+
+import (
+	"context"
+	"fmt"
+	"os"
+	"path/filepath"
+	"time"
+
+	"rbac-node/internal/logs"
+	"rbac-node/internal/metrics"
+	"rbac-node/internal/record"
+	"rbac-node/internal/recorded"
+	"rbac-node/internal/single"
+)
+
+// recordSettings are what the command line chooses for the record of an office.
+type recordSettings struct {
+	isOff       bool
+	every       int64
+	verifyEvery time.Duration
+}
+
+// addRecord makes an office keep a record, unless the command line says that it shouldn't.
+func (s *settings) addRecord(office *single.Options, registry *metrics.Registry) error {
+	if s.record.isOff {
+		folder := s.office + ".record"
+		if _, err := os.Stat(filepath.Join(folder, "record.db")); err == nil {
+			return fmt.Errorf("--no-record would part the office from its record %s: move that folder away first", folder)
+		}
+		return nil
+	}
+	office.CheckRecord = func() error {
+		if err := record.CheckOffice(s.office); err != nil {
+			return err
+		}
+		return record.FreeReserve(s.office)
+	}
+	office.OpenRecord = func(ctx context.Context) (single.Recorder, error) {
+		r, err := record.Open(ctx, record.Options{
+			Office: s.office, Program: s.program, HangTimeout: s.hangTimeout, Every: s.record.every, Log: office.Log, Metrics: registry,
+			VerifyEvery: s.record.verifyEvery, Say: office.Say,
+		})
+		if err != nil {
+			return nil, err // Not a Recorder that is there and nil.
+		}
+		return r, nil
+	}
+	return nil
+}
+
+// followRecord returns the record of a node, with its folder, the office in use and the entries of a part.
+func (s *settings) followRecord(data, office string, partEntries int64, log *logs.Logger, registry *metrics.Registry) recorded.Follower {
+	return record.NewFollower(record.Options{
+		Office: office, Program: s.program, Dir: record.DirIn(data), HangTimeout: s.hangTimeout, PartEntries: partEntries, Log: log,
+		Metrics: registry,
+	})
+}
+
+// carryRecord begins the record of a node with that of a backup of a node, and returns the path of the backup's office and the head. What
+// it returns last takes that back.
+func (s *settings) carryRecord(ctx context.Context, backup, data string) (office, head string, undo func(), err error) {
+	dir := record.DirIn(data)
+	office, last, err := record.Carry(ctx, record.Options{Program: s.program, Dir: dir, HangTimeout: s.hangTimeout, Log: logs.New(os.Stderr)}, backup)
+	return office, last.String(), func() { _ = os.RemoveAll(dir) }, err
+}

@@ -1,0 +1,105 @@
+package main
+
+import (
+	"crypto/tls"
+	"crypto/x509"
+	"errors"
+	"flag"
+	"fmt"
+	"net"
+	"net/http"
+	"net/url"
+	"os"
+	"strings"
+	"time"
+
+	"rbac-node/internal/record"
+)
+
+const (
+	// notContinuedStatus is the status of sign if the record doesn't continue the last signed head.
+	notContinuedStatus = 3
+	// signTimeout is how long a front may take for an answer about its record.
+	signTimeout = time.Minute
+)
+
+// signCommand is what the command line of sign chooses.
+type signCommand struct {
+	record.Signer
+	ca, cert, key, token string
+}
+
+// prepareSign defines the flags of `record sign`, and returns what signs the head of a record that a front on another machine keeps.
+func prepareSign(flags *flag.FlagSet) func([]string) error {
+	c := &signCommand{Signer: record.Signer{Out: os.Stdout}}
+	flags.StringVar(&c.URL, "url", "", "`URL` of the front, such as https://office.example:8443")
+	flags.StringVar(&c.ca, "ca", "", "`file` of the authority of the front's certificate; without it those of the system")
+	flags.StringVar(&c.token, "token", "", "`file` of a token that shows who asks")
+	flags.StringVar(&c.cert, "tls-cert", "", "`file` of a certificate that shows who asks")
+	flags.StringVar(&c.key, "tls-key", "", "`file` of its key")
+	flags.StringVar(&c.Key, "key", "", "`file` of the key that signs, of minisign or ssh-keygen")
+	flags.StringVar(&c.Heads, "heads", "", "`file` of the signed heads, to which one is added")
+	flags.BoolVar(&c.IsFirst, "begin", false, "sign the first head of a new file")
+	return withArguments(0, func([]string) error { return c.sign() })
+}
+
+// sign signs the head.
+func (c *signCommand) sign() error {
+	if c.URL == "" || c.Key == "" || c.Heads == "" || (c.cert == "") != (c.key == "") {
+		return errUsage
+	}
+	if err := c.prepare(); err != nil {
+		return err
+	}
+	err := untilSignal(c.Sign)
+	switch {
+	case errors.Is(err, record.ErrNotContinued):
+		return statusError{notContinuedStatus, err}
+	case errors.Is(err, record.ErrMissing):
+		return statusError{missingStatus, err}
+	}
+	return err
+}
+
+// prepare makes what asks the front.
+func (c *signCommand) prepare() error {
+	front, err := url.Parse(c.URL)
+	if err != nil {
+		return err
+	}
+	if address := net.ParseIP(front.Hostname()); front.Scheme != "https" && (front.Scheme != "http" || address == nil || !address.IsLoopback()) {
+		return fmt.Errorf("%s: it has to begin with https://, or with http:// and an address of this machine", c.URL)
+	}
+	settings := &tls.Config{MinVersion: tls.VersionTLS12}
+	if c.ca != "" {
+		text, err := os.ReadFile(c.ca)
+		if err != nil {
+			return err
+		}
+		settings.RootCAs = x509.NewCertPool()
+		if !settings.RootCAs.AppendCertsFromPEM(text) {
+			return fmt.Errorf("%s: it has no certificate", c.ca)
+		}
+	}
+	if c.cert != "" {
+		pair, err := tls.LoadX509KeyPair(c.cert, c.key)
+		if err != nil {
+			return err
+		}
+		settings.Certificates = []tls.Certificate{pair}
+	}
+	if c.token != "" {
+		text, err := os.ReadFile(c.token)
+		if err != nil {
+			return err
+		}
+		c.Token = strings.TrimSpace(string(text))
+	}
+	c.Client = &http.Client{
+		Timeout:   signTimeout,
+		Transport: &http.Transport{TLSClientConfig: settings},
+		// The token is for this front alone.
+		CheckRedirect: func(*http.Request, []*http.Request) error { return http.ErrUseLastResponse },
+	}
+	return nil
+}

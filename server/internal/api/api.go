@@ -1,0 +1,338 @@
+// Package api answers requests over HTTP as `rbac serve` does.
+package api
+
+import (
+	"bytes"
+	"context"
+	"encoding/json"
+	"errors"
+	"fmt"
+	"io"
+	"net/http"
+	"strconv"
+	"strings"
+	"time"
+
+	"rbac-node/internal/boottime"
+	"rbac-node/internal/metrics"
+)
+
+// A Kind is how a request is answered.
+type Kind string
+
+// A command is done by all copies of an office in one order. The state that answers a question has everything that was
+// answered anywhere before the question came; a local one is answered from the state at hand.
+const (
+	Command  Kind = "command"
+	Question Kind = "question"
+	Local    Kind = "local"
+	// Entry is what is recorded in the one order and changes nothing.
+	Entry Kind = "entry"
+)
+
+// Answers are what the program answered to the calls of a batch that were done, and where in the order.
+type Answers struct {
+	Texts [][]byte
+	Point
+}
+
+// A Point is a place in the order of an office. On several machines Revision is that of a command's entry in the log, in which it has
+// a place, or that of the last entry before a question.
+type Point struct {
+	Revision int64
+	Place    int
+	// Newest is a moment at which the state that answered a question was the newest one.
+	Newest boottime.Moment
+	// Policy is the revision of the policy after a command, or that of the state that answered a question, or 0 if it isn't known.
+	Policy int64
+}
+
+// ForgetPolicy takes back what the head of an answer says of the policy.
+func ForgetPolicy(head http.Header) { delete(head, policyField) }
+
+// SetHead says in an answer where in the order it is from, as far as that is known. That of one machine has a policy alone.
+func (p Point) SetHead(head http.Header) {
+	if p.Policy > 0 {
+		head[policyField] = []string{strconv.FormatInt(p.Policy, 10)}
+	}
+	if p.Revision > 0 {
+		head.Set("Office-Revision", strconv.FormatInt(p.Revision, 10))
+	}
+	switch {
+	case p.Newest > 0:
+		// The age is that at this time or a later one, also if the process is paused before the answer is written.
+		head.Set("Date", time.Now().UTC().Format(http.TimeFormat))
+		head.Set("Office-Age", strconv.FormatFloat(boottime.Since(p.Newest).Seconds(), 'f', 3, 64))
+	case p.Revision > 0:
+		head.Set("Office-Place", strconv.Itoa(p.Place))
+	}
+}
+
+// A Refusal is what is answered without the office: an HTTP status, a code and its name, and what is wrong with the request, if more is
+// to be said than that.
+type Refusal struct {
+	Status, Code int
+	Name, Why    string
+}
+
+func (r Refusal) Error() string {
+	if r.Why == "" {
+		return r.Name
+	}
+	return r.Name + ": " + r.Why
+}
+
+var (
+	// Unavailable means that there was no answer in time. A command may be done or not.
+	Unavailable = Refusal{Status: http.StatusServiceUnavailable, Code: 60, Name: "Unavailable"}
+	// Diverged means that the snapshot of this node is not that of most nodes at the same revision.
+	Diverged = Refusal{Status: http.StatusServiceUnavailable, Code: 61, Name: "Diverged"}
+	// Unauthorized means that the request doesn't show who asks.
+	Unauthorized = Refusal{Status: http.StatusUnauthorized, Code: 62, Name: "Unauthorized"}
+	// Forbidden means that the caller may not do this.
+	Forbidden = Refusal{Status: http.StatusForbidden, Code: 63, Name: "Forbidden"}
+	// TooManyRequests means that the caller has too many requests at once.
+	TooManyRequests = Refusal{Status: http.StatusTooManyRequests, Code: 64, Name: "TooManyRequests"}
+	// ForeignOrigin means that a page of a foreign site has made a browser send the request.
+	ForeignOrigin = Refusal{Status: http.StatusForbidden, Code: 65, Name: "ForeignOrigin"}
+	// ForeignHost means that the request was sent to a name that isn't one of this machine.
+	ForeignHost = Refusal{Status: http.StatusMisdirectedRequest, Code: 66, Name: "ForeignHost"}
+	// Outdated means that the policy has changed since the revision that the request names.
+	Outdated = Refusal{Status: http.StatusPreconditionFailed, Code: 67, Name: "Outdated"}
+	// Upgrading means that a node has an earlier program, which can't judge this: it can be done when all nodes have a later one.
+	Upgrading       = Refusal{Status: http.StatusServiceUnavailable, Code: 68, Name: "Upgrading"}
+	unknownFunction = Refusal{Status: http.StatusNotFound, Code: 35, Name: "UnknownFunction"}
+)
+
+func badRequest(status int) Refusal { return Refusal{Status: status, Code: 34, Name: "BadRequest"} }
+
+// badRequestSince is badRequest with what is wrong.
+func badRequestSince(status int, why string, values ...any) Refusal {
+	refused := badRequest(status)
+	refused.Why = fmt.Sprintf(why, values...)
+	return refused
+}
+
+// tooLong is the refusal of a body with more bytes than it may have.
+func tooLong(most int64) Refusal {
+	return badRequestSince(http.StatusRequestEntityTooLarge, "the body has more than %d bytes", most)
+}
+
+// whyField is the field of an answer that says what is wrong with a request.
+const whyField = "Office-Why"
+
+// An Office does batches of calls. An error that is no Refusal is answered as Unavailable.
+type Office interface {
+	Do(ctx context.Context, b Batch) (Answers, error)
+	ServeHealth(w http.ResponseWriter, r *http.Request)
+}
+
+// These are limits of `rbac serve`. A longer import, which it accepts, would make a line that no replay accepts.
+const MaxBodyBytes, maxFields = 65_536, 64
+
+// A Handler answers requests from an office.
+type Handler struct {
+	ctx     context.Context
+	office  Office
+	answers *metrics.Counter
+	seconds *metrics.Histogram
+	// decisions counts what was denied and what was allowed.
+	decisions *metrics.Tally
+	// LogDecision may be nil.
+	LogDecision func(d Decision)
+}
+
+// NewHandler returns a handler. It answers until the context ends, also if the client has ended its side of the connection, as
+// `rbac serve` does: so requests have the context of the handler.
+func NewHandler(ctx context.Context, office Office, registry *metrics.Registry) *Handler {
+	bounds := make([]float64, 15)
+	for i := range bounds {
+		bounds[i] = 0.0005 * float64(int(1)<<i)
+	}
+	return &Handler{
+		ctx: ctx, office: office,
+		answers:   registry.Counter("rbac_node_answers_total", "Requests that were answered.", "kind", "status"),
+		seconds:   registry.Histogram("rbac_node_answer_seconds", "How long requests took.", "kind", bounds),
+		decisions: registry.Tally("rbac_node_decisions_total", "Decisions about access.", "decision", "denied", "allowed"),
+	}
+}
+
+// A Judge decides what may be done. An error refuses it.
+type Judge interface {
+	// MayAny refuses a request for a function, before a body that isn't small is read, if no call of the function may be done.
+	MayAny(ctx context.Context, function string) error
+	// May refuses a call.
+	May(ctx context.Context, call *Call) error
+	// Caller returns who asks.
+	Caller() string
+}
+
+// Serve answers a request for a function that the judge lets through. done is called when the office has nothing more to do for the
+// request, before the client gets the answer.
+func (h *Handler) Serve(w http.ResponseWriter, r *http.Request, judge Judge, done func()) {
+	start := time.Now()
+	kind, call, err := read(r, func(function string) error { return judge.MayAny(h.ctx, function) })
+	if err == nil {
+		err = judge.May(h.ctx, call)
+	}
+	var answers Answers
+	var rule Rule
+	if err == nil {
+		rule, err = RuleOf(r)
+	}
+	if err == nil {
+		answers, err = Do(h.ctx, h.office, Batch{Kind: kind, Calls: []*Call{call}, Rule: rule})
+	}
+	done()
+	status := respond(w, answers, err)
+	if err == nil && call.Function == checkAccess {
+		h.Decided(decisionOf(call, judge.Caller(), answers.Texts[0]))
+	}
+	h.answers.Add(string(kind), strconv.Itoa(status))
+	h.seconds.Observe(string(kind), time.Since(start).Seconds())
+}
+
+// checkAccess is the function that decides, and Allowed what it answers if it allows something.
+const checkAccess, Allowed = "checkAccess", `{"ok":true,"value":true}`
+
+// respond writes the answer to a call or an error, and returns its status.
+func respond(w http.ResponseWriter, answers Answers, err error) int {
+	if err != nil {
+		refused := Unavailable
+		_ = errors.As(err, &refused)
+		return Refuse(w, refused)
+	}
+	answers.SetHead(w.Header())
+	text := answers.Texts[0]
+	return write(w, StatusOf(text), text)
+}
+
+// Refuse answers a request without the office, and returns the status. If nothing else is said, only POST is allowed.
+func Refuse(w http.ResponseWriter, refused Refusal, methods ...string) int {
+	head := w.Header()
+	if refused.Why != "" {
+		head[whyField] = []string{refused.Why}
+	}
+	switch refused.Status {
+	case http.StatusUnauthorized:
+		head.Set("WWW-Authenticate", "Bearer")
+	case http.StatusMethodNotAllowed:
+		if len(methods) == 0 {
+			methods = []string{http.MethodPost}
+		}
+		head.Set("Allow", strings.Join(methods, ", "))
+	case http.StatusNotImplemented, http.StatusLengthRequired:
+		Close(w)
+	}
+	return write(w, refused.Status, RefusalText(refused.Code, refused.Name))
+}
+
+// Close ends the connection behind the answer: nobody may take what follows for the next request.
+func Close(w http.ResponseWriter) { w.Header().Set("Connection", "close") }
+
+func write(w http.ResponseWriter, status int, text []byte) int {
+	head := w.Header()
+	head["Content-Type"] = []string{"application/json"}
+	head["Content-Length"] = []string{strconv.Itoa(len(text))}
+	w.WriteHeader(status)
+	_, _ = w.Write(text) // If it fails, the client is gone.
+	return status
+}
+
+// StatusOf returns the status of an answer of the office.
+func StatusOf(answer []byte) int {
+	if bytes.HasPrefix(answer, []byte(`{"ok":true`)) {
+		return http.StatusOK
+	}
+	var refused struct{ Code int }
+	_ = json.Unmarshal(answer, &refused)
+	switch refused.Code {
+	case 1, 34, 36:
+		return http.StatusBadRequest
+	case 35:
+		return http.StatusNotFound
+	}
+	return http.StatusConflict
+}
+
+// SmallBody is how many bytes of a body are read before it is known whether the caller may do anything of that kind.
+const SmallBody = 4096
+
+// read judges the head of a request in the order of `rbac serve`, reads the body if it is small or the function may be asked for, and
+// makes a call of the two.
+func read(r *http.Request, may func(function string) error) (Kind, *Call, error) {
+	// A ServeMux would redirect paths that it would write differently.
+	name := strings.TrimPrefix(r.RequestURI, "/v1/")
+	called, known := functions[name]
+	known = known && name != r.RequestURI
+	kind := called.kind
+	if !known {
+		kind = "none"
+	}
+	if err := judgeHead(r, known); err != nil {
+		return kind, nil, err
+	}
+	if kind == Question {
+		kind = kindOf(r)
+	}
+	if r.ContentLength > SmallBody {
+		if err := may(name); err != nil {
+			return kind, nil, err
+		}
+	}
+	body, err := io.ReadAll(r.Body)
+	if err != nil {
+		return kind, nil, badRequest(http.StatusBadRequest)
+	}
+	call, err := parseBody(name, body)
+	return kind, call, err
+}
+
+// KindOfQuestions returns how the questions of a request are to be answered, or refuses what it says of that.
+func KindOfQuestions(r *http.Request) (Kind, error) {
+	if !isConsistency(r.Header.Get(consistencyField)) {
+		return Question, wrongConsistency
+	}
+	return kindOf(r), nil
+}
+
+// consistencyField is the field of a request that says how new the state has to be that answers a question.
+const consistencyField = "Consistency"
+
+var wrongConsistency = badRequestSince(http.StatusBadRequest, "Consistency is linearizable or local")
+
+func kindOf(r *http.Request) Kind {
+	if r.Header.Get(consistencyField) == string(Local) {
+		return Local
+	}
+	return Question
+}
+
+func isConsistency(text string) bool {
+	return text == "" || text == string(Local) || text == "linearizable"
+}
+
+// judgeHead refuses a head that `rbac serve` would refuse.
+func judgeHead(r *http.Request, known bool) error {
+	fields := 1 // The library keeps Host apart.
+	for _, values := range r.Header {
+		fields += len(values)
+	}
+	switch {
+	case fields > maxFields:
+		return badRequest(http.StatusRequestHeaderFieldsTooLarge)
+	case len(r.TransferEncoding) > 0:
+		return badRequest(http.StatusNotImplemented)
+	case !known:
+		return unknownFunction
+	case r.Method != http.MethodPost:
+		return badRequest(http.StatusMethodNotAllowed)
+	case r.ContentLength < 0 || r.ContentLength == 0 && r.Header.Get("Content-Length") == "" && r.ProtoMajor == 1:
+		return badRequest(http.StatusLengthRequired)
+	case r.ContentLength > MaxBodyBytes:
+		return tooLong(MaxBodyBytes)
+	case !isConsistency(r.Header.Get(consistencyField)):
+		return badRequest(http.StatusBadRequest)
+	}
+	return nil
+}

@@ -1,0 +1,104 @@
+package api
+
+import (
+	"bytes"
+	"encoding/json"
+	"fmt"
+	"io"
+	"net/http"
+	"strconv"
+	"time"
+)
+
+// BadRequest is the refusal of a request that can't be read.
+func BadRequest(status int) Refusal { return badRequest(status) }
+
+// BadRequestSince is the refusal of a request that can't be read, with what is wrong.
+func BadRequestSince(status int, why string, values ...any) Refusal {
+	return badRequestSince(status, why, values...)
+}
+
+// UnknownFunction means that nothing is at a path.
+var UnknownFunction = unknownFunction
+
+// Write answers a request with a text of JSON, and returns the status.
+func Write(w http.ResponseWriter, status int, text []byte) int { return write(w, status, text) }
+
+// ReadBody returns the body of a request by POST, which may have at most this many bytes.
+func ReadBody(r *http.Request, most int64) ([]byte, error) {
+	switch {
+	case len(r.TransferEncoding) > 0:
+		return nil, badRequest(http.StatusNotImplemented)
+	case r.Method != http.MethodPost:
+		return nil, badRequest(http.StatusMethodNotAllowed)
+	case r.ContentLength < 0:
+		return nil, badRequest(http.StatusLengthRequired)
+	case r.ContentLength > most:
+		return nil, tooLong(most)
+	}
+	body, err := io.ReadAll(r.Body)
+	if err != nil {
+		return nil, badRequest(http.StatusBadRequest)
+	}
+	return body, nil
+}
+
+// Fields reads an object of JSON as the office does.
+func Fields(text []byte) (map[string]json.RawMessage, error) { return fieldsOf(text) }
+
+// Text returns the text that is written as JSON.
+func Text(value json.RawMessage) (string, error) { return textOf(value) }
+
+// TextAt returns the text at a key, or a refusal that names the key.
+func TextAt(found map[string]json.RawMessage, key string) (string, error) { return textAt(found, key) }
+
+// Texts returns the texts of a list that is written as JSON.
+func Texts(value json.RawMessage) ([]string, error) { return textsOf(value) }
+
+// Items returns the values of a list that is written as JSON.
+func Items(value json.RawMessage) ([]json.RawMessage, error) { return itemsOf(value) }
+
+// RefusalText returns a refusal as the office writes it.
+func RefusalText(code int, name string) []byte {
+	return []byte(fmt.Sprintf(`{"code":%d,"error":"%s"}`, code, name))
+}
+
+// IsAccepted reports whether the office accepted what it answers.
+func IsAccepted(answer []byte) bool { return bytes.HasPrefix(answer, []byte(`{"ok":true`)) }
+
+// CodeOf returns the code and the name of a refusal, or 0.
+func CodeOf(answer []byte) (code int, name string) {
+	if IsAccepted(answer) {
+		return 0, ""
+	}
+	var refused struct {
+		Code  int
+		Error string
+	}
+	_ = json.Unmarshal(answer, &refused)
+	return refused.Code, refused.Error
+}
+
+// ValueOf reads the value of an answer.
+func ValueOf(answer []byte, value any) error {
+	found := struct{ Value any }{value}
+	return json.Unmarshal(answer, &found)
+}
+
+// PairsOf reads the value of an answer that is a list of pairs of names, which may have thousands.
+func PairsOf(answer []byte) (pairs [][2]string, err error) {
+	const begin, end = `{"ok":true,"value":`, `}`
+	if bytes.HasPrefix(answer, []byte(begin)) && bytes.HasSuffix(answer, []byte(end)) {
+		if found, isPlain := plainPairs(answer[len(begin) : len(answer)-len(end)]); isPlain {
+			return found, nil
+		}
+	}
+	err = ValueOf(answer, &pairs)
+	return pairs, err
+}
+
+// Note counts a request that something else has answered, and how long that took.
+func (h *Handler) Note(kind Kind, status int, start time.Time) {
+	h.answers.Add(string(kind), strconv.Itoa(status))
+	h.seconds.Observe(string(kind), time.Since(start).Seconds())
+}

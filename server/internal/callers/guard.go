@@ -1,0 +1,164 @@
+package callers
+
+import (
+	"context"
+	"crypto/x509"
+	"fmt"
+	"net/http"
+	"sync"
+
+	"rbac-node/internal/api"
+)
+
+// A Guard has the set of callers that is in force.
+type Guard struct {
+	mutex sync.Mutex
+	set   *Set
+	// atOnce counts the requests in flight of each caller, of which it has at most as many as this.
+	atOnce map[string]int
+	most   int
+}
+
+// NewGuard returns a guard with a set that is in force at once. A caller may have at most this many requests in flight.
+func NewGuard(set *Set, most int) *Guard {
+	return &Guard{set: set, atOnce: map[string]int{}, most: most}
+}
+
+// A Visit is a request of a caller.
+type Visit struct {
+	Caller string
+	guard  *Guard
+	set    *Set
+	// isJudged says that the set has nothing more to judge, and isLeft that the request has been answered.
+	isJudged, isLeft bool
+}
+
+// Enter finds out who asks. The visit has to be left when the request has been done. Why a request is refused is for the log only.
+func (g *Guard) Enter(r *http.Request) (visit *Visit, why, refused error) {
+	g.mutex.Lock()
+	set := g.set
+	set.using++
+	g.mutex.Unlock()
+	caller, why := set.identify(r)
+	if why != nil {
+		g.leave(set)
+		return nil, why, api.Unauthorized
+	}
+	g.mutex.Lock()
+	defer g.mutex.Unlock()
+	if g.atOnce[caller] == g.most {
+		g.leaveLocked(set)
+		return nil, nil, api.TooManyRequests
+	}
+	g.atOnce[caller]++
+	return &Visit{Caller: caller, guard: g, set: set}, nil, nil
+}
+
+// May reports whether the caller may do all of some calls.
+func (v *Visit) May(ctx context.Context, calls ...*api.Call) error {
+	return v.set.May(ctx, v.Caller, calls...)
+}
+
+// MayAny refuses the caller if it has none of some operations, in no scope.
+func (v *Visit) MayAny(ctx context.Context, operations ...string) error {
+	return v.set.MayAny(ctx, v.Caller, operations...)
+}
+
+// MayRead reports whether the caller may do an operation that isn't a function of the office.
+func (v *Visit) MayRead(ctx context.Context, operation string) error {
+	return v.set.MayRead(ctx, v.Caller, operation)
+}
+
+// Done says that the office has nothing more to do for the request. Other callers may then come into force.
+func (v *Visit) Done() {
+	v.guard.mutex.Lock()
+	defer v.guard.mutex.Unlock()
+	v.done()
+}
+
+// done is Done while the guard is locked.
+func (v *Visit) done() {
+	if !v.isJudged {
+		v.isJudged = true
+		v.guard.leaveLocked(v.set)
+	}
+}
+
+// Leave says that the request has been answered.
+func (v *Visit) Leave() {
+	v.guard.mutex.Lock()
+	defer v.guard.mutex.Unlock()
+	v.done()
+	if v.isLeft {
+		return
+	}
+	v.isLeft = true
+	if v.guard.atOnce[v.Caller]--; v.guard.atOnce[v.Caller] == 0 {
+		delete(v.guard.atOnce, v.Caller)
+	}
+}
+
+func (g *Guard) leave(set *Set) {
+	g.mutex.Lock()
+	defer g.mutex.Unlock()
+	g.leaveLocked(set)
+}
+
+// leaveLocked counts that a request no longer uses a set. The guard is locked.
+func (g *Guard) leaveLocked(set *Set) {
+	if set.using--; set.using == 0 && set != g.set {
+		close(set.idle)
+	}
+}
+
+// Replace puts a set in force. It returns when all requests that the earlier set has judged are done: when each has been left, and
+// when the office has answered a question that was asked after that.
+func (g *Guard) Replace(ctx context.Context, set *Set, ask func(context.Context) error) error {
+	g.mutex.Lock()
+	old := g.set
+	g.set = set
+	if old.using == 0 {
+		close(old.idle)
+	}
+	g.mutex.Unlock()
+	select {
+	case <-old.idle:
+		old.Close()
+	case <-ctx.Done():
+		go func() { <-old.idle; old.Close() }()
+		return fmt.Errorf("requests that the earlier callers sent are still at hand: %w", ctx.Err())
+	}
+	return ask(ctx)
+}
+
+// Knows reports whether a request shows who asks.
+func (g *Guard) Knows(r *http.Request) bool {
+	g.mutex.Lock()
+	set := g.set
+	set.using++
+	g.mutex.Unlock()
+	defer g.leave(set)
+	_, err := set.identify(r)
+	return err == nil
+}
+
+// Why returns why the office of the callers gives no answer now, or an empty text.
+func (g *Guard) Why() string {
+	g.mutex.Lock()
+	defer g.mutex.Unlock()
+	return g.set.feed.Why()
+}
+
+// Authority returns the authority of the certificates of callers.
+func (g *Guard) Authority() *x509.CertPool {
+	g.mutex.Lock()
+	defer g.mutex.Unlock()
+	return g.set.authority
+}
+
+// Close ends the set that is in force. No request may come any more.
+func (g *Guard) Close() {
+	g.mutex.Lock()
+	defer g.mutex.Unlock()
+	g.set.Close()
+}

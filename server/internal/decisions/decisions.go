@@ -1,0 +1,140 @@
+// Package decisions writes some of the decisions about access as lines of JSON, for whoever has to see who was allowed what.
+package decisions
+
+import (
+	"fmt"
+	"io"
+	"math/rand"
+	"os"
+	"syscall"
+	"time"
+
+	"rbac-node/internal/api"
+	"rbac-node/internal/logs"
+	"rbac-node/internal/metrics"
+	"rbac-node/internal/state"
+)
+
+// mostWaiting is how many decisions may wait to be written. Others are only counted.
+const mostWaiting = 4096
+
+// A Log gets decisions, and writes a share of them. Whoever asks doesn't wait for that.
+type Log struct {
+	share   float64
+	out     *logs.Logger
+	waiting chan entry
+	lost    *metrics.Counter
+	ends    chan struct{}
+	ended   chan struct{}
+}
+
+// An entry is a decision, and when it was made.
+type entry struct {
+	api.Decision
+	at time.Time
+}
+
+// New returns a log of a share of all decisions, from 0 to 1: in a file, or among the lines of another log if none is named.
+func New(share float64, file string, other *logs.Logger, registry *metrics.Registry) (*Log, error) {
+	l := &Log{share: share, out: other, waiting: make(chan entry, mostWaiting), ends: make(chan struct{}), ended: make(chan struct{})}
+	if file != "" {
+		opened := &reopened{path: file}
+		if err := opened.open(); err != nil {
+			return nil, fmt.Errorf("log of decisions: %w", err)
+		}
+		l.out = logs.New(opened)
+	}
+	l.lost = registry.Counter("rbac_node_decisions_unlogged_total", "Decisions that were to be logged, and were too many at once.")
+	go l.run()
+	return l, nil
+}
+
+// Note writes a decision if it is one of those that are written. It doesn't wait.
+func (l *Log) Note(d api.Decision) {
+	if l.share < 1 && rand.Float64() >= l.share {
+		return
+	}
+	select {
+	case l.waiting <- entry{d, time.Now()}:
+	default:
+		l.lost.Add()
+	}
+}
+
+// Close writes what waits, and ends the log.
+func (l *Log) Close() {
+	close(l.ends)
+	<-l.ended
+}
+
+func (l *Log) run() {
+	defer close(l.ended)
+	for {
+		select {
+		case one := <-l.waiting:
+			l.write(one)
+		case <-l.ends:
+			for len(l.waiting) > 0 {
+				l.write(<-l.waiting)
+			}
+			return
+		}
+	}
+}
+
+// write writes a decision. Whoever knows the name of a session can use it, so it is a digest, as in the record.
+func (l *Log) write(one entry) {
+	said := "denied"
+	if one.IsAllowed {
+		said = "allowed"
+	}
+	fields := []any{"decision", said, "at", one.at.UTC().Format("2006-01-02T15:04:05.000000Z"), "caller", one.Caller}
+	if one.User != "" {
+		fields = append(fields, "user", one.User)
+	} else {
+		fields = append(fields, "session", state.DigestOf(one.Session))
+	}
+	fields = append(fields, "operation", one.Operation, "object", one.Object)
+	if one.Code != 0 {
+		fields = append(fields, "code", one.Code, "error", one.Name)
+	}
+	l.out.Info("decision", fields...)
+}
+
+// glance is how often it is looked whether a file has been moved away.
+const glance = time.Second
+
+// A reopened file is opened again once another program has moved it away, as logrotate does.
+type reopened struct {
+	path   string
+	file   *os.File
+	looked time.Time
+}
+
+// open opens the file, unless it is a link.
+func (r *reopened) open() error {
+	file, err := os.OpenFile(r.path, os.O_WRONLY|os.O_CREATE|os.O_APPEND|syscall.O_NOFOLLOW, 0o600)
+	if err != nil {
+		return err
+	}
+	if r.file != nil {
+		_ = r.file.Close() // What was written is with the system.
+	}
+	r.file, r.looked = file, time.Now()
+	return nil
+}
+
+// Write implements io.Writer.
+func (r *reopened) Write(text []byte) (int, error) {
+	if time.Since(r.looked) > glance {
+		r.looked = time.Now()
+		here, err := os.Lstat(r.path)
+		own, ownErr := r.file.Stat()
+		if err != nil || ownErr != nil || !os.SameFile(here, own) {
+			_ = r.open() // If that fails, the file that was moved gets the line.
+		}
+	}
+	return r.file.Write(text)
+}
+
+var _ io.Writer = &reopened{}

@@ -1,0 +1,304 @@
+package endpoints
+
+import (
+	"encoding/json"
+	"fmt"
+	"net/http"
+	"strings"
+
+	"rbac-node/internal/api"
+)
+
+// The shapes of the Authorization API 1.0 of OpenID. A subject asks for an action on a resource.
+
+// An entity is a subject or a resource.
+type entity struct{ kind, id string }
+
+// An evaluation is what one evaluation names. What it doesn't name has an empty text.
+type evaluation struct {
+	subject, resource entity
+	action            string
+}
+
+// A semantic says which of several evaluations are answered: all of them, or those up to the first with a decision.
+type semantic struct{ hasLast, last bool }
+
+var semantics = map[string]semantic{
+	"execute_all": {}, "deny_on_first_deny": {hasLast: true}, "permit_on_first_permit": {hasLast: true, last: true},
+}
+
+// evaluation answers one evaluation.
+func (e *Endpoints) evaluation(r *request) (int, error) {
+	fields, err := readObject(r)
+	if err != nil {
+		return 0, err
+	}
+	return e.evaluateOne(r, fields)
+}
+
+// evaluateOne answers the evaluation that the fields of a body are.
+func (e *Endpoints) evaluateOne(r *request, fields map[string]json.RawMessage) (int, error) {
+	asked, err := readEvaluation(fields, evaluation{})
+	if err != nil {
+		return 0, err
+	}
+	if err := asked.check(); err != nil {
+		return 0, err
+	}
+	q, isKnown := asked.query()
+	if !isKnown {
+		return 0, notRead("subject.type is session or user, and resource.type has no colon")
+	}
+	decisions, err := e.decideAll(r, api.Rule{}, []query{q})
+	if err != nil {
+		return 0, err
+	}
+	return r.reply(http.StatusOK, decisions[0].appendTo(nil)), nil
+}
+
+// evaluations answers several evaluations at one place in the order. A body without any is one evaluation.
+func (e *Endpoints) evaluations(r *request) (int, error) {
+	var fields map[string]json.RawMessage
+	leave, err := e.readLarge(r, func(body []byte) (err error) {
+		fields, err = api.Fields(body)
+		return err
+	})
+	defer leave()
+	if err != nil {
+		return 0, err
+	}
+	var list []json.RawMessage
+	if value, has := fields["evaluations"]; has {
+		if list, err = api.Items(value); err != nil {
+			return 0, notRead("evaluations has to be a list of objects")
+		}
+	}
+	if len(list) == 0 {
+		return e.evaluateOne(r, fields)
+	}
+	if len(list) > api.MaxBatchLines {
+		return 0, api.BadRequestSince(http.StatusRequestEntityTooLarge, "evaluations has at most %d of them", api.MaxBatchLines)
+	}
+	wanted, err := readSemantic(fields["options"])
+	if err != nil {
+		return 0, err
+	}
+	evaluations, err := readEvaluations(fields, list)
+	if err != nil {
+		return 0, err
+	}
+	decisions, err := e.evaluateAll(r, evaluations)
+	if err != nil {
+		return 0, err
+	}
+	return r.reply(http.StatusOK, textOf(decisions, wanted)), nil
+}
+
+// evaluateAll decides evaluations. One about a subject or a resource of an unknown sort is refused by itself.
+func (e *Endpoints) evaluateAll(r *request, evaluations []evaluation) ([]decision, error) {
+	decisions := make([]decision, len(evaluations))
+	var queries []query
+	var places []int
+	for i, one := range evaluations {
+		if q, isKnown := one.query(); isKnown {
+			queries, places = append(queries, q), append(places, i)
+		} else {
+			decisions[i].code, decisions[i].name = errNotRead.Code, errNotRead.Name
+		}
+	}
+	if len(queries) == 0 {
+		return decisions, nil
+	}
+	found, err := e.decideAll(r, api.Rule{}, queries)
+	if err != nil {
+		return nil, err
+	}
+	for i, place := range places {
+		decisions[place] = found[i]
+	}
+	return decisions, nil
+}
+
+// textOf returns the answer to several evaluations.
+func textOf(decisions []decision, wanted semantic) []byte {
+	text := []byte(`{"evaluations":[`)
+	for i, one := range decisions {
+		if i > 0 {
+			text = append(text, ',')
+		}
+		text = one.appendTo(text)
+		if wanted.hasLast && one.allowed == wanted.last {
+			break
+		}
+	}
+	return append(text, `]}`...)
+}
+
+// appendTo appends the decision as JSON.
+func (d decision) appendTo(text []byte) []byte {
+	switch {
+	case d.allowed:
+		return append(text, `{"decision":true}`...)
+	case d.code == 0:
+		return append(text, `{"decision":false}`...)
+	}
+	status := api.StatusOf(api.RefusalText(d.code, d.name))
+	return append(text, fmt.Sprintf(`{"context":{"code":%d,"error":{"message":"%s","status":%d}},"decision":false}`, d.code, d.name, status)...)
+}
+
+// readObject reads the body of a request about one thing, which is an object of JSON.
+func readObject(r *request) (map[string]json.RawMessage, error) {
+	body, err := api.ReadBody(r.Request, api.MaxBodyBytes)
+	if err != nil {
+		return nil, err
+	}
+	return api.Fields(body)
+}
+
+// readSemantic reads the options of evaluations.
+func readSemantic(options json.RawMessage) (wanted semantic, err error) {
+	if options == nil {
+		return wanted, nil
+	}
+	fields, err := fieldsAt("options", options)
+	if err != nil {
+		return wanted, err
+	}
+	if _, has := fields["evaluations_semantic"]; !has {
+		return wanted, nil
+	}
+	name, err := api.TextAt(fields, "evaluations_semantic")
+	if err != nil {
+		return wanted, err
+	}
+	wanted, known := semantics[name]
+	if !known {
+		return wanted, notRead("evaluations_semantic is execute_all, deny_on_first_deny or permit_on_first_permit")
+	}
+	return wanted, nil
+}
+
+// readEvaluations reads the evaluations of a list. What one of them leaves out is taken from the body.
+func readEvaluations(fields map[string]json.RawMessage, list []json.RawMessage) ([]evaluation, error) {
+	general, err := readEvaluation(fields, evaluation{})
+	if err != nil {
+		return nil, err
+	}
+	evaluations := make([]evaluation, len(list))
+	for i, one := range list {
+		fields, err := api.Fields(one)
+		if err != nil {
+			return nil, err
+		}
+		if evaluations[i], err = readEvaluation(fields, general); err != nil {
+			return nil, err
+		}
+		if err := evaluations[i].check(); err != nil {
+			return nil, err
+		}
+	}
+	return evaluations, nil
+}
+
+// readEvaluation reads an evaluation. What it leaves out is taken from another one.
+func readEvaluation(fields map[string]json.RawMessage, other evaluation) (read evaluation, err error) {
+	read = other
+	for name, one := range map[string]*entity{"subject": &read.subject, "resource": &read.resource} {
+		if value, has := fields[name]; has {
+			if *one, err = readEntity(name, value); err != nil {
+				return read, err
+			}
+		}
+	}
+	value, has := fields["action"]
+	if !has {
+		return read, nil
+	}
+	named, err := fieldsAt("action", value)
+	if err != nil {
+		return read, err
+	}
+	read.action, err = textAt("action", named, "name")
+	return read, err
+}
+
+// readEntity reads a subject or a resource.
+func readEntity(name string, value json.RawMessage) (read entity, err error) {
+	fields, err := fieldsAt(name, value)
+	if err != nil {
+		return read, err
+	}
+	if read.kind, err = textAt(name, fields, "type"); err != nil {
+		return read, err
+	}
+	read.id, err = textAt(name, fields, "id")
+	return read, err
+}
+
+// fieldsAt returns the object at a key.
+func fieldsAt(key string, value json.RawMessage) (map[string]json.RawMessage, error) {
+	fields, err := api.Fields(value)
+	if err != nil {
+		return nil, notRead("%s has to be an object", key)
+	}
+	return fields, nil
+}
+
+// textAt returns the text at a key of an object that is at another key.
+func textAt(above string, fields map[string]json.RawMessage, key string) (string, error) {
+	text, err := api.Text(fields[key])
+	if err != nil {
+		return "", notRead("%s.%s has to be a text", above, key)
+	}
+	return text, nil
+}
+
+// check refuses an evaluation that lacks a part.
+func (asked evaluation) check() error {
+	texts := []string{asked.subject.kind, asked.subject.id, asked.action, asked.resource.kind, asked.resource.id}
+	for i, key := range []string{"subject.type", "subject.id", "action.name", "resource.type", "resource.id"} {
+		if texts[i] == "" {
+			return notRead("%s is missing", key)
+		}
+	}
+	return nil
+}
+
+// query returns what the office decides, or false if it knows no such subjects or resources. The object is the id of the resource if its
+// type is "object", and otherwise TYPE:ID. So a type has no colon: otherwise two resources could be one object.
+func (asked evaluation) query() (q query, isKnown bool) {
+	q.operation, q.object = asked.action, asked.resource.id
+	if asked.resource.kind != "object" {
+		q.object = asked.resource.kind + ":" + asked.resource.id
+	}
+	switch asked.subject.kind {
+	case "session":
+		q.session = asked.subject.id
+	case "user":
+		q.user = asked.subject.id
+	}
+	return q, q.session+q.user != "" && !strings.Contains(asked.resource.kind, ":")
+}
+
+// configurationPath is where clients of AuthZEN look for the end points.
+const configurationPath = "/.well-known/authzen-configuration"
+
+// ServeConfiguration says where the end points of AuthZEN are, to anybody. It does nothing for another path, or if nobody has said
+// where clients find the front.
+func (e *Endpoints) ServeConfiguration(w http.ResponseWriter, r *http.Request) bool {
+	if r.RequestURI != configurationPath || e.PublicURL == "" {
+		return false
+	}
+	if r.Method != http.MethodGet {
+		w.Header().Set("Allow", http.MethodGet)
+		api.Write(w, http.StatusMethodNotAllowed, []byte(`{"code":34,"error":"BadRequest"}`))
+		return true
+	}
+	text, _ := json.Marshal(map[string]string{ // Texts can be written.
+		"policy_decision_point":       e.PublicURL,
+		"access_evaluation_endpoint":  e.PublicURL + "/access/v1/evaluation",
+		"access_evaluations_endpoint": e.PublicURL + "/access/v1/evaluations",
+	})
+	api.Write(w, http.StatusOK, text)
+	return true
+}

@@ -1,0 +1,131 @@
+package endpoints
+
+import (
+	"bytes"
+	"errors"
+	"net/http"
+	"net/url"
+	"strconv"
+
+	"rbac-node/internal/api"
+)
+
+// batch does the lines of a body in their order, with nothing between them. If a line can't be read or may not be done, none is.
+func (e *Endpoints) batch(r *request) (int, error) {
+	isStopped, err := readStop(r.RequestURI)
+	if err != nil {
+		return 0, err
+	}
+	var calls []*api.Call
+	leave, err := e.readLarge(r, func(body []byte) (err error) {
+		calls, err = api.ParseBatch(body)
+		return err
+	})
+	defer leave()
+	var at *api.LineError
+	if errors.As(err, &at) {
+		r.w.Header().Set("Office-Line", strconv.Itoa(at.Number))
+	}
+	if err == nil {
+		err = r.may(calls...)
+	}
+	if err != nil {
+		return 0, err
+	}
+	rule, err := api.RuleOf(r.Request)
+	if err != nil {
+		return 0, err
+	}
+	rule.IsStopped = isStopped
+	answers, err := e.do(r, rule, calls)
+	if err != nil {
+		return 0, err
+	}
+	r.done()
+	return writeLines(r.w, answers), nil
+}
+
+// do returns the answers to the lines of a batch, up to the first that is refused if that ends them.
+func (e *Endpoints) do(r *request, rule api.Rule, lines []*api.Call) ([][]byte, error) {
+	if len(lines) == 0 {
+		return nil, nil
+	}
+	var queries []*query // nil for a line that the office itself answers
+	var asked []*api.Call
+	views, hasQuery := make([]view, len(lines)), false
+	for i, line := range lines {
+		queries = append(queries, nil)
+		if line.Function != api.DecideByUser {
+			asked = append(asked, line)
+			continue
+		}
+		q := queryOf(line)
+		questions, err := e.questionsAbout(&q, &views[i])
+		if err != nil {
+			return nil, err
+		}
+		queries[i], hasQuery = &q, true
+		asked = append(asked, questions...)
+	}
+	if hasQuery && rule.IsStopped && api.NewBatch(r.kind, lines...).Kind == api.Command {
+		// The office doesn't know whether such a line is refused.
+		return nil, notRead("with stop=first a batch of commands has no %s", api.DecideByUser)
+	}
+	found, err := e.ask(r, rule, asked...)
+	if err != nil {
+		return nil, err
+	}
+	var answers [][]byte
+	for i := 0; len(found) > 0; i++ {
+		if queries[i] == nil {
+			answers, found = append(answers, found[0]), found[1:]
+		} else {
+			decided, err := queries[i].find(found[:askedOfUser], views[i])
+			if err != nil {
+				return nil, err
+			}
+			answers, found = append(answers, decided.text()), found[askedOfUser:]
+		}
+		if lines[i].Function == checkAccess || queries[i] != nil {
+			e.decided(r, queryOf(lines[i]), decisionOf(answers[i]))
+		}
+		if rule.IsStopped && !api.IsAccepted(answers[i]) {
+			break
+		}
+	}
+	return answers, nil
+}
+
+// queryOf returns what a line asks to be decided.
+func queryOf(line *api.Call) query {
+	return query{session: line.Texts["session"], user: line.Texts["user"], operation: line.Texts["operation"], object: line.Texts["object"]}
+}
+
+// readStop reads from the target of a request whether a batch ends after the first line that is refused.
+func readStop(target string) (bool, error) {
+	at, err := url.ParseRequestURI(target)
+	if err != nil {
+		return false, errNoQuery
+	}
+	switch at.RawQuery {
+	case "":
+		return false, nil
+	case "stop=first":
+		return true, nil
+	}
+	return false, notRead("a batch has no query but stop=first")
+}
+
+// writeLines answers a request with lines of JSON.
+func writeLines(w http.ResponseWriter, lines [][]byte) int {
+	var text bytes.Buffer
+	for _, line := range lines {
+		text.Write(line)
+		text.WriteByte('\n')
+	}
+	w.Header().Set("Content-Type", "application/jsonl")
+	w.Header().Set("Content-Length", strconv.Itoa(text.Len()))
+	w.WriteHeader(http.StatusOK)
+	_, _ = w.Write(text.Bytes()) // If it fails, the client is gone.
+	return http.StatusOK
+}

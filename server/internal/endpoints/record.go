@@ -1,0 +1,170 @@
+package endpoints
+
+import (
+	"context"
+	"encoding/json"
+	"net/url"
+	"strconv"
+	"strings"
+
+	"rbac-node/internal/api"
+	"rbac-node/internal/recorded"
+)
+
+// A recording office may keep a record.
+type recording interface {
+	// Recorded returns entries of the record. It returns false if nothing is recorded.
+	Recorded(ctx context.Context, query recorded.Query) (page recorded.Page, is bool, err error)
+	// Links returns the next entries after one, as their links are computed. It returns false if nothing is recorded.
+	Links(ctx context.Context, after int64) (links recorded.Links, is bool, err error)
+}
+
+// An entry is one of the record, as it is answered.
+type entry struct {
+	Answer  json.RawMessage `json:"answer,omitempty"`
+	At      string          `json:"at"`
+	Caller  string          `json:"caller"`
+	Found   bool            `json:"found,omitempty"`
+	Number  int64           `json:"number"`
+	Reason  string          `json:"reason,omitempty"`
+	Request json.RawMessage `json:"request"`
+}
+
+// record answers the newest entries of the record that are wanted.
+func (e *Endpoints) record(r *request) (int, error) {
+	office, err := e.recording(r)
+	if err != nil {
+		return 0, err
+	}
+	query, err := readRecordQuery(r.URL.RawQuery)
+	if err != nil {
+		return 0, err
+	}
+	ctx, cancel := context.WithTimeout(r.ctx, readingTimeout)
+	defer cancel()
+	page, is, err := office.Recorded(ctx, query)
+	if err != nil {
+		return 0, err
+	}
+	if !is {
+		return 0, errNotHere
+	}
+	return r.replyRecord(page)
+}
+
+// recording returns the office if it may keep a record, and the caller may read that.
+func (e *Endpoints) recording(r *request) (recording, error) {
+	if err := r.may(api.NewOther(api.Record)); err != nil {
+		return nil, err
+	}
+	office, can := e.office.(recording)
+	if !can {
+		return nil, errNotHere
+	}
+	return office, nil
+}
+
+// links answers the next entries after one, as their links are computed, and the head that they lead to.
+func (e *Endpoints) links(r *request) (int, error) {
+	office, err := e.recording(r)
+	if err != nil {
+		return 0, err
+	}
+	after, err := strconv.ParseInt(strings.TrimPrefix(r.URL.RawQuery, "after="), 10, 64)
+	if err != nil || after < 0 {
+		return 0, notRead("after is the number of an entry, or 0")
+	}
+	ctx, cancel := context.WithTimeout(r.ctx, readingTimeout)
+	defer cancel()
+	found, is, err := office.Links(ctx, after)
+	if err != nil {
+		return 0, err
+	}
+	if !is {
+		return 0, errNotHere
+	}
+	return r.replyValue(struct {
+		Entries [][]string `json:"entries"`
+		First   int64      `json:"first"`
+		Head    string     `json:"head"`
+	}{append([][]string{}, found.Entries...), found.First, found.Head})
+}
+
+// replyRecord answers entries of the record.
+func (r *request) replyRecord(page recorded.Page) (int, error) {
+	value := struct {
+		Entries []entry `json:"entries"`
+		First   int64   `json:"first,omitempty"`
+		Head    string  `json:"head"`
+		Next    int64   `json:"next,omitempty"`
+	}{Entries: []entry{}, Head: page.Head}
+	if page.First > 1 {
+		value.First = page.First
+	}
+	for _, one := range page.Entries {
+		value.Entries = append(value.Entries, entry{
+			json.RawMessage(one.Answer), one.At, one.Caller, one.IsFound, one.N, one.Reason, json.RawMessage(one.Request),
+		})
+		if page.HasMore {
+			value.Next = one.N
+		}
+	}
+	return r.replyValue(value)
+}
+
+// readRecordQuery reads which entries are wanted.
+func readRecordQuery(text string) (query recorded.Query, err error) {
+	values, err := url.ParseQuery(text)
+	if err != nil {
+		return query, errNoQuery
+	}
+	query.Limit = usualRows
+	for key, given := range values {
+		text, err := only(key, given)
+		if err == nil {
+			err = setFilter(&query, key, text)
+		}
+		if err != nil {
+			return query, err
+		}
+	}
+	return query, nil
+}
+
+// setFilter sets what a key of a query chooses.
+func setFilter(query *recorded.Query, key, text string) (err error) {
+	texts := map[string]*string{
+		"user": &query.User, "role": &query.Role, "object": &query.Object, "operation": &query.Operation, "set": &query.Set,
+		"session": &query.Session, "reason": &query.Reason, "caller": &query.Caller, "function": &query.Function,
+	}
+	times := map[string]*string{"since": &query.Since, "until": &query.Until}
+	switch {
+	case texts[key] != nil:
+		*texts[key] = text
+		if _, isKnown := api.KindOf(text); key == "function" && text != "" && !isKnown {
+			return notRead("there is no function %s", echoed(text))
+		}
+	case times[key] != nil:
+		if *times[key], err = recorded.ParseTime(text); err != nil {
+			return notRead("%s: %s", key, err)
+		}
+	case key == "refused":
+		query.IsRefused = text == "true"
+		if text != "true" && text != "false" {
+			return notRead("refused is true or false")
+		}
+	case key == "limit":
+		query.Limit, err = strconv.Atoi(text)
+		if err != nil || query.Limit < 1 || query.Limit > mostRows {
+			return notRead("limit is a number from 1 to %d", mostRows)
+		}
+	case key == "before":
+		query.Before, err = strconv.ParseInt(text, 10, 64)
+		if err != nil || query.Before < 1 {
+			return notRead("before is the number of an entry")
+		}
+	default:
+		return notRead("the record has no filter %s", echoed(key))
+	}
+	return nil
+}

@@ -1,0 +1,262 @@
+package endpoints
+
+import (
+	"bufio"
+	"context"
+	"encoding/json"
+	"errors"
+	"fmt"
+	"net"
+	"net/http"
+	"net/http/httputil"
+	"strconv"
+	"strings"
+	"time"
+
+	"rbac-node/internal/api"
+	"rbac-node/internal/reports"
+)
+
+const (
+	// reportsPath is where a report is asked for by its name, and read by a ticket.
+	reportsPath = "/reports/"
+	// longestFilter is how many bytes the body of such a request has at most.
+	longestFilter = 4096
+	// slotTimeout is how long a report waits for another one that is being read, and reportTimeout how long it may take.
+	slotTimeout, reportTimeout = 10 * time.Second, 5 * time.Minute
+	// rightInterval is how often the right to a report is judged while it is read, and pieceBytes how much is written at once.
+	rightInterval, pieceBytes = time.Second, 1 << 16
+)
+
+// reporting is held by the one report that is being read.
+var reporting = make(chan struct{}, 1)
+
+// A reportQuery is what is asked for: a report, which of its lines, how many of them, and whether they are CSV.
+type reportQuery struct {
+	reports.Filter
+	name  string
+	most  int64
+	isCSV bool
+}
+
+// report answers a ticket for a report, and how many lines it has. None of them has been made.
+func (e *Endpoints) report(r *request) (int, error) {
+	if err := r.may(api.NewOther(api.Reports)); err != nil {
+		return 0, err
+	}
+	s, err := e.known(r)
+	if err != nil {
+		return 0, err
+	}
+	query, err := readReportQuery(r)
+	if err != nil {
+		return 0, err
+	}
+	office := e.tickets.freeze(s)
+	made, err := reports.New(query.name, office, query.Filter)
+	if err != nil {
+		return 0, err
+	}
+	api.Point{Policy: office.Numbers.Policy}.SetHead(r.w.Header())
+	if made.Lines > reports.MostLines {
+		text := fmt.Sprintf(`{"code":%d,"error":"BadRequest","lines":%d}`, errNotRead.Code, made.Lines)
+		return r.reply(http.StatusRequestEntityTooLarge, []byte(text)), nil
+	}
+	name, err := e.tickets.add(&ticket{query: query, office: office, request: r.Request, visitor: r.visitor})
+	if err != nil {
+		return 0, err
+	}
+	r.w.Header().Set("Cache-Control", "no-store")
+	return r.replyValue(struct {
+		At      string   `json:"at"`
+		Columns []string `json:"columns,omitempty"`
+		Lines   int64    `json:"lines"`
+		Policy  int64    `json:"policy"`
+		Seconds int      `json:"seconds"`
+		Ticket  string   `json:"ticket"`
+	}{office.At.UTC().Format(timeForm), made.Columns, made.Lines, office.Numbers.Policy, int(ticketAge / time.Second), name})
+}
+
+// readReportQuery reads which lines of a report are wanted.
+func readReportQuery(r *request) (query reportQuery, err error) {
+	query = reportQuery{name: strings.TrimPrefix(r.URL.Path, reportsPath), most: reports.MostLines, isCSV: true}
+	keys, known := reports.Filters(query.name)
+	if !known {
+		return query, noSuch("report", query.name)
+	}
+	body, err := api.ReadBody(r.Request, longestFilter)
+	if err != nil {
+		return query, err
+	}
+	fields := map[string]json.RawMessage{}
+	if len(body) > 0 {
+		if fields, err = api.Fields(body); err != nil {
+			return query, err
+		}
+	}
+	for key, value := range fields {
+		if err := query.set(keys, key, value); err != nil {
+			return query, err
+		}
+	}
+	query.isCSV = query.isCSV && query.name != "dump"
+	return query, nil
+}
+
+// set sets what a key means. An empty text chooses nothing, as if it were left out.
+func (q *reportQuery) set(keys []string, key string, value json.RawMessage) (err error) {
+	texts := map[string]*string{
+		"user": &q.User, "role": &q.Role, "object": &q.Object, "operation": &q.Operation, "set": &q.Set,
+	}
+	switch place, isText := texts[key]; {
+	case key == "format":
+		text, err := api.Text(value)
+		if err != nil || text != "csv" && text != "lines" {
+			return notRead("format is csv or lines")
+		}
+		q.isCSV = text == "csv"
+	case key == "limit":
+		q.most, err = strconv.ParseInt(string(value), 10, 64)
+		if err != nil || q.most < 1 {
+			return notRead("limit is a number from 1")
+		}
+	case !has(keys, key):
+		return notRead("the report %s has no key %s", q.name, echoed(key))
+	case isText:
+		if *place, err = api.Text(value); err != nil {
+			return notRead("%s has to be a text", key)
+		}
+	default: // It is left.
+		q.Left, err = strconv.ParseInt(string(value), 10, 64)
+		if q.HasLeft = true; err != nil {
+			return notRead("left has to be a number")
+		}
+	}
+	return nil
+}
+
+// ServeTicket answers a request with the report of its ticket, if it is one for a report. Who has the ticket needs no other identity:
+// a browser sends none with a download.
+func (e *Endpoints) ServeTicket(w http.ResponseWriter, r *http.Request) bool {
+	if r.Method != http.MethodGet || !strings.HasPrefix(r.URL.Path, reportsPath) {
+		return false
+	}
+	start := time.Now()
+	status, err := e.serveTicket(w, r)
+	if err != nil {
+		refused := api.Unavailable
+		_ = errors.As(err, &refused)
+		status = api.Refuse(w, refused)
+	}
+	e.Note("report", status, start)
+	return true
+}
+
+func (e *Endpoints) serveTicket(w http.ResponseWriter, r *http.Request) (int, error) {
+	name := strings.TrimPrefix(r.RequestURI, reportsPath)
+	if !e.tickets.has(name) {
+		return 0, api.UnknownFunction
+	}
+	hijacker, can := w.(http.Hijacker)
+	if !can {
+		return 0, api.BadRequest(http.StatusBadRequest)
+	}
+	select {
+	case reporting <- struct{}{}:
+		defer func() { <-reporting }()
+	case <-time.After(slotTimeout): // The ticket may be of use later.
+		return 0, api.Unavailable
+	case <-e.life.Done():
+		return 0, api.Unavailable
+	}
+	one := e.tickets.take(name)
+	if one == nil {
+		return 0, api.UnknownFunction
+	}
+	ctx, cancel := context.WithTimeout(e.life, reportTimeout)
+	defer cancel()
+	if err := one.again(ctx); err != nil {
+		return 0, err
+	}
+	made, err := reports.New(one.query.name, one.office, one.query.Filter)
+	if err != nil {
+		return 0, err
+	}
+	conn, _, err := hijacker.Hijack()
+	if err != nil {
+		return 0, err
+	}
+	defer conn.Close()
+	// The times of requests are over. What is written at once has a time of its own.
+	_, _ = conn.SetReadDeadline(time.Time{}), conn.SetWriteDeadline(time.Time{})
+	if one.write(ctx, conn, made) != nil {
+		return http.StatusOK, nil // The client sees that the end is missing.
+	}
+	return http.StatusOK, nil
+}
+
+// again reports whether the caller may still read reports, by the callers that are in force now.
+func (t *ticket) again(ctx context.Context) error {
+	if t.visitor == nil {
+		return nil
+	}
+	return t.visitor.Again(ctx, t.request, api.Reports, func() {})
+}
+
+// head returns the head of the answer. The name of the file says which report it is, of when, and of which revision of the policy.
+func (t *ticket) head() string {
+	sort, ending := "text/csv; charset=utf-8", "csv"
+	if !t.query.isCSV {
+		sort, ending = "application/jsonl", "jsonl"
+	}
+	file := fmt.Sprintf("%s-%s-revision-%d.%s", t.query.name, t.office.At.UTC().Format("2006-01-02"), t.office.Numbers.Policy, ending)
+	return "HTTP/1.1 200 OK\r\nContent-Type: " + sort + "\r\nContent-Disposition: attachment; filename=\"" + file + "\"\r\n" +
+		"Policy-Revision: " + strconv.FormatInt(t.office.Numbers.Policy, 10) + "\r\nContent-Security-Policy: default-src 'none'; sandbox\r\n" +
+		"X-Content-Type-Options: nosniff\r\nCache-Control: no-store\r\nReferrer-Policy: no-referrer\r\n" +
+		"Cross-Origin-Resource-Policy: same-origin\r\nTransfer-Encoding: chunked\r\nConnection: close\r\n\r\n"
+}
+
+// write writes the report to a connection, piece by piece, while the right to it holds.
+func (t *ticket) write(ctx context.Context, conn net.Conn, made *reports.Report) error {
+	if _, err := conn.Write([]byte(t.head())); err != nil {
+		return err
+	}
+	chunked := httputil.NewChunkedWriter(conn)
+	pieces := bufio.NewWriterSize(&rightful{ticket: t, ctx: ctx, to: chunked, judged: time.Now()}, pieceBytes)
+	write := made.WriteLines
+	if t.query.isCSV {
+		write = made.WriteCSV
+	}
+	if err := write(pieces, t.query.most); err != nil {
+		return err
+	}
+	if err := pieces.Flush(); err != nil {
+		return err
+	}
+	if err := chunked.Close(); err != nil {
+		return err
+	}
+	_, err := conn.Write([]byte("\r\n"))
+	return err
+}
+
+// A rightful writer writes while the right to a report holds, and its time isn't over.
+type rightful struct {
+	ticket *ticket
+	ctx    context.Context
+	to     interface{ Write([]byte) (int, error) }
+	judged time.Time
+}
+
+func (w *rightful) Write(text []byte) (int, error) {
+	if err := w.ctx.Err(); err != nil {
+		return 0, err
+	}
+	if time.Since(w.judged) >= rightInterval {
+		if err := w.ticket.again(w.ctx); err != nil {
+			return 0, err
+		}
+		w.judged = time.Now()
+	}
+	return w.to.Write(text)
+}

@@ -1,0 +1,112 @@
+package endpoints
+
+import (
+	"context"
+	"encoding/hex"
+	"strconv"
+	"strings"
+
+	"rbac-node/internal/api"
+	"rbac-node/internal/recorded"
+)
+
+// A noting office may keep a record, in which an entry can be that is no command.
+type noting interface {
+	// Note keeps an entry, and returns its number. It returns false if nothing is recorded.
+	Note(ctx context.Context, entry *api.Call) (number int64, is bool, err error)
+}
+
+const (
+	// longestReview is the most bytes of a review's name, and mostReviewed how many lines it has at most.
+	longestReview, mostReviewed = 256, 1_000_000
+	// mostReviewBytes is the most bytes of a request that ends a review.
+	mostReviewBytes = 4096
+	// sumBytes is how many bytes a SHA-256 digest has.
+	sumBytes = 32
+)
+
+// A review is what is recorded of one that has ended: its name, the digest of its list, and how many lines of it were kept, removed
+// and left open.
+type review struct {
+	Name    string
+	Digest  string
+	Kept    int
+	Removed int
+	Open    int
+}
+
+// endReview records that a review of who has what has ended.
+func (e *Endpoints) endReview(r *request) (int, error) {
+	if err := r.may(api.NewOther(api.Review)); err != nil {
+		return 0, err
+	}
+	office, can := e.office.(noting)
+	if !can {
+		return 0, errNotHere
+	}
+	ended, err := readReview(r)
+	if err != nil {
+		return 0, err
+	}
+	entry := api.NewEntry(api.Review, ended.text())
+	if err := r.sign(entry); err != nil {
+		return 0, err
+	}
+	number, is, err := office.Note(r.ctx, entry)
+	if err != nil {
+		return 0, err
+	}
+	if !is {
+		return 0, errNotHere
+	}
+	return r.replyValue(struct {
+		Number int64 `json:"number"`
+	}{number})
+}
+
+// readReview reads what a review is.
+func readReview(r *request) (ended review, err error) {
+	body, err := api.ReadBody(r.Request, mostReviewBytes)
+	if err != nil {
+		return ended, err
+	}
+	fields, err := api.Fields(body)
+	if err != nil {
+		return ended, err
+	}
+	if ended.Name, err = api.TextAt(fields, "review"); err != nil {
+		return ended, err
+	}
+	if !isReviewName(ended.Name) {
+		return ended, notRead("review has 1 to %d bytes, and no control character", longestReview)
+	}
+	if ended.Digest, err = api.TextAt(fields, "sha256"); err != nil {
+		return ended, err
+	}
+	if sum, err := hex.DecodeString(ended.Digest); err != nil || len(sum) != sumBytes || ended.Digest != strings.ToLower(ended.Digest) {
+		return ended, notRead("sha256 has %d digits of 0 to 9 and a to f", 2*sumBytes)
+	}
+	for key, count := range map[string]*int{"kept": &ended.Kept, "removed": &ended.Removed, "open": &ended.Open} {
+		if *count, err = strconv.Atoi(string(fields[key])); err != nil || *count < 0 || *count > mostReviewed {
+			return ended, notRead("%s is a number from 0 to %d", key, mostReviewed)
+		}
+	}
+	return ended, nil
+}
+
+// isReviewName reports whether a review can have a name.
+func isReviewName(name string) bool {
+	return name != "" && len(name) <= longestReview && strings.IndexFunc(name, func(letter rune) bool {
+		return letter < ' ' || 0x7f <= letter && letter < 0xa0
+	}) < 0
+}
+
+// text returns the entry of a review as it is recorded. Its keys are in this order.
+func (ended review) text() []byte {
+	text := append([]byte(recorded.ReviewPrefix), `"review":`...)
+	text = append(api.AppendQuoted(text, ended.Name), `,"sha256":`...)
+	text = append(api.AppendQuoted(text, ended.Digest), `,"kept":`...)
+	text = append(strconv.AppendInt(text, int64(ended.Kept), 10), `,"removed":`...)
+	text = append(strconv.AppendInt(text, int64(ended.Removed), 10), `,"open":`...)
+	return append(strconv.AppendInt(text, int64(ended.Open), 10), '}')
+}

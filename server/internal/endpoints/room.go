@@ -1,0 +1,22 @@
+package endpoints
+
+import (
+	"rbac-node/internal/api"
+	"rbac-node/internal/state"
+)
+
+// room answers how many there are of each kind, and how many there may be.
+func (e *Endpoints) room(r *request) (int, error) {
+	if err := r.may(api.NewOther(api.Lists)); err != nil {
+		return 0, err
+	}
+	s, err := e.known(r)
+	if err != nil {
+		return 0, err
+	}
+	rooms, numbers := s.Rooms()
+	r.isAt(numbers)
+	return r.replyValue(struct {
+		Room []state.Room `json:"room"`
+	}{rooms})
+}

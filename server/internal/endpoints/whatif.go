@@ -1,0 +1,68 @@
+package endpoints
+
+import (
+	"context"
+	"errors"
+	"net/http"
+	"strconv"
+
+	"rbac-node/internal/api"
+	"rbac-node/internal/trial"
+)
+
+// A trying office can do commands over a copy of itself.
+type trying interface {
+	// Try does commands over a copy, and returns what they would change. It calls the function when the office has been copied.
+	Try(ctx context.Context, copied func(), commands []*api.Call) (*trial.Result, error)
+}
+
+// mostTried is how many bytes the lines of commands that are tried have at most.
+const mostTried = 262_144
+
+// whatIf answers what commands would change. They are done over a copy of the office.
+func (e *Endpoints) whatIf(r *request) (int, error) {
+	if err := r.may(api.NewOther(api.WhatIf)); err != nil {
+		return 0, err
+	}
+	office, can := e.office.(trying)
+	if !can {
+		return 0, errNotHere
+	}
+	if _, err := e.known(r); err != nil {
+		return 0, err
+	}
+	commands, err := readTried(r)
+	if err != nil {
+		return 0, err
+	}
+	result, err := office.Try(r.ctx, r.done, commands)
+	if err != nil {
+		return 0, err
+	}
+	api.Point{Policy: result.Revision}.SetHead(r.w.Header())
+	return r.replyValue(result)
+}
+
+// readTried reads the commands that are to be tried, which are lines as those of a batch.
+func readTried(r *request) ([]*api.Call, error) {
+	body, err := api.ReadBody(r.Request, mostTried)
+	if err != nil {
+		return nil, err
+	}
+	calls, err := api.ParseBatch(body)
+	for i := range calls {
+		if calls[i].Kind != api.Command {
+			refused := api.BadRequestSince(http.StatusBadRequest, "%s is no command, and changes nothing", calls[i].Function)
+			err = &api.LineError{Number: api.LineOf(body, i), Refusal: refused}
+			break
+		}
+	}
+	var at *api.LineError
+	if errors.As(err, &at) {
+		r.w.Header().Set("Office-Line", strconv.Itoa(at.Number))
+	}
+	if err == nil && len(calls) == 0 {
+		err = notRead("the body has no command")
+	}
+	return calls, err
+}

@@ -1,0 +1,305 @@
+package feed
+
+import (
+	"bytes"
+	"context"
+	"errors"
+	"fmt"
+	"net/http/httptest"
+	"os"
+	"path/filepath"
+	"strings"
+	"sync"
+	"testing"
+	"time"
+
+	"rbac-node/internal/api"
+	"rbac-node/internal/logs"
+	"rbac-node/internal/metrics"
+	"rbac-node/internal/office"
+)
+
+// A fake answers each line with the line itself in quotes, after what a word in the line makes it do. It is started as the
+// program is. The file counts how often it was started.
+const fake = `#!/bin/sh
+echo >> "$2.starts"
+[ ! -e "$2.refuses" ] || exit 3
+while read -r line; do
+    case $line in
+    *die*) exit 4 ;;
+    *leave*) exit 0 ;;
+    *hang*) exec sleep 1000 ;;
+    *no*) echo '{"code":2,"error":"NoUser"}' ;;
+    *) echo '{"ok":true,"value":'"$line"'}' ;;
+    esac
+done
+`
+
+// many is more reads than any test needs.
+const many = 1 << 40
+
+// A bench is a feed with the fake.
+type bench struct {
+	*Feed
+	file string
+	log  *syncBuffer
+	stop context.CancelFunc
+	end  chan error
+}
+
+// A syncBuffer is a buffer that many goroutines may use.
+type syncBuffer struct {
+	mutex  sync.Mutex
+	buffer bytes.Buffer
+}
+
+func (b *syncBuffer) Write(p []byte) (int, error) {
+	b.mutex.Lock()
+	defer b.mutex.Unlock()
+	return b.buffer.Write(p)
+}
+
+func (b *syncBuffer) String() string {
+	b.mutex.Lock()
+	defer b.mutex.Unlock()
+	return b.buffer.String()
+}
+
+func (b *syncBuffer) has(text string) bool { return strings.Contains(b.String(), text) }
+
+func optionsOf(t *testing.T, file string, hangTimeout time.Duration, log *logs.Logger) Options {
+	program := filepath.Join(filepath.Dir(file), "program")
+	if err := os.WriteFile(program, []byte(fake), 0o700); err != nil {
+		t.Fatal(err)
+	}
+	return Options{
+		Name: "office", Start: func() (*office.Replay, error) { return office.Start(program, file, hangTimeout) },
+		First: [][]byte{[]byte("1"), []byte("2")}, Reads: many, Log: log,
+		Figures: NewFigures(&metrics.Registry{}),
+	}
+}
+
+func open(t *testing.T, reads int64, hangTimeout time.Duration) *bench {
+	t.Helper()
+	b := &bench{file: filepath.Join(t.TempDir(), "office"), log: &syncBuffer{}, end: make(chan error, 1)}
+	options := optionsOf(t, b.file, hangTimeout, logs.New(b.log))
+	options.Reads = reads
+	var err error
+	if b.Feed, err = Open(context.Background(), options); err != nil {
+		t.Fatal(err)
+	}
+	ctx, stop := context.WithCancel(context.Background())
+	b.stop = stop
+	go func() { b.end <- b.Run(ctx) }()
+	t.Cleanup(stop)
+	return b
+}
+
+func (b *bench) starts() int {
+	text, _ := os.ReadFile(b.file + ".starts")
+	return strings.Count(string(text), "\n")
+}
+
+// until waits until something holds.
+func until(t *testing.T, what string, holds func() bool) {
+	t.Helper()
+	for end := time.Now().Add(20 * time.Second); !holds(); time.Sleep(5 * time.Millisecond) {
+		if time.Now().After(end) {
+			t.Fatalf("not in time: %s", what)
+		}
+	}
+}
+
+// within returns a context that ends in time.
+func within(t *testing.T, limit time.Duration) context.Context {
+	ctx, cancel := context.WithTimeout(context.Background(), limit)
+	t.Cleanup(cancel)
+	return ctx
+}
+
+func TestAsk(t *testing.T) {
+	b := open(t, many, time.Minute)
+	var all sync.WaitGroup
+	for client := 0; client < 20; client++ {
+		client := client
+		all.Add(1)
+		go func() {
+			defer all.Done()
+			for i := 0; i < 50; i++ {
+				lines := [][]byte{[]byte(fmt.Sprint(client)), []byte(fmt.Sprint(i))}
+				answers, err := b.Ask(within(t, 20*time.Second), lines...)
+				if err != nil || len(answers) != 2 {
+					t.Errorf("%v, %v", answers, err)
+					return
+				}
+				for k := range lines {
+					if want := fmt.Sprintf(`{"ok":true,"value":%s}`, lines[k]); string(answers[k]) != want {
+						t.Errorf("%s and not %s", answers[k], want)
+					}
+				}
+			}
+		}()
+	}
+	all.Wait()
+	if answers, err := b.Ask(context.Background()); answers != nil || err != nil {
+		t.Errorf("no lines: %v, %v", answers, err)
+	}
+	b.stop()
+	if err := <-b.end; err != nil {
+		t.Error(err)
+	}
+}
+
+func TestEndOfReplay(t *testing.T) {
+	for _, test := range []struct {
+		name, word  string
+		hangTimeout time.Duration
+		says        string
+	}{
+		{"it fails", "die", time.Minute, "the replay has ended"},
+		{"it leaves without an answer", "leave", time.Minute, "the replay has ended"},
+		{"it hangs", "hang", time.Second, "it answered nothing for too long"},
+	} {
+		t.Run(test.name, func(t *testing.T) {
+			b := open(t, many, test.hangTimeout)
+			limit := within(t, time.Minute)
+			if _, err := b.Ask(limit, []byte("a"), []byte(test.word), []byte("b")); err != api.Unavailable || limit.Err() != nil {
+				t.Errorf("%v and not %v, %v", err, api.Unavailable, limit.Err())
+			}
+			answers, err := b.Ask(within(t, 20*time.Second), []byte("7"))
+			if err != nil || string(answers[0]) != `{"ok":true,"value":7}` {
+				t.Errorf("after the end: %s, %v", answers, err)
+			}
+			if !b.log.has(test.says) || b.starts() != 2 {
+				t.Errorf("%d starts; the log: %s", b.starts(), b.log)
+			}
+		})
+	}
+}
+
+func TestReplayThatDoesNotStart(t *testing.T) {
+	b := open(t, many, time.Minute)
+	if err := os.WriteFile(b.file+".refuses", nil, 0o600); err != nil {
+		t.Fatal(err)
+	}
+	_, _ = b.Ask(within(t, 20*time.Second), []byte("die"))
+	until(t, "the feed says why", func() bool { return strings.Contains(b.Why(), "doesn't start") })
+	start := time.Now()
+	if _, err := b.Ask(within(t, time.Minute), []byte("7")); err != api.Unavailable || time.Since(start) > 30*time.Second {
+		t.Errorf("%v after %v", err, time.Since(start))
+	}
+	if err := os.Remove(b.file + ".refuses"); err != nil {
+		t.Fatal(err)
+	}
+	until(t, "it answers again", func() bool {
+		answers, err := b.Ask(within(t, 20*time.Second), []byte("8"))
+		return err == nil && string(answers[0]) == `{"ok":true,"value":8}`
+	})
+	if b.Why() != "" || strings.Count(b.log.String(), "doesn't start") != 1 {
+		t.Errorf("why: %q; the log: %s", b.Why(), b.log)
+	}
+}
+
+func TestStartAnew(t *testing.T) {
+	for _, test := range []struct {
+		name string
+		busy bool
+	}{{"at a quiet moment", false}, {"without one", true}} {
+		t.Run(test.name, func(t *testing.T) {
+			b := open(t, 40, time.Minute)
+			b.AlsoFirst([]byte("3"))
+			stop := make(chan struct{})
+			var all sync.WaitGroup
+			for client := 0; client < 4; client++ {
+				all.Add(1)
+				go func() {
+					defer all.Done()
+					for i := 0; ; i++ {
+						select {
+						case <-stop:
+							return
+						default:
+						}
+						if _, err := b.Ask(within(t, 20*time.Second), []byte("1")); err != nil {
+							t.Errorf("an answer is missing: %v", err)
+						}
+						if !test.busy {
+							time.Sleep(20 * time.Millisecond)
+						}
+					}
+				}()
+			}
+			until(t, "it is started anew", func() bool { return b.starts() > 2 })
+			close(stop)
+			all.Wait()
+			if b.log.has(`"level":"error"`) || b.log.has("failed") {
+				t.Error(b.log.String())
+			}
+		})
+	}
+}
+
+func TestFirstLines(t *testing.T) {
+	for _, test := range []struct {
+		name  string
+		first string
+		index int
+	}{{"the first", "no 2 3", 0}, {"a later one", "1 no no", 1}, {"the last", "1 2 no", 2}} {
+		t.Run(test.name, func(t *testing.T) {
+			options := optionsOf(t, filepath.Join(t.TempDir(), "office"), time.Minute, logs.New(&bytes.Buffer{}))
+			options.First = bytes.Fields([]byte(test.first))
+			_, err := Open(context.Background(), options)
+			refused := (*RefusedError)(nil)
+			if !errors.As(err, &refused) || refused.Index != test.index || refused.Answer != `{"code":2,"error":"NoUser"}` {
+				t.Errorf("%v", err)
+			}
+		})
+	}
+}
+
+// A feed whose replay hangs says so before it is killed, and not afterwards.
+func TestHungReplay(t *testing.T) {
+	b := open(t, many, 2*silenceTimeout)
+	if why := b.Why(); why != "" {
+		t.Errorf("why: %q", why)
+	}
+	go func() { _, _ = b.Ask(within(t, time.Minute), []byte("hang")) }()
+	until(t, "the feed says why", func() bool { return strings.Contains(b.Why(), "answered nothing") })
+	until(t, "it answers again", func() bool { return b.starts() == 2 && b.Why() == "" })
+}
+
+func TestTimeout(t *testing.T) {
+	b := open(t, many, time.Minute)
+	go func() { _, _ = b.Ask(within(t, 20*time.Second), []byte("hang")) }()
+	until(t, "a line hangs", func() bool { return len(b.sent) == 1 })
+	if _, err := b.Ask(within(t, 50*time.Millisecond), []byte("1")); err != api.Unavailable {
+		t.Errorf("%v and not %v", err, api.Unavailable)
+	}
+	ended, cancel := context.WithCancel(context.Background())
+	cancel()
+	if _, err := b.Ask(ended, []byte("1")); err != api.Unavailable {
+		t.Errorf("%v and not %v", err, api.Unavailable)
+	}
+}
+
+// The figures say how long the replay took, how often it was started, and how much waits for it, by the name of the feed.
+func TestFigures(t *testing.T) {
+	registry := &metrics.Registry{}
+	figures := NewFigures(registry)
+	waiting := 3
+	figures.begin("office", func() int { return 7 })
+	figures.begin("office", func() int { return waiting }) // As after a reload.
+	figures.starts.Add("office")
+	figures.seconds.Observe("office", 0.0001)
+	answer := httptest.NewRecorder()
+	registry.ServeHTTP(answer, nil)
+	for _, wanted := range []string{
+		`rbac_node_replay_starts_total{replay="office"} 1`, `rbac_node_replay_waiting{replay="office"} 3`,
+		`rbac_node_replay_answer_seconds_bucket{replay="office",le="5e-05"} 0`, `rbac_node_replay_answer_seconds_bucket{replay="office",le="0.0001"} 1`,
+		`rbac_node_replay_answer_seconds_count{replay="office"} 1`,
+	} {
+		if !strings.Contains(answer.Body.String(), wanted+"\n") {
+			t.Errorf("no %s in %s", wanted, answer.Body.String())
+		}
+	}
+}

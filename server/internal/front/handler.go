@@ -1,0 +1,269 @@
+package front
+
+import (
+	"context"
+	"encoding/json"
+	"errors"
+	"math"
+	"net"
+	"net/http"
+	"strings"
+	"sync/atomic"
+	"time"
+
+	"rbac-node/internal/api"
+	"rbac-node/internal/callers"
+	"rbac-node/internal/console"
+	"rbac-node/internal/web"
+)
+
+// requestField is the field in which a client of AuthZEN numbers its requests.
+const requestField = "X-Request-Id"
+
+// ServeHTTP answers a request, unless it comes from a foreign page or nobody knows who asks.
+func (f *Front) ServeHTTP(w http.ResponseWriter, r *http.Request) {
+	if !isFramed(w, r) {
+		web.Refused(r.Context())
+		api.Refuse(w, api.BadRequest(http.StatusNotImplemented))
+		return
+	}
+	if id := r.Header[requestField]; len(id) > 0 && strings.HasPrefix(r.URL.Path, "/access/") {
+		w.Header()[requestField] = id[:1] // As AuthZEN wants it, whatever is answered.
+	}
+	if !f.isServing.Load() {
+		f.serveStart(w, r)
+		return
+	}
+	if origins, has := r.Header["Origin"]; has && !f.areOwn(origins) && !(f.endpoints != nil && isOwnPage(r, origins)) {
+		api.Close(w)
+		f.refuse(w, r, "", errors.New("a page of "+strings.Join(origins, ", ")), api.ForeignOrigin)
+		return
+	}
+	if f.IsHostChecked && f.guard == nil && f.isLocal && !isLocalHost(r.Host) {
+		api.Close(w)
+		f.refuse(w, r, "", errors.New("the host "+r.Host), api.ForeignHost)
+		return
+	}
+	if r.URL.Path == "/healthz" {
+		f.serveHealth(w, r)
+		return
+	}
+	if f.endpoints != nil && (f.endpoints.ServeConfiguration(w, r) || f.endpoints.ServeTicket(w, r)) {
+		return
+	}
+	if f.endpoints != nil && console.Has(r) {
+		start := time.Now()
+		f.handler.Note("page", console.Serve(w, r), start)
+		return
+	}
+	if f.guard == nil {
+		f.answer(w, r, nil)
+		return
+	}
+	visit, why, err := f.guard.Enter(r)
+	if err != nil {
+		f.refuse(w, r, "", why, refusalOf(err))
+		return
+	}
+	defer visit.Leave()
+	f.answer(w, r, visit)
+}
+
+// isFramed reports whether a request has no transfer coding, which the front doesn't accept. It ends the connection behind a request of
+// which two might not see the same end, such as the front and a proxy before it: RFC 9112, section 6, says which are. Of a length beside
+// a coding the library says nothing, and nothing of a coding in HTTP/1.0. What else is wrong with a length it refuses itself.
+func isFramed(w http.ResponseWriter, r *http.Request) bool {
+	if len(r.TransferEncoding) > 0 || !r.ProtoAtLeast(1, 1) {
+		api.Close(w)
+	}
+	return len(r.TransferEncoding) == 0
+}
+
+// serveStart answers before the office does: it reports what the start does.
+func (f *Front) serveStart(w http.ResponseWriter, r *http.Request) {
+	if r.URL.Path != "/healthz" {
+		api.Refuse(w, api.Unavailable)
+		return
+	}
+	stage, _ := f.stage.Load().(string)
+	replyUnready(w, "starting: "+stage)
+}
+
+// serveHealth reports the condition of the office, unless no caller can be judged. Strangers learn no more than what doesn't work: the
+// reasons have paths of files and what programs have said.
+func (f *Front) serveHealth(w http.ResponseWriter, r *http.Request) {
+	isStranger := f.guard != nil && !f.guard.Knows(r)
+	switch why := f.whyUnjudged(); {
+	case why != "" && isStranger:
+		replyUnready(w, "no caller can be judged")
+	case why != "":
+		replyUnready(w, "callers: "+why)
+	case isStranger:
+		f.office.ServeHealth(&discreet{ResponseWriter: w}, r)
+	default:
+		f.office.ServeHealth(w, r)
+	}
+}
+
+// whyUnjudged returns why no caller can be judged, or an empty text.
+func (f *Front) whyUnjudged() string {
+	if f.guard == nil {
+		return ""
+	}
+	return f.guard.Why()
+}
+
+// A discreet writer passes a condition on without reasons. Each is written at once.
+type discreet struct{ http.ResponseWriter }
+
+func (d *discreet) Write(text []byte) (int, error) {
+	var condition map[string]any
+	if json.Unmarshal(text, &condition) != nil {
+		return len(text), nil
+	}
+	if condition["why"] == nil && condition["record"] == nil {
+		return d.ResponseWriter.Write(text)
+	}
+	for key, instead := range map[string]string{"why": "the office doesn't answer", "record": "commands can't be recorded"} {
+		if _, has := condition[key]; has {
+			condition[key] = instead
+		}
+	}
+	said, _ := json.Marshal(condition) // It was JSON.
+	if _, err := d.ResponseWriter.Write(append(said, '\n')); err != nil {
+		return 0, err
+	}
+	return len(text), nil
+}
+
+// replyUnready reports why nothing can be answered.
+func replyUnready(w http.ResponseWriter, why string) {
+	text, _ := json.Marshal(map[string]any{"ready": false, "why": why})
+	w.Header().Set("Content-Type", "application/json")
+	w.WriteHeader(http.StatusServiceUnavailable)
+	_, _ = w.Write(append(text, '\n')) // If it fails, the client is gone.
+}
+
+// answer answers a request of a caller, or of anybody if there is no visit.
+func (f *Front) answer(w http.ResponseWriter, r *http.Request, visit *callers.Visit) {
+	if f.HasMetrics && r.RequestURI == "/metrics" && r.Method == http.MethodGet {
+		f.answerMetrics(w, r, visit)
+		return
+	}
+	if f.endpoints != nil && f.endpoints.Has(r) {
+		f.answerEndpoint(w, r, visit)
+		return
+	}
+	if visit == nil {
+		f.handler.Serve(w, r, anybody{r}, func() {})
+		return
+	}
+	f.handler.Serve(w, r, &judge{f, r, visit}, visit.Done)
+}
+
+// Anybody may do everything.
+type anybody struct{ *http.Request }
+
+func (a anybody) MayAny(context.Context, string) error        { return nil }
+func (a anybody) May(_ context.Context, call *api.Call) error { return sign(a.Request, nil, call) }
+func (a anybody) Caller() string                              { return callerOf(a.Request, nil) }
+
+// A judge lets a caller do what it may do, and notes what else it asks for.
+type judge struct {
+	front *Front
+	*http.Request
+	visit *callers.Visit
+}
+
+func (j *judge) MayAny(ctx context.Context, function string) error {
+	return j.front.denied(j.Request, j.visit, j.visit.MayAny(ctx, function))
+}
+
+func (j *judge) Caller() string { return j.visit.Caller }
+
+func (j *judge) May(ctx context.Context, call *api.Call) error {
+	if err := sign(j.Request, j.visit, call); err != nil {
+		return err
+	}
+	return j.front.denied(j.Request, j.visit, j.visit.May(ctx, call))
+}
+
+// denied notes that a caller may not do what it asks for, unless there is no error. What it still sends may come late.
+func (f *Front) denied(r *http.Request, visit *callers.Visit, err error) error {
+	if err == nil {
+		return nil
+	}
+	refusal := refusalOf(err)
+	if refusal == api.Forbidden {
+		web.Refused(r.Context())
+	}
+	f.note(r, visit.Caller, errDenied, refusal)
+	return err
+}
+
+// answerMetrics reports the metrics to a caller who may read them.
+func (f *Front) answerMetrics(w http.ResponseWriter, r *http.Request, visit *callers.Visit) {
+	if visit != nil {
+		if err := visit.MayRead(r.Context(), callers.Metrics); err != nil {
+			f.refuse(w, r, visit.Caller, errDenied, refusalOf(err))
+			return
+		}
+	}
+	f.Metrics.ServeHTTP(w, r)
+}
+
+// refusalOf returns how an error is answered.
+func refusalOf(err error) api.Refusal {
+	refusal := api.Unavailable
+	_ = errors.As(err, &refusal)
+	return refusal
+}
+
+// areOwn reports whether all origins of a request are those of the front's pages.
+func (f *Front) areOwn(origins []string) bool {
+	for _, origin := range origins {
+		if !f.origins[origin] {
+			return false
+		}
+	}
+	return len(origins) > 0
+}
+
+// isOwnPage reports whether a page of the front itself has sent a request: its origin is where the request was sent to, and no other
+// site can have made that name mean this machine. Either the name belongs to the machine, or the certificate vouches for it, or the
+// request has a token, which a browser doesn't send by itself.
+func isOwnPage(r *http.Request, origins []string) bool {
+	scheme := "http://"
+	if r.TLS != nil {
+		scheme = "https://"
+	}
+	if len(origins) != 1 || r.Host == "" || !strings.EqualFold(origins[0], scheme+r.Host) {
+		return false
+	}
+	return r.TLS != nil || isLocalHost(r.Host) || len(r.Header["Authorization"]) > 0
+}
+
+// isLocalHost reports whether a Host is a name of this machine that no other name can be made to mean. A request without one
+// does not come from a browser.
+func isLocalHost(host string) bool {
+	if host == "" {
+		return true
+	}
+	name := host
+	if before, _, err := net.SplitHostPort(host); err == nil {
+		name = before
+	}
+	name = strings.TrimSuffix(strings.TrimPrefix(name, "["), "]")
+	if strings.EqualFold(name, "localhost") {
+		return true
+	}
+	ip := net.ParseIP(name)
+	return ip != nil && ip.IsLoopback()
+}
+
+// A gauge is a number that many goroutines may use.
+type gauge struct{ bits atomic.Uint64 }
+
+func (g *gauge) store(value float64) { g.bits.Store(math.Float64bits(value)) }
+
+func (g *gauge) load() float64 { return math.Float64frombits(g.bits.Load()) }

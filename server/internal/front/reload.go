@@ -1,0 +1,69 @@
+package front
+
+import (
+	"context"
+	"time"
+
+	"rbac-node/internal/api"
+	"rbac-node/internal/callers"
+)
+
+// settling is how long it may take until all requests are done that earlier callers have sent.
+const settling = 2 * time.Minute
+
+// ReloadOnSignal reads the files of the callers again whenever SIGHUP comes, until the context ends. The certificate of the front
+// is read for each connection.
+func (f *Front) ReloadOnSignal(ctx context.Context) {
+	for {
+		select {
+		case <-f.Hangups:
+		case <-ctx.Done():
+			return
+		}
+		if f.guard == nil {
+			f.Log.Info("there are no callers to read")
+			continue
+		}
+		f.reload(ctx)
+	}
+}
+
+// reload puts the callers of the files in force. If one of the files is refused, those before stay.
+func (f *Front) reload(ctx context.Context) {
+	set, err := callers.Load(ctx, f.Callers)
+	if err != nil {
+		if f.refusedAt.load() == 0 {
+			f.refusedAt.store(float64(time.Now().UnixNano()) / 1e9)
+		}
+		f.Log.Error("the callers are refused, and those before stay in force", "why", err)
+		return
+	}
+	f.refusedAt.store(0)
+	within, cancel := context.WithTimeout(ctx, settling)
+	defer cancel()
+	if err := f.guard.Replace(within, set, f.ask); err != nil {
+		f.Log.Warn("the callers are in force, but requests of the earlier ones may still be done", "why", err)
+		return
+	}
+	f.Log.Info("the callers are in force", "callers", set.Count())
+}
+
+// ask asks the office for something that changes nothing. All that was asked before has then been done.
+func (f *Front) ask(ctx context.Context) error {
+	call, err := api.NewCall("ssdRoleSets")
+	if err != nil {
+		return err
+	}
+	if ordered, can := f.office.(settler); can {
+		if err := ordered.Settle(ctx); err != nil {
+			return err
+		}
+	}
+	_, err = f.office.Do(ctx, api.NewBatch(api.Question, call))
+	return err
+}
+
+// A settler also waits for commands that nobody waits for any more.
+type settler interface {
+	Settle(ctx context.Context) error
+}

@@ -1,0 +1,60 @@
+package front
+
+import (
+	"net/http"
+	"unicode/utf8"
+
+	"rbac-node/internal/api"
+	"rbac-node/internal/callers"
+)
+
+const (
+	// reasonField is the field in which a client says why it asks for a command, and longestReason the most bytes of that.
+	reasonField   = "Office-Reason"
+	longestReason = 256
+	// openCaller is who asks if everybody who can connect may do everything.
+	openCaller = "open"
+)
+
+var badReason = api.Refusal{Status: http.StatusBadRequest, Code: 34, Name: "BadRequest"}
+
+// sign writes on a command who asks for it and why.
+func sign(r *http.Request, visit *callers.Visit, call *api.Call) error {
+	if call.Kind != api.Command && call.Kind != api.Entry {
+		return nil
+	}
+	call.Caller = callerOf(r, visit)
+	reasons := r.Header[reasonField]
+	if len(reasons) == 0 {
+		return nil
+	}
+	if len(reasons) > 1 || !isReason(reasons[0]) {
+		return badReason
+	}
+	call.Reason = reasons[0]
+	return nil
+}
+
+// callerOf returns who asks.
+func callerOf(r *http.Request, visit *callers.Visit) string {
+	if visit != nil {
+		return visit.Caller
+	}
+	if user := callers.PeerOf(r); user != "" {
+		return user
+	}
+	return openCaller
+}
+
+// isReason reports whether a text can be recorded: it is short, and it is valid text without control characters.
+func isReason(text string) bool {
+	if len(text) > longestReason || !utf8.ValidString(text) {
+		return false
+	}
+	for _, letter := range text {
+		if letter < ' ' || 0x7f <= letter && letter < 0xa0 || letter == '\u2028' || letter == '\u2029' {
+			return false
+		}
+	}
+	return true
+}

@@ -1,0 +1,267 @@
+package node
+
+import (
+	"context"
+	"errors"
+	"fmt"
+	"io"
+	"sync"
+	"sync/atomic"
+	"testing"
+	"time"
+
+	"rbac-node/internal/api"
+	"rbac-node/internal/boottime"
+	"rbac-node/internal/ledger"
+	"rbac-node/internal/logs"
+	"rbac-node/internal/metrics"
+	"rbac-node/internal/office"
+)
+
+// A fakeLog is a log in memory. Its Register fails if it is full.
+type fakeLog struct {
+	mutex      sync.Mutex
+	revision   int64
+	state      ledger.State
+	isFull     bool
+	hasNoRules bool
+	refusals   atomic.Int64
+	// done is what the node had done at the last read of the head, and lost why that fails.
+	done       ledger.Place
+	lost       error
+	registered []ledger.Member
+	// lives are the runs that nodes have said, and unnamed why a name is refused.
+	lives   []ledger.Life
+	unnamed error
+	entries chan ledger.Entry
+}
+
+func newFakeLog() *fakeLog { return &fakeLog{entries: make(chan ledger.Entry, 100)} }
+
+var errFull = errors.New("no space")
+
+func (l *fakeLog) Append(_ context.Context, id string, units []ledger.Unit) (entry ledger.Entry, before int64, err error) {
+	l.mutex.Lock()
+	defer l.mutex.Unlock()
+	if l.isFull {
+		return entry, 0, errFull
+	}
+	l.revision++
+	return ledger.Entry{Place: ledger.Place{Revision: l.revision, ID: id}, Units: units, Form: ledger.Form}, l.revision - 1, nil
+}
+
+func (l *fakeLog) Head(_ context.Context, done ledger.Place) (int64, error) {
+	l.mutex.Lock()
+	defer l.mutex.Unlock()
+	l.done = done
+	return l.revision, l.lost
+}
+
+func (l *fakeLog) Follow(ctx context.Context, _ int64, deliver func(ledger.Entry) error) error {
+	for {
+		select {
+		case entry := <-l.entries:
+			if err := deliver(entry); err != nil {
+				return err
+			}
+		case <-ctx.Done():
+			return ctx.Err()
+		}
+	}
+}
+
+func (l *fakeLog) State(context.Context) (ledger.State, error) {
+	l.mutex.Lock()
+	defer l.mutex.Unlock()
+	return l.state, nil
+}
+
+func (l *fakeLog) Trim(context.Context, ledger.State, int64) (int64, error) { return 0, nil }
+
+func (l *fakeLog) HasRules() bool { return !l.hasNoRules }
+
+func (l *fakeLog) First(context.Context) (int64, error) { return 1000, nil }
+
+func (l *fakeLog) Raise(context.Context, ledger.State) (bool, error) { return false, nil }
+
+func (l *fakeLog) Register(_ context.Context, member ledger.Member) error {
+	l.mutex.Lock()
+	defer l.mutex.Unlock()
+	if l.isFull {
+		l.refusals.Add(1)
+		return errFull
+	}
+	l.registered = append(l.registered, member)
+	return nil
+}
+
+func (l *fakeLog) UseLeader(context.Context) {}
+
+// Live fails as the log says.
+func (l *fakeLog) Live(_ context.Context, life ledger.Life) error {
+	l.mutex.Lock()
+	defer l.mutex.Unlock()
+	l.lives = append(l.lives, life)
+	return l.unnamed
+}
+
+func (l *fakeLog) Leave(context.Context) {}
+
+// setFull makes a log refuse what it is asked to keep, or not.
+func (l *fakeLog) setFull(isFull bool) {
+	l.mutex.Lock()
+	defer l.mutex.Unlock()
+	l.isFull = isFull
+}
+
+func (l *fakeLog) registrations() int {
+	l.mutex.Lock()
+	defer l.mutex.Unlock()
+	return len(l.registered)
+}
+
+// A fakeReplay answers each line with its number, or what it is to say, as soon as it is not paused. It ends after the most reads, if that is not 0.
+type fakeReplay struct {
+	says        func(line string) string
+	most, reads int64
+	mutex       sync.Mutex
+	lines       []string
+	times       []boottime.Moment
+	waiting     []func([]byte)
+	isPaused    bool
+	ended       chan struct{}
+	once        sync.Once
+}
+
+func newFakeReplay() *fakeReplay { return &fakeReplay{ended: make(chan struct{})} }
+
+func (r *fakeReplay) Send(line []byte, answered func([]byte)) {
+	r.mutex.Lock()
+	defer r.mutex.Unlock()
+	r.lines, r.times = append(r.lines, string(line)), append(r.times, boottime.Now())
+	r.waiting = append(r.waiting, answered)
+	if r.reads += office.ReadsOf(line); r.most > 0 && r.reads > r.most {
+		r.once.Do(func() { close(r.ended) })
+		return
+	}
+	r.answer()
+}
+
+// answer answers all that waits, unless the replay is paused.
+func (r *fakeReplay) answer() {
+	for !r.isPaused && len(r.waiting) > 0 {
+		number := len(r.lines) - len(r.waiting)
+		text := fmt.Sprint(number)
+		if r.says != nil {
+			text = r.says(r.lines[number])
+		}
+		r.waiting[0]([]byte(text))
+		r.waiting = r.waiting[1:]
+	}
+}
+
+func (r *fakeReplay) pause(isPaused bool) {
+	r.mutex.Lock()
+	defer r.mutex.Unlock()
+	r.isPaused = isPaused
+	r.answer()
+}
+
+func (r *fakeReplay) sent() []string {
+	r.mutex.Lock()
+	defer r.mutex.Unlock()
+	return append([]string{}, r.lines...)
+}
+
+// sentAt returns when a line was sent.
+func (r *fakeReplay) sentAt(line string) (at boottime.Moment) {
+	r.mutex.Lock()
+	defer r.mutex.Unlock()
+	for i, text := range r.lines {
+		if text == line {
+			at = r.times[i]
+		}
+	}
+	return at
+}
+
+func (r *fakeReplay) Flush()                 {}
+func (r *fakeReplay) Ended() <-chan struct{} { return r.ended }
+
+func (r *fakeReplay) Close() error {
+	r.once.Do(func() { close(r.ended) })
+	return nil
+}
+
+// newNode returns a node with fakes, whose replay was started.
+func newNode(t *testing.T) (*Node, *fakeLog, *fakeReplay) {
+	log, first := newFakeLog(), newFakeReplay()
+	n, err := New(Options{
+		Name: "a", Data: t.TempDir(), Scratch: t.TempDir(), Program: "/nonexistent",
+		SnapshotCommands: 1000, SnapshotBytes: 1 << 20, AnswerTimeout: 5 * time.Second, HangTimeout: time.Minute,
+		Reads: 1 << 40,
+	}, log, logs.New(io.Discard), &metrics.Registry{})
+	if err != nil {
+		t.Fatal(err)
+	}
+	n.replay = first
+	n.open = func() (replay, error) { return newFakeReplay(), nil }
+	return n, log, first
+}
+
+// running runs parts of a node until the test ends.
+func running(t *testing.T, parts ...func(context.Context) error) {
+	ctx, cancel := context.WithCancel(context.Background())
+	var group sync.WaitGroup
+	for _, part := range parts {
+		part := part
+		group.Add(1)
+		go func() { defer group.Done(); _ = part(ctx) }()
+	}
+	t.Cleanup(func() { cancel(); group.Wait() })
+}
+
+// eventually waits until something holds.
+func eventually(t *testing.T, what string, holds func() bool) {
+	for deadline := time.Now().Add(20 * time.Second); !holds(); time.Sleep(time.Millisecond) {
+		if time.Now().After(deadline) {
+			t.Fatalf("not in time: %s", what)
+		}
+	}
+}
+
+func entry(revision int64, lines ...string) ledger.Entry {
+	u := ledger.Unit{}
+	for _, line := range lines {
+		u.Lines = append(u.Lines, []byte(line))
+	}
+	return ledger.Entry{Place: ledger.Place{Revision: revision, ID: fmt.Sprint(revision)}, Units: []ledger.Unit{u}}
+}
+
+// of returns a batch of one call.
+func of(kind api.Kind, line string) api.Batch {
+	call := &api.Call{Kind: kind, Line: []byte(line)}
+	if kind == api.Local {
+		call.Kind = api.Question
+	}
+	return api.NewBatch(kind, call)
+}
+
+func member(name string, snapshots ...office.Snapshot) ledger.Member {
+	return ledger.Member{Name: name, Snapshots: snapshots}
+}
+
+func members(all ...ledger.Member) []ledger.Member { return all }
+
+func at(revision int64) office.Snapshot { return office.Snapshot{Revision: revision, Digest: "d"} }
+
+// other is a snapshot with other rows, and copy one that was fetched.
+func other(s office.Snapshot) office.Snapshot {
+	s.Digest = "e"
+	return s
+}
+
+func fetched(s office.Snapshot) office.Snapshot {
+	s.Copied = true
+	return s
+}

@@ -1,0 +1,367 @@
+// Package node keeps one copy of an office that follows the log, and answers from it.
+//
+// One goroutine feeds the replay: the commands of the log in their order, and questions between them. So the state in
+// which a question is answered is that after the entries fed before it, and an answer is always the one that the
+// program returns.
+package node
+
+import (
+	"bytes"
+	"context"
+	"fmt"
+	"net/http"
+	"path/filepath"
+	"sync"
+	"sync/atomic"
+	"time"
+
+	"golang.org/x/sync/errgroup"
+
+	"rbac-node/internal/api"
+	"rbac-node/internal/boottime"
+	"rbac-node/internal/faults"
+	"rbac-node/internal/ledger"
+	"rbac-node/internal/logs"
+	"rbac-node/internal/metrics"
+	"rbac-node/internal/office"
+	"rbac-node/internal/recorded"
+	"rbac-node/internal/state"
+)
+
+const (
+	// maxBatchLines is how many requests one batch may have, and maxBatchBytes how many bytes of commands.
+	maxBatchLines, maxBatchBytes = 512, 512 << 10
+	// If no more than fewClients ask, a batch waits as long as batchDelay for those of the one before.
+	fewClients, batchDelay = 8, time.Millisecond
+	// readInterval is the time between two reads of the log if nobody asks.
+	readInterval = 500 * time.Millisecond
+)
+
+// A Log has the commands of an office in the order in which all nodes apply them, and what nodes report about
+// themselves.
+type Log interface {
+	Append(ctx context.Context, id string, units []ledger.Unit) (entry ledger.Entry, before int64, err error)
+	Head(ctx context.Context, done ledger.Place) (int64, error)
+	Follow(ctx context.Context, after int64, deliver func(ledger.Entry) error) error
+	State(ctx context.Context) (ledger.State, error)
+	Trim(ctx context.Context, state ledger.State, needless int64) (floor int64, err error)
+	Raise(ctx context.Context, state ledger.State) (bool, error)
+	HasRules() bool
+	First(ctx context.Context) (int64, error)
+	Register(ctx context.Context, member ledger.Member) error
+	Live(ctx context.Context, life ledger.Life) error
+	Leave(ctx context.Context)
+	UseLeader(ctx context.Context)
+}
+
+// A replay answers lines in their order.
+type replay interface {
+	Send(line []byte, answered func(answer []byte))
+	Flush()
+	Ended() <-chan struct{}
+	Close() error
+}
+
+// Options are what the command line sets for a node.
+type Options struct {
+	// Name is the name of this node, which no other has. Peer is the URL at which other nodes fetch its snapshots.
+	Name, Peer string
+	// Data is the folder of the snapshots, and Scratch that of the office in use.
+	Data, Scratch string
+	// Program is the path of the proved program.
+	Program string
+	// After SnapshotCommands commands, or SnapshotBytes bytes of them, all nodes take a snapshot. Both are the same on
+	// all.
+	SnapshotCommands, SnapshotBytes int64
+	// AnswerTimeout is how long a request waits for its answer.
+	AnswerTimeout time.Duration
+	// HangTimeout is how long a replay may leave lines without an answer before it is killed.
+	HangTimeout time.Duration
+	// Reads is after how many reads of its input a replay is started anew at a quiet moment. It ends by itself after
+	// 1,000,000,000 reads.
+	Reads int64
+	// Fetch is the client with which snapshots of other nodes are fetched.
+	Fetch *http.Client
+	// IsOpen says that everybody who can connect may do everything.
+	IsOpen bool
+	// SessionAge is after how much time a session ends. Zero is never.
+	SessionAge time.Duration
+	// Record is nil if the node keeps none.
+	Record recorded.Follower
+}
+
+// File returns the path of the office in use.
+func (o *Options) File() string { return filepath.Join(o.Scratch, "office", "office") }
+
+// A Node is one copy of the office.
+type Node struct {
+	options Options
+	store   *office.Store
+	shared  Log
+	log     *logs.Logger
+	start   time.Time
+	// open starts a replay of the office in use.
+	open func() (replay, error)
+	// asked has the requests that wait to be sent, by their kinds.
+	asked map[api.Kind]chan *request
+	// copies has the copies of the office that are to become snapshots.
+	copies chan copied
+	// pending has the batches of this node that may come from the log, by their names.
+	pending sync.Map
+	// progress is that of the replay, order what its answers say, and state what they say about the office, or nil if this program can't
+	// read the rows of one.
+	progress progress
+	order    order
+	state    *state.State
+
+	// tasks has what the goroutine that feeds the replay has to do. The other fields belong to that goroutine: held has
+	// the tasks that wait until entries are fed. revision and count are those of what was fed, bytes counts since the
+	// last place of a snapshot, reads are the most times that the replay can have read its input, and err is the reason
+	// why the goroutine has to end.
+	tasks           chan task
+	replay          replay
+	held            []task
+	revision, count int64
+	bytes, reads    int64
+	err             error
+	// isRecorded says that the log has begun to say who asks, and resumed is the revision of the snapshot of the start.
+	isRecorded bool
+	resumed    int64
+
+	// isFed is set when that goroutine runs.
+	isFed atomic.Bool
+	// applied is the place of the log up to which all entries have their answers.
+	applied atomic.Pointer[place]
+	// done is the place of the last entry that was fed, or of the snapshot of the start.
+	done atomic.Pointer[ledger.Place]
+	// heard is the moment when the newest read of the log began whose entries all have their answers. Before the first one it is that of
+	// the start, below zero.
+	heard atomic.Int64
+	// snapshot is the revision of the newest snapshot, seen that of the newest entry that is known, and rank how many nodes come before
+	// this one in the order of their names. stage says what a start does.
+	snapshot, seen, rank atomic.Int64
+	stage                atomic.Value
+	// life is what etcd has while this run goes on.
+	life ledger.Life
+	// isRegistered says that etcd has what this node has to report. outvoted says why most nodes have outvoted this one, and
+	// isOutvotedKept that its folder says so. They belong to the goroutine that finishes snapshots.
+	isRegistered, isOutvotedKept bool
+	outvoted                     string
+	// isFailing says that the last snapshot that was begun has failed.
+	isFailing atomic.Bool
+	// differs is the text that describes where this node differs from most others, or empty.
+	differs atomic.Value
+}
+
+// A task is done by the goroutine that feeds the replay, once all entries up to the revision after are fed.
+type task struct {
+	after int64
+	do    func()
+}
+
+// A place in the log is a revision, and how many commands there are up to it.
+type place struct{ revision, count int64 }
+
+// New returns a node over a log. It does nothing until Run is called.
+func New(options Options, shared Log, log *logs.Logger, registry *metrics.Registry) (*Node, error) {
+	store, err := office.Open(options.Data, options.Program)
+	if err != nil {
+		return nil, err
+	}
+	n := &Node{
+		options: options, store: store, shared: shared, log: log, start: time.Now(),
+		copies: make(chan copied, 1), tasks: make(chan task, maxBatchLines),
+		asked: map[api.Kind]chan *request{
+			api.Command:  make(chan *request, maxBatchLines),
+			api.Question: make(chan *request, maxBatchLines),
+			api.Local:    make(chan *request, maxBatchLines),
+		},
+	}
+	n.open = func() (replay, error) { return office.Start(options.Program, n.file(), options.HangTimeout) }
+	n.state = state.New(state.Numbers{})
+	n.heard.Store(-int64(boottime.Now()))
+	n.applied.Store(&place{})
+	n.done.Store(&ledger.Place{})
+	n.differs.Store("")
+	n.stage.Store("etcd is asked")
+	n.addMetrics(registry)
+	if err := n.beginLife(); err != nil {
+		return nil, err
+	}
+	return n, n.readOutvoted()
+}
+
+// Snapshots serves the newest snapshot.
+func (n *Node) Snapshots() http.Handler { return n.store }
+
+// Run keeps the copy until the context ends or something fails. After a failure the node has to be started anew: it
+// recovers from its newest snapshot then.
+func (n *Node) Run(life context.Context) error {
+	defer n.leave()
+	if err := n.enter(life); err != nil {
+		return err
+	}
+	group, ctx := errgroup.WithContext(life)
+	group.Go(func() error { return n.live(ctx) })
+	group.Go(func() error { return n.work(ctx) })
+	return group.Wait()
+}
+
+// work recovers the office, and keeps it until the context ends or something fails.
+func (n *Node) work(life context.Context) error {
+	if err := n.recoverOffice(life); err != nil {
+		return fmt.Errorf("recovery: %w", err)
+	}
+	group, ctx := errgroup.WithContext(life)
+	for _, part := range []func(context.Context) error{
+		n.feed, n.readLog, n.appendCommands, n.confirm, n.confirm, n.maintain, n.expire,
+	} {
+		part := part
+		group.Go(func() error { return part(ctx) })
+	}
+	err := group.Wait()
+	closed := n.replay.Close()
+	if failed := n.closeRecord(); closed == nil {
+		closed = failed
+	}
+	if life.Err() != nil {
+		return closed
+	}
+	return err
+}
+
+// readLog feeds the entries of the log.
+func (n *Node) readLog(ctx context.Context) error {
+	return n.shared.Follow(ctx, n.applied.Load().revision, func(entry ledger.Entry) error {
+		return n.submit(ctx, task{0, func() { n.apply(entry) }})
+	})
+}
+
+// submit makes the goroutine that feeds the replay do a task, unless the context ends before it can begin.
+func (n *Node) submit(ctx context.Context, one task) error {
+	select {
+	case n.tasks <- one:
+		return nil
+	case <-ctx.Done():
+		return ctx.Err()
+	}
+}
+
+// feed passes all work to the replay until the context or the replay ends.
+func (n *Node) feed(ctx context.Context) error {
+	n.isFed.Store(true)
+	for {
+		select {
+		case one := <-n.tasks:
+			n.perform(one)
+		case r := <-n.asked[api.Local]:
+			n.sendQuestions(r)
+		case <-n.replay.Ended():
+			// Nobody knows which of the lines were done.
+			if faults.Has(faults.OutlivesReplay) {
+				if n.replay, n.err = n.open(); n.err == nil {
+					continue
+				}
+			}
+			if err := n.replay.Close(); err != nil {
+				return err
+			}
+			return errReplayEnded
+		case <-n.recordFailed():
+			return n.options.Record.Failure()
+		case <-ctx.Done():
+			return nil
+		}
+		if n.err != nil {
+			return n.err
+		}
+		isQuiet := len(n.tasks)+len(n.asked[api.Local]) == 0
+		if isQuiet {
+			n.replay.Flush()
+		}
+		if n.reads >= n.options.Reads && (isQuiet || n.reads >= n.options.Reads+n.options.Reads/10) {
+			if err := n.renew(); err != nil {
+				return err
+			}
+		}
+	}
+}
+
+// send passes a line to the replay.
+func (n *Node) send(line []byte, answered func(answer []byte)) {
+	if faults.Has(faults.LeavesOut) && n.options.Name == "n2" && bytes.Contains(line, []byte(`"user":"lost`)) {
+		line = []byte(probe)
+	}
+	n.reads += office.ReadsOf(line)
+	n.progress.send()
+	n.replay.Send(line, func(text []byte) {
+		answered(text)
+		n.progress.answer()
+	})
+}
+
+// renew starts another replay when the one there is has answered everything.
+func (n *Node) renew() error {
+	n.log.Info("starting the replay anew", "reads", n.reads)
+	if err := n.replay.Close(); err != nil {
+		return err
+	}
+	return n.reopen()
+}
+
+// reopen starts a replay of the office in use, which no other one has open. One that has ended stays in place if that
+// fails.
+func (n *Node) reopen() error {
+	started, err := n.open()
+	if err != nil {
+		return err
+	}
+	n.replay, n.reads = started, 0
+	return nil
+}
+
+// perform does a task, or holds it until the entries before it are fed.
+func (n *Node) perform(one task) {
+	if one.after > n.revision {
+		n.held = append(n.held, one)
+		return
+	}
+	one.do()
+}
+
+// sendQuestions sends questions to the replay. The age of an answer counts until the client gets it, however long the replay
+// takes.
+func (n *Node) sendQuestions(questions ...*request) {
+	revision := n.revision
+	for _, q := range questions {
+		if !q.isWaiting() {
+			continue
+		}
+		q, texts := q, make([][]byte, len(q.batch.Calls))
+		newest, posed := n.newest(), boottime.Now()
+		for i, call := range q.batch.Calls {
+			i := i
+			n.ask(call, func(text []byte) {
+				if texts[i] = text; i == len(texts)-1 {
+					at := api.Point{Revision: revision, Newest: n.newest(), Policy: n.order.numbers.Policy}
+					if faults.Has(faults.TakesAnswersForNew) {
+						at.Newest = newest + boottime.Now() - posed
+					}
+					q.reply <- reply{answers: api.Answers{Texts: texts, Point: at}}
+				}
+			})
+		}
+	}
+}
+
+// newest returns the last moment at which the state after the last answer is known to have been the newest one.
+func (n *Node) newest() boottime.Moment {
+	heard := n.heard.Load()
+	if heard < 0 {
+		heard = -heard
+	}
+	return boottime.Moment(heard)
+}
+
+// file is the office in use.
+func (n *Node) file() string { return n.options.File() }

@@ -1,0 +1,223 @@
+package node
+
+import (
+	"context"
+	"errors"
+	"fmt"
+	"os"
+	"path/filepath"
+	"sort"
+	"time"
+
+	"rbac-node/internal/faults"
+	"rbac-node/internal/ledger"
+	"rbac-node/internal/office"
+)
+
+// recoverOffice makes the office in use from the newest snapshot. It writes nothing to etcd, which may be full,
+// but the number of the first command, if the log has none yet.
+func (n *Node) recoverOffice(ctx context.Context) error {
+	base, err := n.startSnapshot(ctx)
+	if err != nil {
+		return err
+	}
+	n.stage.Store(fmt.Sprintf("the office is made from the snapshot at revision %d", base.Revision))
+	if err := n.makeOffice(ctx, base); err != nil {
+		return err
+	}
+	if err := n.resumeRecord(ctx, base); err != nil {
+		return err
+	}
+	first, err := n.shared.First(ctx)
+	if faults.Has(faults.NumbersByItself) {
+		first, err = n.start.UnixNano(), nil
+	}
+	if err != nil {
+		return err
+	}
+	n.begin(base, first)
+	if err := n.state.Load(ctx, n.file()); err != nil {
+		return err
+	}
+	if err := n.reopen(); err != nil {
+		return err
+	}
+	n.revision, n.count = base.Revision, base.Count
+	n.applied.Store(&place{base.Revision, base.Count})
+	n.done.Store(&ledger.Place{Revision: base.Revision})
+	n.log.Info("recovered", "revision", base.Revision, "commands", base.Count)
+	n.stage.Store("not all of the log is applied yet")
+	state, err := n.shared.State(ctx)
+	if err != nil {
+		return err
+	}
+	return n.judgeNodes(state)
+}
+
+// makeOffice makes the office in use from a snapshot, or an empty one.
+func (n *Node) makeOffice(ctx context.Context, base office.Snapshot) error {
+	folder := filepath.Dir(n.file())
+	if err := os.RemoveAll(folder); err != nil {
+		return fmt.Errorf("old office: %w", err)
+	}
+	if err := os.MkdirAll(folder, 0o700); err != nil {
+		return fmt.Errorf("office: %w", err)
+	}
+	within, cancel := context.WithTimeout(ctx, checkTimeout)
+	defer cancel()
+	if base.Digest == "" {
+		return office.Run(within, n.options.Program, "init", n.file())
+	}
+	return n.store.Restore(within, base, n.file())
+}
+
+// startSnapshot returns the snapshot from which the log is to be followed. Without a digest it is the empty office at the
+// beginning.
+func (n *Node) startSnapshot(ctx context.Context) (newest office.Snapshot, err error) {
+	state, err := n.shared.State(ctx)
+	if err != nil {
+		return newest, err
+	}
+	found, err := n.store.List()
+	if err != nil {
+		return newest, err
+	}
+	if len(found) > 0 {
+		newest = found[0]
+	}
+	if newest.Revision > state.Revision {
+		return newest, fmt.Errorf("the snapshot is at revision %d and etcd only at %d: etcd was restored to an earlier time, "+
+			"so move the snapshots of all nodes that are newer away", newest.Revision, state.Revision)
+	}
+	switch {
+	case newest.Record == office.NoRecord && n.options.Record != nil:
+		n.log.Info("this node was without a record, which it can't go on with")
+	case newest.Revision >= state.Floor:
+		return newest, nil
+	default:
+		n.log.Info("the log no longer has what this node lacks", "floor", state.Floor)
+	}
+	return n.fetch(ctx)
+}
+
+// fetch returns a snapshot that it has fetched from another node. It asks all nodes until one has a snapshot that will
+// do.
+func (n *Node) fetch(ctx context.Context) (office.Snapshot, error) {
+	n.stage.Store("a snapshot of another node is fetched")
+	for {
+		state, err := n.shared.State(ctx)
+		if err != nil {
+			return office.Snapshot{}, err
+		}
+		for _, one := range n.offers(state) {
+			from := one.from.Name
+			s, err := n.store.Fetch(ctx, n.options.Fetch, one.from.Peer, one.revision, func(offered office.Snapshot) error {
+				return n.accept(ctx, from, offered)
+			})
+			if err == nil {
+				n.log.Info("fetched a snapshot", "from", from, "revision", s.Revision)
+				return s, nil
+			}
+			n.log.Warn("no snapshot from this node", "from", from, "revision", one.revision, "error", err)
+		}
+		select {
+		case <-time.After(lookInterval):
+		case <-ctx.Done():
+			return office.Snapshot{}, ctx.Err()
+		}
+	}
+}
+
+// An offer is a snapshot for which another node can be asked: its newest one, or that at a revision if that is not 0.
+type offer struct {
+	from     ledger.Member
+	revision int64
+}
+
+// offers returns the newest snapshots of all other nodes, and then earlier ones after which the log continues, the newest of them first:
+// if nodes differ at the last place, they may agree at an earlier one. From there this node comes to the last place by itself.
+func (n *Node) offers(state ledger.State) (newest []offer) {
+	var earlier []offer
+	for _, member := range state.Members {
+		if member.Name == n.options.Name {
+			continue
+		}
+		newest = append(newest, offer{member, 0})
+		for i := 1; i < len(member.Snapshots); i++ {
+			if revision := member.Snapshots[i].Revision; revision >= state.Floor {
+				earlier = append(earlier, offer{member, revision})
+			}
+		}
+	}
+	sort.SliceStable(earlier, func(i, j int) bool { return earlier[i].revision > earlier[j].revision })
+	return append(newest, earlier...)
+}
+
+// accept refuses a snapshot that another node offers unless the node has registered it, the log continues after it, and
+// no node has registered another digest at its revision: one of two nodes that differ is wrong, and nobody knows here
+// which. A node that is outvoted is known to be wrong. The other nodes may not have come to that revision yet, so it also refuses
+// all snapshots of a node that most others contest, but for one that those have too with whom it differs at another place.
+func (n *Node) accept(ctx context.Context, name string, offered office.Snapshot) error {
+	state, err := n.shared.State(ctx)
+	if err != nil {
+		return err
+	}
+	if offered.Record == office.NoRecord && n.options.Record != nil {
+		return errNotRecorded
+	}
+	if offered.Revision < state.Floor {
+		return fmt.Errorf("the snapshot is at revision %d, and the log begins after %d", offered.Revision, state.Floor)
+	}
+	out := outvoted(state.Members)
+	if why := out[name]; why != "" {
+		return errors.New(why)
+	}
+	isRegistered, right := false, except(state.Members, out)
+	for _, member := range right {
+		s, isThere := snapshotAt(member, offered.Revision)
+		if !isThere {
+			continue
+		}
+		if !s.IsSame(offered) {
+			return fmt.Errorf("the snapshot at revision %d differs from that of %s", offered.Revision, member.Name)
+		}
+		if member.Name != name {
+			continue
+		}
+		if why := difference(name, member.Snapshots, right); why != "" && !sharedByContesting(offered, member, right) {
+			return errors.New(why)
+		}
+		isRegistered = s.Count == offered.Count
+	}
+	if !isRegistered {
+		return fmt.Errorf("the snapshot at revision %d is not registered in etcd", offered.Revision)
+	}
+	return nil
+}
+
+// sharedByContesting reports whether each node has a snapshot that differs from a member at any place: what is wrong with one of them came
+// after it.
+func sharedByContesting(s office.Snapshot, member ledger.Member, others []ledger.Member) bool {
+	for _, other := range others {
+		for _, own := range member.Snapshots {
+			witness, is := snapshotAt(other, own.Revision)
+			if !is || witness.IsSame(own) {
+				continue
+			}
+			if shared, has := snapshotAt(other, s.Revision); !has || !shared.IsSame(s) {
+				return false
+			}
+		}
+	}
+	return true
+}
+
+// makers returns how many nodes have made a snapshot themselves.
+func makers(s office.Snapshot, members []ledger.Member) (count int) {
+	for _, member := range members {
+		if made, is := snapshotAt(member, s.Revision); is && !made.Copied && made.IsSame(s) {
+			count++
+		}
+	}
+	return count
+}

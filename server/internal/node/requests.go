@@ -1,0 +1,277 @@
+package node
+
+import (
+	"context"
+	"errors"
+	"fmt"
+	"net/http"
+	"time"
+
+	"rbac-node/internal/api"
+	"rbac-node/internal/boottime"
+	"rbac-node/internal/faults"
+	"rbac-node/internal/ledger"
+	"rbac-node/internal/recorded"
+	"rbac-node/internal/state"
+)
+
+// probe is a question that costs the office little.
+const probe = `{"fn":"sessionRoles","session":"-"}`
+
+// maxUnitBytes is how many bytes one request for commands may have in the log: etcd refuses values of more than 1.5 MiB, and the
+// requests before it in a batch have at most maxBatchBytes.
+const maxUnitBytes = 768 << 10
+
+// A request waits for its answers until over is closed.
+type request struct {
+	over  <-chan struct{}
+	batch api.Batch
+	reply chan reply
+	// unit is what the log gets if there are commands, but for the time, and size how many bytes that are.
+	unit ledger.Unit
+	size int
+}
+
+// newRequest returns a request.
+func newRequest(over <-chan struct{}, b api.Batch) *request {
+	r := &request{over: over, batch: b, reply: make(chan reply, 1)}
+	if b.Kind != api.Command {
+		return r
+	}
+	r.unit = ledger.Unit{At: recorded.TimeLayout, Rule: ruleOf(b), Bounds: true}
+	for _, call := range logged(b) {
+		if call.Kind == api.Command {
+			r.unit.Caller, r.unit.Reason = call.Caller, call.Reason // They are the same for all.
+		}
+		r.unit.Lines = append(r.unit.Lines, call.Line)
+	}
+	r.size = r.unit.Size()
+	return r
+}
+
+// A reply has the answers to a request, or why there are none.
+type reply struct {
+	answers api.Answers
+	err     error
+}
+
+// isWaiting reports whether somebody waits for the answer.
+func (r *request) isWaiting() bool {
+	select {
+	case <-r.over:
+		return false
+	default:
+		return true
+	}
+}
+
+// Do does a batch. The answers to commands are those of this node's replay at their place in the log.
+func (n *Node) Do(ctx context.Context, b api.Batch) (api.Answers, error) {
+	switch {
+	case n.differs.Load() != "":
+		return api.Answers{}, api.Diverged
+	case b.Kind == api.Local && n.heard.Load() < 0:
+		return api.Answers{}, api.Unavailable
+	case b.Kind == api.Command && ruleOf(b) != nil && !n.shared.HasRules():
+		return api.Answers{}, api.Upgrading
+	}
+	if err := n.admit(b); err != nil {
+		return api.Answers{}, err
+	}
+	if faults.Has(faults.AnswersByItself) && b.Kind == api.Question {
+		b.Kind = api.Local
+	}
+	if faults.Has(faults.JudgesBeforeLog) && b.Kind == api.Command && b.Rule.Policy > 0 {
+		if b.Rule.Policy != n.state.Numbers().Policy {
+			return api.Answers{}, api.Outdated
+		}
+		b.Rule.Policy = 0
+	}
+	n.touch(b.Calls)
+	within, cancel := context.WithTimeout(ctx, n.options.AnswerTimeout)
+	defer cancel()
+	r := newRequest(within.Done(), b)
+	if r.size > maxUnitBytes {
+		return api.Answers{}, api.BadRequest(http.StatusRequestEntityTooLarge)
+	}
+	if faults.Has(faults.AnswersBeforeLog) && b.Kind == api.Command {
+		r.over = ctx.Done()
+		return n.guess(r), nil
+	}
+	select {
+	case n.asked[b.Kind] <- r:
+	case <-within.Done():
+		return api.Answers{}, api.Unavailable
+	}
+	select {
+	case found := <-r.reply:
+		if n.differs.Load() != "" {
+			// It may have been found out while the request waited, such as that of a node that had just started.
+			return api.Answers{}, api.Diverged
+		}
+		return found.answers, found.err
+	case <-within.Done():
+		return api.Answers{}, api.Unavailable
+	}
+}
+
+// guess answers commands before the log has them, which is a fault.
+func (n *Node) guess(r *request) api.Answers {
+	n.asked[r.batch.Kind] <- r
+	texts := make([][]byte, len(r.batch.Calls))
+	for i := range texts {
+		texts[i] = []byte(`{"ok":true}`)
+	}
+	return api.Answers{Texts: texts, Point: api.Point{Revision: n.applied.Load().revision + 1}}
+}
+
+// touch says that the sessions are used which questions name.
+func (n *Node) touch(calls []*api.Call) {
+	for _, call := range calls {
+		if name, has := call.Texts["session"]; has && call.Kind == api.Question {
+			n.state.Touch(name)
+		}
+	}
+}
+
+// Await returns when the state has all that questions of a kind have to see.
+func (n *Node) Await(ctx context.Context, kind api.Kind) (api.Point, error) {
+	answers, err := n.Do(ctx, api.NewBatch(kind, &api.Call{Kind: api.Question, Line: []byte(probe)}))
+	return api.Point{Newest: answers.Newest}, err
+}
+
+// State returns what is known of the office.
+func (n *Node) State() *state.State { return n.state }
+
+// IsReady reports whether the node answers.
+func (n *Node) IsReady() bool { return n.status().Ready }
+
+// expire ends sessions that are too old.
+func (n *Node) expire(ctx context.Context) error {
+	if n.options.SessionAge <= 0 {
+		return nil
+	}
+	rank := func() int { return int(n.rank.Load()) }
+	n.state.Expire(ctx, n.options.SessionAge, 0, rank, func(ctx context.Context, call *api.Call) {
+		_, _ = n.Do(ctx, api.NewBatch(api.Question, call)) // It is tried again.
+	})
+	return nil
+}
+
+// gather waits for a number of requests, or for one if it is late, and adds all others that wait, as many as a batch
+// may have. Requests that nobody waits for any more are left out: they were never sent.
+func gather(ctx context.Context, from <-chan *request, least int, late <-chan time.Time) (found []*request) {
+	for size := 0; len(found) < maxBatchLines && size < maxBatchBytes; {
+		var r *request
+		select {
+		case r = <-from:
+		default:
+			if len(found) >= least {
+				return found
+			}
+			select {
+			case r = <-from:
+			case <-late:
+				least = 1
+				continue
+			case <-ctx.Done():
+				return found
+			}
+		}
+		if r.isWaiting() {
+			found, size = append(found, r), size+r.size
+		}
+	}
+	return found
+}
+
+// A batch of requests is one entry of the log. done is closed when all have their answers.
+type batch struct {
+	requests []*request
+	done     chan struct{}
+}
+
+// appendCommands puts commands into the log. Those that come while a batch is on its way go into the next one. If they
+// are few, they wait for the clients that have just been answered, which usually ask again at once: a small batch costs
+// etcd as much as a larger one.
+func (n *Node) appendCommands(ctx context.Context) error {
+	var late <-chan time.Time
+	for number, least := 0, 1; ; number++ {
+		b := &batch{gather(ctx, n.asked[api.Command], least, late), make(chan struct{})}
+		if len(b.requests) == 0 {
+			return nil
+		}
+		within, cancel := context.WithTimeout(ctx, n.options.AnswerTimeout)
+		err := n.appendBatch(within, fmt.Sprintf("%s-%x-%d", n.options.Name, n.start.UnixNano(), number), b)
+		if err != nil && ctx.Err() == nil {
+			n.log.Warn("commands that may be in the log or not", "commands", len(b.requests), "error", err)
+		}
+		least, late = 1, nil
+		if asked := len(b.requests) + len(n.asked[api.Command]); err == nil && asked <= fewClients {
+			select {
+			case <-b.done:
+				least, late = asked, time.After(batchDelay)
+			case <-within.Done():
+			}
+		}
+		cancel()
+	}
+}
+
+// appendBatch appends a batch and feeds it. It needn't be read from the log if the entries before it are fed.
+func (n *Node) appendBatch(ctx context.Context, id string, b *batch) error {
+	units, at := make([]ledger.Unit, len(b.requests)), time.Now().UTC().Format(recorded.TimeLayout)
+	for i, r := range b.requests {
+		units[i] = r.unit
+		units[i].At = at
+	}
+	n.pending.Store(id, b)
+	entry, before, err := n.shared.Append(ctx, id, units)
+	if err == nil && entry.Revision > 0 {
+		err = n.submit(ctx, task{before, func() { n.apply(entry) }})
+	}
+	if err == nil {
+		return nil
+	}
+	if _, isOurs := n.pending.LoadAndDelete(id); isOurs && ctx.Err() == nil {
+		// etcd has refused it, so that nobody needs to wait.
+		for _, r := range b.requests {
+			r.reply <- reply{err: api.Unavailable}
+		}
+	}
+	return err
+}
+
+// confirm reads the newest revision of the log through a quorum. One read is for all questions that wait when it
+// begins; those that come during the read wait for the next one. With each read the replay is probed, so that it is
+// known what it has answered, and that it answers. If the log no longer has what the replay has done, the node ends: so no question
+// is answered from what was taken back.
+func (n *Node) confirm(ctx context.Context) error {
+	for ctx.Err() == nil {
+		waiting, end := context.WithTimeout(ctx, readInterval)
+		questions := gather(waiting, n.asked[api.Question], 1, nil)
+		end()
+		read := boottime.Now()
+		within, cancel := context.WithTimeout(ctx, n.options.AnswerTimeout)
+		head, err := n.shared.Head(within, *n.done.Load())
+		if err == nil { // Otherwise the askers have waited long enough.
+			n.seen.Store(head)
+			_ = n.submit(within, task{head, func() {
+				n.send([]byte(probe), func([]byte) { n.hear(read) })
+				n.sendQuestions(questions...)
+			}})
+		}
+		cancel()
+		if errors.Is(err, ledger.ErrWentBack) {
+			return err
+		}
+	}
+	return nil
+}
+
+// hear notes that the state was the newest one at a moment.
+func (n *Node) hear(read boottime.Moment) {
+	if int64(read) > n.heard.Load() {
+		n.heard.Store(int64(read)) // Nobody else does, as answers come one after another.
+	}
+}

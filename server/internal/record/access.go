@@ -1,0 +1,226 @@
+package record
+
+import (
+	"context"
+	"database/sql"
+	"errors"
+	"fmt"
+	"os"
+	"path/filepath"
+)
+
+// An AccessQuery asks who had access to an object by an operation, or what a user had access to: at a time, or after an entry.
+type AccessQuery struct {
+	User, Operation, Object string
+	// At is a time as entries have it. If it is empty, Entry is the number of an entry.
+	At    string
+	Entry int64
+	// Heads are known from elsewhere.
+	Heads  []Head
+	Format Format
+}
+
+var (
+	errAccessUsage = errors.New("give --user, or --operation and --object, or all of them")
+	errPlaceUsage  = errors.New("give --at TIME or --entry N")
+)
+
+// A place is an entry of a record at which the office is wanted.
+type place struct {
+	n  int64
+	at string
+	// first is the entry with which the part begins that has it, and link is its own link.
+	first int64
+	link  string
+	// next is the time of the entry after it, or empty if there is none. isAdopted says that that entry begins anew over an office that
+	// was written behind the record.
+	next      string
+	isAdopted bool
+}
+
+// Access prints who could do an operation on an object as the office was then, or what a user could do. The whole record is verified,
+// and what verify refuses is refused. The proved program does the commands again up to that place over the copy of the office with
+// which their part begins, and answers the questions over what that gives.
+func (t *Tool) Access(ctx context.Context, query AccessQuery) error {
+	switch {
+	case query.User == "" && (query.Operation == "" || query.Object == ""):
+		return errAccessUsage
+	case (query.At == "") == (query.Entry == 0):
+		return errPlaceUsage
+	}
+	files, release, err := t.files(ctx)
+	if err != nil {
+		return err
+	}
+	defer release()
+	p, err := placeOf(ctx, files, query)
+	if err != nil {
+		return err
+	}
+	scratch, end, err := newScratch(t.Office+t.Data+t.Part, t.dir(), forAccess)
+	if err != nil {
+		return err
+	}
+	defer end()
+	file := filepath.Join(scratch, rerunFile)
+	judged := *t
+	judged.Out = t.Err // What verify prints isn't what is asked for.
+	verified := judged.verify(ctx, query.Heads, &stop{p.n, func(given string, e *entry) error {
+		if e.ch != p.link {
+			return fmt.Errorf("somebody has written entry %d meanwhile", e.n)
+		}
+		return copyOffice(given, file)
+	}})
+	if verified != nil && !errors.Is(verified, ErrMissing) {
+		return verified
+	}
+	if _, err := os.Stat(file); err != nil {
+		return fmt.Errorf("entry %d was not reached: %w", p.n, err)
+	}
+	if err := t.printAccess(ctx, file, query, p); err != nil {
+		return err
+	}
+	return verified
+}
+
+// printAccess asks the program about a copy of the office as it was at a place, and prints what it answers.
+func (t *Tool) printAccess(ctx context.Context, file string, query AccessQuery, p *place) error {
+	again, err := startOver(t.Program, file, t.HangTimeout)
+	if err != nil {
+		return err
+	}
+	defer func() { _ = again.Close() }() // What it has done is thrown away.
+	found, err := again.access(ctx, query)
+	var refused *RefusedError
+	if err != nil && !errors.As(err, &refused) {
+		return err
+	}
+	notes := p.notes()
+	if refused != nil {
+		notes = append(notes, refused.Error())
+	}
+	out, err := newPrinter(t.Out, query.Format, "user", "object", "operation", "role", "session")
+	for i := 0; err == nil && i < len(notes); i++ {
+		var has bool
+		if has, err = out.addNote(notes[i]); !has {
+			fmt.Fprintln(t.Err, notes[i])
+		}
+	}
+	for i := 0; err == nil && i < len(found); i++ {
+		one := found[i]
+		err = out.add(cell{text: one.user}, cell{text: one.object}, cell{text: one.operation}, cell{text: one.role}, cell{text: one.session})
+	}
+	if err != nil {
+		return err
+	}
+	return out.end()
+}
+
+// notes say from what an answer was computed, and what it doesn't show.
+func (p *place) notes() []string {
+	notes := []string{fmt.Sprintf("as of entry %d, %s, with the link %s", p.n, p.at, p.link)}
+	if p.n == p.first {
+		notes = append(notes, fmt.Sprintf("computed from the copy of the office at entry %d", p.first))
+	} else {
+		notes = append(notes, fmt.Sprintf("computed from the copy of the office at entry %d and the entries %d to %d", p.first, p.first+1, p.n))
+	}
+	switch {
+	case p.isAdopted:
+		notes = append(notes, fmt.Sprintf("before entry %d, %s, somebody wrote the office behind the record: nobody knows since when it was other than this",
+			p.n+1, p.next))
+	case p.next == "":
+		notes = append(notes, "this is the last entry: what came after it isn't in the record")
+	default:
+		notes = append(notes, fmt.Sprintf("the next entry, %d, is of %s", p.n+1, p.next))
+	}
+	return notes
+}
+
+// A stretch is what a file of a record has about a place: the last entry not after it, and the first one after it.
+type stretch struct{ last, after sql.NullInt64 }
+
+// placeOf finds the last entry that is not after a time. It refuses a time for which there is none, or more than one since the clock
+// was set back.
+func placeOf(ctx context.Context, files []string, query AccessQuery) (*place, error) {
+	condition, value := "at <= ?", any(query.At)
+	if query.At == "" {
+		condition, value = "n <= ?", query.Entry
+	}
+	var found stretch
+	var views []*view
+	defer func() {
+		for _, v := range views {
+			v.Close()
+		}
+	}()
+	for _, path := range files {
+		v, err := openView(ctx, path)
+		if err != nil {
+			return nil, err
+		}
+		views = append(views, v)
+		var s stretch
+		err = v.tx.QueryRowContext(ctx, "SELECT max(n) FILTER (WHERE "+condition+"), min(n) FILTER (WHERE NOT "+condition+
+			") FROM entry WHERE answer IS NOT NULL", value, value).Scan(&s.last, &s.after)
+		if err != nil {
+			return nil, fmt.Errorf("%s: %w", path, err)
+		}
+		if s.last.Valid {
+			found.last = s.last
+		}
+		if !found.after.Valid {
+			found.after = s.after
+		}
+	}
+	if err := found.judge(query); err != nil {
+		return nil, err
+	}
+	return newPlace(ctx, views, found)
+}
+
+// judge refuses what is no place.
+func (s stretch) judge(query AccessQuery) error {
+	last, after := s.last.Int64, s.after.Int64
+	switch {
+	case !s.last.Valid && !s.after.Valid:
+		return errors.New("the record has no entry")
+	case !s.last.Valid:
+		return fmt.Errorf("what is here of the record begins later, with entry %d: it doesn't show what was before", after)
+	case query.At == "" && last != query.Entry:
+		return fmt.Errorf("entry %d is not here", query.Entry)
+	case s.after.Valid && after < last:
+		return fmt.Errorf("the clock was set back: of the entries %d to %d some are before that time and some after it; choose one with --entry", after-1, last)
+	case s.after.Valid && after > last+1:
+		return fmt.Errorf("entries %d to %d are not here: nobody knows which of them were before that time", last+1, after-1)
+	}
+	return nil
+}
+
+// newPlace reads what there is to know about a place.
+func newPlace(ctx context.Context, views []*view, found stretch) (*place, error) {
+	p := &place{n: found.last.Int64}
+	for _, v := range views {
+		parts, err := partsOf(ctx, v)
+		if err != nil {
+			return nil, err
+		}
+		for _, one := range parts {
+			if one.first <= p.n {
+				p.first = one.first
+			}
+			p.isAdopted = p.isAdopted || one.first == p.n+1 && one.why == adopted
+		}
+		err = eachEntry(ctx, v.tx, "WHERE n IN (?, ?) AND answer IS NOT NULL", []any{p.n, p.n + 1}, func(e *entry) error {
+			if e.n == p.n {
+				p.at, p.link = e.at, e.ch
+			} else {
+				p.next = e.at
+			}
+			return nil
+		})
+		if err != nil {
+			return nil, err
+		}
+	}
+	return p, nil
+}

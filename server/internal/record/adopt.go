@@ -1,0 +1,245 @@
+package record
+
+import (
+	"context"
+	"database/sql"
+	"errors"
+	"fmt"
+	"os"
+	"path/filepath"
+	"strings"
+	"unicode"
+	"unicode/utf8"
+)
+
+const (
+	// mostChanged is how many rows an adoption names that somebody has changed.
+	mostChanged = 100
+	// longestWord is how many bytes who adopts an office, and why, may have.
+	longestWord = 256
+)
+
+// An adoption says who has adopted an office, and what differs in it from what the record gives.
+type adoption struct {
+	By string
+	// Changed is nil if nobody knows what the record gives.
+	Changed *changes
+}
+
+// changes are rows that were added and removed: how many, and the first of them, each with its sign and its table.
+type changes struct {
+	Added   int     `json:"added"`
+	Removed int     `json:"removed"`
+	Rows    [][]any `json:"rows"`
+}
+
+// String says who has adopted an office, and how much was changed.
+func (a adoption) String() string {
+	if a.By == "" {
+		return "nobody says by whom"
+	}
+	if a.Changed == nil {
+		return fmt.Sprintf("by %q", a.By)
+	}
+	return fmt.Sprintf("by %q, with %d rows added and %d removed", a.By, a.Changed.Added, a.Changed.Removed)
+}
+
+var (
+	errWord    = fmt.Errorf("adopt needs --by and --reason, each of at most %d bytes without control characters", longestWord)
+	errAgrees  = errors.New("there is nothing to adopt: the office is what the record gives")
+	errNothing = errors.New("there is nothing to adopt: the office has no command, so a front may begin its record")
+)
+
+// isWord reports whether a text may say who adopts an office, or why.
+func isWord(text string) bool {
+	return text != "" && len(text) <= longestWord && utf8.ValidString(text) && strings.IndexFunc(text, unicode.IsControl) < 0
+}
+
+// Adopt begins a new part over the office as it is, and says so in the record with who does that, why, and what was changed. An
+// office without a record gets one.
+func (t *Tool) Adopt(ctx context.Context, by, reason string) error {
+	if !isWord(by) || !isWord(reason) {
+		return errWord
+	}
+	if _, err := os.Stat(t.Office); err != nil {
+		return err
+	}
+	if has, err := hasRecord(DirOf(t.Office)); err == nil && !has {
+		return t.adoptFirst(ctx, by, reason)
+	}
+	r, lock, err := t.openLocked(ctx)
+	if err != nil {
+		return err
+	}
+	defer lock.Close()
+	defer r.close()
+	var wrong *AnswerError
+	switch err := r.Before(ctx); {
+	case err == nil:
+		return errAgrees
+	case !errors.Is(err, errDiffers) && !errors.Is(err, errNoStart) && !errors.As(err, &wrong):
+		return err
+	}
+	if err := r.beginAnew(ctx, by, reason); err != nil {
+		return fmt.Errorf("record: %w", err)
+	}
+	fmt.Fprintf(t.Out, "the record begins anew over the office as it is, at entry %d\n", r.head.n)
+	return nil
+}
+
+// beginAnew begins a part over the office as it is, and says in the record who does that, why, and what was changed.
+func (r *Record) beginAnew(ctx context.Context, by, reason string) error {
+	return r.withCopy(ctx, r.Office, func(copied, rows string) error {
+		changed, err := r.changed(ctx, copied)
+		if err != nil {
+			return err
+		}
+		p := part{why: adopted, rows: rows, adoption: adoption{by, changed}, reason: reason}
+		if err := inTransaction(r.db, func(tx *sql.Tx) error { return r.adopt(ctx, tx, p, copied) }); err != nil {
+			return err
+		}
+		return addBase(r.dir, copied, base{r.head.n, rows})
+	})
+}
+
+// adoptFirst begins the record of an office that has commands and no record.
+func (t *Tool) adoptFirst(ctx context.Context, by, reason string) error {
+	lock, err := t.lockIfFree(ctx)
+	if err == nil && lock == nil {
+		err = errFrontRuns
+	}
+	if err != nil {
+		return err
+	}
+	defer lock.Close()
+	r := newRecord(t.options())
+	defer r.close()
+	p := part{first: 1, why: adopted, adoption: adoption{By: by}, reason: reason}
+	err = r.beginWith(ctx, p, now(), func(copied string) error {
+		if has, err := hasCommands(ctx, copied); err != nil || has {
+			return err
+		}
+		return errNothing
+	}, r.addFirstBase)
+	if err != nil {
+		return fmt.Errorf("record: %w", err)
+	}
+	fmt.Fprintln(t.Out, "the record begins over the office as it is, at entry 1")
+	return nil
+}
+
+// adopt says of each entry without an answer that nobody knows it, and begins a part.
+func (r *Record) adopt(ctx context.Context, tx *sql.Tx, p part, copied string) error {
+	open, err := openEntries(ctx, tx, r.head.n)
+	if err != nil {
+		return err
+	}
+	for _, e := range open {
+		e.answer = unknown
+		e.ch = chained(r.head.ch, &e)
+		if _, err := tx.Exec("UPDATE entry SET answer = ?, chain = ? WHERE n = ?", e.answer, e.ch, e.n); err != nil {
+			return err
+		}
+		r.head = e
+	}
+	p.first, p.before = r.head.n+1, r.head.ch
+	begins, err := addPart(tx, p, now(), copied)
+	if err == nil {
+		r.head = *begins
+	}
+	return err
+}
+
+// changed compares a mapped copy of the office with what the entries that have an answer give, if the program can do them again.
+func (r *Record) changed(ctx context.Context, copied string) (*changes, error) {
+	scratch, end, err := newScratch(r.Office, r.dir, forStart)
+	if err != nil {
+		return nil, err
+	}
+	defer end()
+	file := filepath.Join(scratch, rerunFile)
+	n, err := startOf(ctx, r.db, r.dir, file, r.head.n)
+	if errors.Is(err, errNoStart) {
+		return nil, nil
+	}
+	if err != nil {
+		return nil, err
+	}
+	again, err := startRerun(r.Program, scratch, r.HangTimeout)
+	if err != nil {
+		return nil, err
+	}
+	err = again.each(ctx, entriesAfter(ctx, r.db, n, r.head.n))
+	if closing := again.Close(); err == nil {
+		err = closing
+	}
+	var wrong *AnswerError
+	if errors.As(err, &wrong) {
+		return nil, nil
+	}
+	if err != nil {
+		return nil, err
+	}
+	return compared(ctx, file, copied)
+}
+
+// compared returns the rows of one mapped office that another one has not, and the other way round.
+func compared(ctx context.Context, before, after string) (*changes, error) {
+	c, err := openCopy(after, true)
+	if err != nil {
+		return nil, err
+	}
+	defer c.Close()
+	if _, err := c.db.ExecContext(ctx, "ATTACH ? AS given", before); err != nil {
+		return nil, err
+	}
+	found := &changes{Rows: [][]any{}}
+	for _, table := range tables {
+		var count int
+		const both = "SELECT (SELECT count(*) FROM main.sqlite_master WHERE name = ?1) + (SELECT count(*) FROM given.sqlite_master WHERE name = ?1)"
+		if err := c.db.QueryRowContext(ctx, both, table.name).Scan(&count); err != nil {
+			return nil, err
+		}
+		if count < 2 {
+			continue // One of them is of version 1.
+		}
+		for _, one := range []struct {
+			sign, has, lacks string
+			count            *int
+		}{{"-", "given", "main", &found.Removed}, {"+", "main", "given", &found.Added}} {
+			query := fmt.Sprintf("SELECT * FROM %s.%s EXCEPT SELECT * FROM %s.%s", one.has, table.name, one.lacks, table.name)
+			if err := found.add(ctx, c.db, query, one.sign, table.name, one.count); err != nil {
+				return nil, fmt.Errorf("rows of %s: %w", table.name, err)
+			}
+		}
+	}
+	return found, nil
+}
+
+// add counts the rows of a query, and adds the first of them.
+func (c *changes) add(ctx context.Context, db *sql.DB, query, sign, table string, count *int) error {
+	rows, err := db.QueryContext(ctx, query)
+	if err != nil {
+		return err
+	}
+	defer rows.Close()
+	names, err := rows.Columns()
+	if err != nil {
+		return err
+	}
+	for rows.Next() {
+		*count++
+		if len(c.Rows) == mostChanged {
+			continue
+		}
+		values, places := make([]any, len(names)), make([]any, len(names))
+		for i := range values {
+			places[i] = &values[i]
+		}
+		if err := rows.Scan(places...); err != nil {
+			return err
+		}
+		c.Rows = append(c.Rows, append([]any{sign, table}, values...))
+	}
+	return rows.Err()
+}

@@ -1,0 +1,63 @@
+package record
+
+import (
+	"encoding/hex"
+	"net/http"
+
+	"golang.org/x/crypto/sha3"
+
+	"rbac-node/internal/api"
+	"rbac-node/internal/feed"
+)
+
+const (
+	// digestBytes is how many bytes of the SHA3-256 of a session's name are shown.
+	digestBytes = 16
+	// longestName is how many bytes the office lets a name have.
+	longestName = 64
+	session     = "session"
+)
+
+// DigestOf returns what is shown outside the office in place of a session's name, which lets whoever knows it use the session.
+func DigestOf(name string) string {
+	sum := sha3.Sum256([]byte(name))
+	return hex.EncodeToString(sum[:digestBytes])
+}
+
+// recordedText returns what is recorded in place of the text that names a session. The office refuses a text that is no name
+// whatever else it has, so an empty one is refused in the same way.
+func recordedText(text string) string {
+	if len(text) == 0 || len(text) > longestName {
+		return ""
+	}
+	for i := 0; i < len(text); i++ {
+		if text[i] < ' ' || text[i] == 0x7f {
+			return ""
+		}
+	}
+	return DigestOf(text)
+}
+
+// recordedLine returns the line that is recorded for a command. It refuses one that would be longer than the replay accepts.
+func recordedLine(call *api.Call) ([]byte, error) {
+	text, has := call.Texts[session]
+	if !has {
+		return call.Line, nil
+	}
+	line, err := call.LineWith(session, recordedText(text))
+	if err != nil {
+		return line, api.Refusal{Status: http.StatusRequestEntityTooLarge, Code: 34, Name: "BadRequest"}
+	}
+	return line, nil
+}
+
+// Admit writes the lines that are recorded for a unit, or refuses it.
+func (r *Record) Admit(u *feed.Unit) (err error) {
+	u.Recorded = make([][]byte, len(u.Calls))
+	for _, i := range u.Commands() {
+		if u.Recorded[i], err = recordedLine(u.Calls[i]); err != nil {
+			return err
+		}
+	}
+	return nil
+}

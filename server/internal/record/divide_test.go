@@ -1,0 +1,185 @@
+package record
+
+import (
+	"context"
+	"os"
+	"path/filepath"
+	"strings"
+	"testing"
+	"time"
+
+	"rbac-node/internal/recorded"
+)
+
+const addBob = `{"fn":"addUser","user":"bob"}`
+
+// divided lets a machine divide its record at a snapshot, and returns the names of its earlier parts.
+func (m *machine) divided(snapshot, head string) (names []string) {
+	m.Helper()
+	m.Divide(context.Background(), snapshot, head)
+	parts, _, err := partsIn(m.dir)
+	if err != nil {
+		m.Fatal(err)
+	}
+	for _, path := range parts {
+		names = append(names, filepath.Base(path))
+	}
+	return names
+}
+
+// follows reports an error if a machine doesn't have the entries of another one, all of them once, as verify reads them.
+func (m *machine) follows(other *machine, count int) {
+	m.Helper()
+	has, want := m.entries(), other.entries()
+	if has != want || strings.Count(has, "\n") != count || m.Failure() != nil {
+		m.Errorf("it has\n%s\nand the other one\n%s, %v", has, want, m.Failure())
+	}
+	if said, err := m.verify(nil); err != nil {
+		m.Errorf("%s%v", said, err)
+	}
+}
+
+// A node divides its record while it goes on. Its entries stay those of the others, and whoever reads them finds them all.
+func TestDivide(t *testing.T) {
+	first, second := newMachine(t, ""), newMachine(t, "")
+	first.PartEntries = 3
+	var path, head string
+	for _, m := range []*machine{second, first} {
+		m.resume("", false)
+		m.begin()
+		m.do(addAnn)
+		path, head = m.snapshot(7)
+		if m == first {
+			if names := m.divided(path, head); names != nil {
+				t.Errorf("with two entries it has %q", names)
+			}
+		}
+		m.do(addRole)
+		path, head = m.snapshot(8)
+		m.do(assign, login) // They are written, but not in the snapshot.
+		m.flush("NORMAL")
+	}
+	if names := strings.Join(first.divided(path, head), " "); names != "record-1-3.db" {
+		t.Fatalf("it has %q", names)
+	}
+	first.do(addBob)
+	second.do(addBob)
+	first.follows(second, 6)
+	if names := strings.Join(first.divided(path, head), " "); names != "record-1-3.db" {
+		t.Errorf("at the same snapshot again it has %q", names)
+	}
+	page, err := first.Recorded(context.Background(), recorded.Query{Limit: 9})
+	if err != nil || page.First != 1 || len(page.Entries) != 6 {
+		t.Errorf("%+v, %v", page, err)
+	}
+	links, err := first.Links(context.Background(), 1)
+	if err != nil || links.First != 1 || len(links.Entries) != 5 {
+		t.Errorf("%+v, %v", links, err)
+	}
+	path, head = first.snapshot(9)
+	if names := strings.Join(first.divided(path, head), " "); names != "record-1-3.db record-4-6.db" {
+		t.Errorf("at the next snapshot it has %q", names)
+	}
+	first.flush("NORMAL")
+	first.start(path)
+	first.resume(head, false)
+	first.do(`{"fn":"deleteUser","user":"bob"}`)
+	second.do(`{"fn":"deleteUser","user":"bob"}`)
+	first.follows(second, 7)
+}
+
+// A record that is being read is divided later, and nothing is written to other files meanwhile.
+func TestDivideWaits(t *testing.T) {
+	defer func(before time.Duration) { patience = before }(patience)
+	patience = 100 * time.Millisecond
+	m := newMachine(t, "")
+	m.PartEntries = 1
+	m.resume("", false)
+	m.begin()
+	m.do(addAnn)
+	path, head := m.snapshot(7)
+	tool := &Tool{Data: m.data, Out: os.Stdout}
+	_, release, err := tool.files(context.Background())
+	if err != nil {
+		t.Fatal(err)
+	}
+	if names := m.divided(path, head); names != nil {
+		t.Errorf("while somebody reads there is %q", names)
+	}
+	m.do(addBob)
+	release()
+	if names := strings.Join(m.divided(path, head), " "); names != "record-1-2.db" || m.Failure() != nil {
+		t.Errorf("then there is %q, %v", names, m.Failure())
+	}
+}
+
+// A crash while the record is divided loses no entry. The next start, from the newest snapshot or an older one, goes on with it.
+func TestKilledDivide(t *testing.T) {
+	for _, test := range []string{"the next file is made", "the file at hand has two names", "the next file is in place"} {
+		for _, isOlder := range []bool{false, true} {
+			t.Run(test, func(t *testing.T) {
+				first, second := newMachine(t, ""), newMachine(t, "")
+				var older, newer struct{ path, head string }
+				for _, m := range []*machine{second, first} {
+					m.resume("", false)
+					m.begin()
+					m.do(addAnn)
+					older.path, older.head = m.snapshot(7)
+					m.do(addRole)
+					newer.path, newer.head = m.snapshot(8)
+					m.do(assign)
+					m.flush("NORMAL")
+				}
+				_ = first.Close()
+				first.divideUntil(test, newer.path, newer.head)
+				first.start(newer.path)
+				first.follows(second, 4) // Before the node goes on.
+				from, again := newer, []string{assign}
+				if isOlder {
+					from, again = older, []string{addRole, assign}
+				}
+				first.start(from.path)
+				first.PartEntries = 1
+				first.resume(from.head, false)
+				first.do(again...)
+				first.do(login)
+				second.do(login)
+				first.follows(second, 5)
+				path, head := first.snapshot(9)
+				names := first.divided(path, head)
+				if len(names) == 0 || !strings.HasSuffix(names[len(names)-1], "-5.db") {
+					t.Errorf("then it has %q", names)
+				}
+				first.do(addBob)
+				second.do(addBob)
+				first.follows(second, 6)
+			})
+		}
+	}
+}
+
+// divideUntil does what divide does, up to a step.
+func (m *machine) divideUntil(step, snapshot, text string) {
+	m.Helper()
+	head, err := ParseHead(text)
+	if err != nil {
+		m.Fatal(err)
+	}
+	var made *next
+	err = m.withCopy(context.Background(), snapshot, func(copied, rows string) (err error) {
+		made, err = newNext(context.Background(), m.dir, head, rows, copied)
+		return err
+	})
+	if err == nil {
+		err = mergeLog(m.path())
+	}
+	if err == nil && step != "the next file is made" {
+		err = os.Link(m.path(), partPath(m.dir, 1, head.N))
+	}
+	if err == nil && step == "the next file is in place" {
+		err = putInPlace(m.dir, made.making)
+	}
+	if err != nil {
+		m.Fatal(err)
+	}
+}

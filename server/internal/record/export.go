@@ -1,0 +1,195 @@
+package record
+
+import (
+	"context"
+	"errors"
+	"fmt"
+	"os"
+	"path/filepath"
+	"strings"
+	"time"
+)
+
+// An Export sends entries to a receiver of syslog.
+type Export struct {
+	// To is unix:PATH, udp:HOST:PORT or tcp:HOST:PORT.
+	To string
+	// Place is a file that has the head of what was sent.
+	Place string
+	// IsFollowing says that entries are sent until the context ends, and not only those that are there.
+	IsFollowing bool
+}
+
+const (
+	// exportPause is the time between two looks at a record.
+	exportPause = time.Second
+	// exportBatch is after how many entries the place is written.
+	exportBatch = 100
+)
+
+var errExportUsage = errors.New("give --syslog unix:PATH, udp:HOST:PORT or tcp:HOST:PORT, and --place FILE")
+
+// An exporter is an export at work.
+type exporter struct {
+	*Tool
+	Export
+	name   string
+	sender *syslogSender
+	// sent is the last entry that the receiver got, and kept the one in the file.
+	sent, kept Head
+}
+
+// Export sends each entry that has an answer, in their order, with its link. After an end or a crash it goes on after the entry in the
+// file of its place, so the receiver may get some entries twice. It refuses a record in which that entry is another one, or whose
+// chain breaks.
+func (t *Tool) Export(ctx context.Context, options Export) error {
+	if options.Place == "" {
+		return errExportUsage
+	}
+	sender, err := newSyslogSender(options.To)
+	if err != nil {
+		return err
+	}
+	x := &exporter{Tool: t, Export: options, name: filepath.Base(t.Office + t.Data + t.Part), sender: sender}
+	defer x.sender.close()
+	if err := x.readPlace(); err != nil {
+		return err
+	}
+	for {
+		err := x.sendNew(ctx)
+		if writing := x.writePlace(); err == nil {
+			err = writing
+		}
+		var failed *sendError
+		isLost := errors.As(err, &failed)
+		if isLost && options.IsFollowing && ctx.Err() == nil {
+			fmt.Fprintln(t.Err, "rbac-node:", err)
+			x.sender.close()
+			x.sent = x.kept
+		}
+		if ctx.Err() != nil && (err == nil || isLost || errors.Is(err, ctx.Err())) {
+			return nil
+		}
+		if err != nil && !isLost || !options.IsFollowing {
+			return err
+		}
+		select {
+		case <-ctx.Done():
+		case <-time.After(exportPause):
+		}
+	}
+}
+
+// readPlace reads up to where was sent.
+func (x *exporter) readPlace() error {
+	text, err := os.ReadFile(x.Place)
+	if errors.Is(err, os.ErrNotExist) {
+		return nil
+	}
+	if err != nil {
+		return err
+	}
+	if x.sent, err = ParseHead(strings.TrimSpace(string(text))); err != nil {
+		return fmt.Errorf("%s: %w", x.Place, err)
+	}
+	x.kept = x.sent
+	return nil
+}
+
+// writePlace writes up to where was sent.
+func (x *exporter) writePlace() error {
+	if x.sent == x.kept {
+		return nil
+	}
+	making := x.Place + ".making"
+	if err := os.WriteFile(making, []byte(x.sent.String()+"\n"), 0o600); err != nil {
+		return err
+	}
+	if err := syncPath(making); err != nil {
+		return err
+	}
+	if err := os.Rename(making, x.Place); err != nil {
+		return err
+	}
+	x.kept = x.sent
+	return syncPath(filepath.Dir(x.Place))
+}
+
+// sendNew sends the entries behind the place.
+func (x *exporter) sendNew(ctx context.Context) error {
+	files, release, err := x.files(ctx)
+	if err != nil {
+		return err
+	}
+	defer release()
+	for _, path := range files {
+		if err := x.sendFile(ctx, path); err != nil {
+			return err
+		}
+	}
+	return nil
+}
+
+// sendFile sends the entries of a file that are behind the place.
+func (x *exporter) sendFile(ctx context.Context, path string) error {
+	v, err := openView(ctx, path)
+	if err != nil {
+		return err
+	}
+	defer v.Close()
+	answered, _, err := lastOf(v.tx)
+	if err != nil || answered.n < x.sent.N {
+		return err
+	}
+	if err := x.join(ctx, v); err != nil {
+		return err
+	}
+	if _, err := x.sender.connect(ctx); err != nil {
+		return err
+	}
+	return eachEntry(ctx, v.tx, "WHERE n > ? AND n <= ? ORDER BY n", []any{x.sent.N, answered.n}, func(e *entry) error {
+		if e.n != x.sent.N+1 {
+			return fmt.Errorf("entry %d is missing", x.sent.N+1)
+		}
+		if chained(x.sent.Chain, e) != e.ch {
+			return fmt.Errorf("the chain breaks at entry %d: it or the one before it was changed", e.n)
+		}
+		if err := x.sender.send(ctx, x.name, e); err != nil {
+			return err
+		}
+		x.sent = Head{e.n, e.ch}
+		if e.n%exportBatch == 0 {
+			return x.writePlace()
+		}
+		return ctx.Err()
+	})
+}
+
+// join compares the place with a file, in which it is or after which the file follows.
+func (x *exporter) join(ctx context.Context, v *view) error {
+	parts, err := partsOf(ctx, v)
+	if err != nil {
+		return err
+	}
+	first := parts[0]
+	switch {
+	case x.sent.N == 0:
+		if first.first > 1 {
+			fmt.Fprintln(x.Err, missing(1, first))
+		}
+		x.sent = Head{first.first - 1, first.before}
+	case first.first > x.sent.N+1:
+		return errors.New(missing(x.sent.N+1, first))
+	case first.first == x.sent.N+1 && first.before != x.sent.Chain:
+		return fmt.Errorf("the part that begins with entry %d does not follow entry %d, which was sent", first.first, x.sent.N)
+	case first.first <= x.sent.N:
+		var link string
+		if err := v.tx.QueryRowContext(ctx, "SELECT coalesce(chain, '') FROM entry WHERE n = ?", x.sent.N).Scan(&link); err != nil {
+			return fmt.Errorf("entry %d, which was sent, is not here: %w", x.sent.N, err)
+		}
+		if link != x.sent.Chain {
+			return fmt.Errorf("entry %d has another link than the one that was sent: somebody has written the record", x.sent.N)
+		}
+	}
+	return nil
+}

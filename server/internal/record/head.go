@@ -1,0 +1,163 @@
+package record
+
+import (
+	"bufio"
+	"encoding/json"
+	"errors"
+	"fmt"
+	"io"
+	"os"
+	"path/filepath"
+	"strconv"
+	"strings"
+	"syscall"
+	"time"
+)
+
+// A Head is the number and the link of the last entry with an answer.
+type Head struct {
+	N     int64
+	Chain string
+}
+
+func (h Head) String() string { return fmt.Sprintf("%d:%s", h.N, h.Chain) }
+
+// linkBytes is how long a link is as text.
+const linkBytes = 64
+
+// ParseHead reads what String writes.
+func ParseHead(text string) (Head, error) {
+	number, chain, _ := strings.Cut(text, ":")
+	n, err := strconv.ParseInt(number, 10, 64)
+	head := Head{n, chain}
+	if err != nil || n < 1 || head.String() != text || len(chain) != linkBytes || strings.Trim(chain, "0123456789abcdef") != "" {
+		return Head{}, errors.New("a head is N:HASH, as `rbac-node record head` prints it")
+	}
+	return head, nil
+}
+
+// ReadHeads reads heads from a file, one in a line. A line may also be one of the log of a front: those without a head are passed over.
+func ReadHeads(file io.Reader) (heads []Head, err error) {
+	lines := bufio.NewScanner(file)
+	for number := 1; lines.Scan(); number++ {
+		line := strings.TrimSpace(lines.Text())
+		if strings.HasPrefix(line, "{") {
+			var said struct {
+				Entry int64
+				Chain string
+			}
+			if json.Unmarshal([]byte(line), &said) != nil || said.Chain == "" {
+				continue
+			}
+			line = Head{said.Entry, said.Chain}.String()
+		}
+		if line == "" {
+			continue
+		}
+		head, err := ParseHead(line)
+		if err != nil {
+			return nil, fmt.Errorf("line %d: %w", number, err)
+		}
+		heads = append(heads, head)
+	}
+	if len(heads) == 0 && lines.Err() == nil {
+		return nil, errNoHead
+	}
+	return heads, lines.Err()
+}
+
+// Head returns the head.
+func (r *Record) Head() Head {
+	r.mutex.Lock()
+	defer r.mutex.Unlock()
+	return Head{r.head.n, r.head.ch}
+}
+
+// DurableHead returns the head, and makes the entries up to it durable. Otherwise the answers that a power loss takes would be found
+// again with other links, and a head that was given out would refute them.
+func (r *Record) DurableHead() (Head, error) {
+	head := r.Head()
+	r.mutex.Lock()
+	isDurable := head == r.durable
+	r.mutex.Unlock()
+	if isDurable {
+		return head, nil
+	}
+	if err := syncLog(filepath.Join(r.dir, fileName)); err != nil {
+		return Head{}, err
+	}
+	r.mutex.Lock()
+	defer r.mutex.Unlock()
+	r.durable = head
+	return head, nil
+}
+
+// syncLog makes durable what was written to the log of a file of a record. SQLite syncs the file itself when it merges the log. The file
+// is not opened here: when it is closed, this process would lose the locks that SQLite has on it.
+func syncLog(path string) error {
+	err := syncPath(path + walSuffix)
+	if err != nil && !errors.Is(err, os.ErrNotExist) && !errors.Is(err, syscall.EROFS) {
+		return fmt.Errorf("record: %w", err)
+	}
+	return nil
+}
+
+// announce logs the head each minute if it has changed.
+func (r *Record) announce() {
+	r.logHead()
+	ticker := time.NewTicker(announcing)
+	defer ticker.Stop()
+	for {
+		select {
+		case <-ticker.C:
+			r.logHead()
+		case <-r.life.Done():
+			return
+		}
+	}
+}
+
+func (r *Record) logHead() {
+	head, err := r.DurableHead()
+	if err != nil {
+		r.Log.Error("the head of the record isn't logged, since the record can't be synced", "why", err)
+		return
+	}
+	r.mutex.Lock()
+	last := r.announced
+	r.announced = head
+	r.mutex.Unlock()
+	if head != last {
+		r.Log.Info("the head of the record", "entry", head.N, "chain", head.Chain)
+	}
+}
+
+// addMetrics reports the head that was last logged, and whether entries can be written.
+func (r *Record) addMetrics() {
+	if r.Metrics == nil {
+		return
+	}
+	const help = "The head of the record that was last logged: the number of its entry, and the link as a label."
+	r.Metrics.LabelledGauge("rbac_node_record_head", help, "chain", func() (string, float64) {
+		r.mutex.Lock()
+		defer r.mutex.Unlock()
+		return r.announced.Chain, float64(r.announced.N)
+	})
+	r.Metrics.Gauge("rbac_node_record_failing", "1 if the record can't be written: one machine refuses commands then.", func() float64 {
+		if r.Why() != "" {
+			return 1
+		}
+		return 0
+	})
+	if r.VerifyEvery <= 0 {
+		return
+	}
+	r.Metrics.Gauge("rbac_node_record_broken", "1 if the chain of the record was broken when it was last verified.", func() float64 {
+		r.mutex.Lock()
+		defer r.mutex.Unlock()
+		if r.isBroken {
+			return 1
+		}
+		return 0
+	})
+}

@@ -1,0 +1,231 @@
+package record
+
+import (
+	"context"
+	"database/sql"
+	"errors"
+	"fmt"
+	"os"
+	"path/filepath"
+	"time"
+
+	"rbac-node/internal/faults"
+	"rbac-node/internal/office"
+)
+
+// Before finds out how far the office got, while no replay has it open. After it each entry has an answer, and the entries give
+// the rows of the office. If none of the possible ends does, somebody has written the office behind the record.
+func (r *Record) Before(ctx context.Context) error {
+	r.making.Wait()
+	r.open, r.late = nil, nil // The answers are found again.
+	if err := freeReserve(r.dir); err != nil {
+		return err
+	}
+	r.hasReserve, r.triedReserve = false, time.Time{} // The next command makes it again, once a replay has opened the office.
+	scratch, end, err := newScratch(r.Office, r.dir, forStart)
+	if err != nil {
+		return fmt.Errorf("record: %w", err)
+	}
+	defer end()
+	if err := r.reconcile(ctx, scratch); err != nil {
+		return fmt.Errorf("record: %w", &copyError{err: err, scratch: scratch, office: r.Office})
+	}
+	r.announces.Do(func() {
+		go r.announce()
+		go r.verifyAgain()
+	})
+	return nil
+}
+
+func (r *Record) reconcile(ctx context.Context, scratch string) error {
+	ctx, cancel := context.WithCancel(ctx)
+	defer cancel() // It closes what is still being read.
+	want, err := sumsOf(ctx, r.Program, r.Office, filepath.Join(scratch, "office"))
+	if err != nil {
+		return err
+	}
+	answered, last, err := lastOf(r.db)
+	if err != nil {
+		return err
+	}
+	if bases, err := basesIn(r.dir); err == nil && len(bases) > 0 && bases[0].n == last.n && last.n == answered.n {
+		if bases[0].rows != want.all {
+			return errDiffers
+		}
+		return nil
+	}
+	n, err := startOf(ctx, r.db, r.dir, filepath.Join(scratch, rerunFile), answered.n)
+	if err != nil {
+		return err
+	}
+	again, err := startRerun(r.Program, scratch, r.HangTimeout)
+	if err != nil {
+		return err
+	}
+	defer func() { _ = again.Close() }() // What it has done is thrown away.
+	if err := again.each(ctx, r.reporting(entriesAfter(ctx, r.db, n, answered.n), answered.n-n)); err != nil {
+		return err
+	}
+	open, err := openEntries(ctx, r.db, answered.n)
+	if err != nil {
+		return err
+	}
+	done, err := again.fit(ctx, open, want)
+	if err != nil {
+		return err
+	}
+	if done < 0 {
+		return errDiffers
+	}
+	if err := r.settle(open, done); err != nil {
+		return err
+	}
+	r.Log.Info("the record gives the rows of the office", "again", answered.n-n, "found", done, "never_done", len(open)-done)
+	return nil
+}
+
+// sayingInterval is after how many commands it is said how many were done again.
+const sayingInterval = 100
+
+// reporting returns entries as next does, and reports how many of them it has returned.
+func (r *Record) reporting(next func() (*entry, error), all int64) func() (*entry, error) {
+	done := 0
+	return func() (*entry, error) {
+		if done%sayingInterval == 0 {
+			r.say(fmt.Sprintf("command %d of %d since the last copy of the office is done again", done, all))
+		}
+		done++
+		return next()
+	}
+}
+
+// settle keeps the answers that were found. The other entries were never done, and nobody got an answer to them. They stay, so that no
+// number is used twice.
+func (r *Record) settle(open []entry, done int) error {
+	if faults.Has(faults.Forgets) {
+		done = 0
+	}
+	for i := range open {
+		open[i].found = true
+		if i >= done {
+			open[i].answer = lost
+		}
+	}
+	return r.write(open, nil)
+}
+
+// sumsOf describes the rows of an office that nobody writes meanwhile. Only one with a log is copied for that, and the copy, which has
+// the names of sessions, is there only as long as it is read. If the rows can't be read, the program says why it refuses a copy.
+func sumsOf(ctx context.Context, program, file, copied string) (s sums, err error) {
+	defer func() {
+		for _, left := range []string{copied, copied + walSuffix, copied + "-shm"} {
+			_ = os.Remove(left) // The folder is removed too.
+		}
+	}()
+	var c *officeCopy
+	if log, logErr := os.Stat(file + walSuffix); logErr == nil && log.Size() > 0 {
+		if err := copyOffice(file, copied); err != nil {
+			return s, err
+		}
+		c, err = openCopy(copied, false)
+	} else {
+		c, err = openUnchanged(file)
+	}
+	if err == nil {
+		defer c.Close()
+		s, err = c.sums(ctx)
+	}
+	if err == nil || errors.Is(err, errTwoNames) || copyOffice(file, copied) != nil {
+		return s, err
+	}
+	if refused := office.Run(ctx, program, "check", copied); refused != nil {
+		err = refused
+	}
+	return s, err
+}
+
+var errNoStart = errors.New("no copy of the office is what the record says that it is: restore the record from a backup")
+
+// startOf copies to a file the newest copy of the office that is at most as new as an entry, and returns after which entry it was
+// made. A copy that has other rows than it should have is passed over.
+func startOf(ctx context.Context, db *sql.DB, dir, to string, newest int64) (int64, error) {
+	var n int64
+	var rows string
+	if err := db.QueryRowContext(ctx, "SELECT first, rows FROM part ORDER BY first DESC LIMIT 1").Scan(&n, &rows); err != nil {
+		return 0, err
+	}
+	bases, err := basesIn(dir)
+	if err != nil {
+		return 0, err
+	}
+	for _, b := range bases {
+		if b.n < n || b.n > newest || copyFile(filepath.Join(dir, b.name()), to) != nil {
+			continue
+		}
+		if rows, err := rowsOf(ctx, to); err == nil && rows == b.rows {
+			return b.n, nil
+		}
+	}
+	var text []byte
+	err = db.QueryRowContext(ctx, "SELECT office FROM part WHERE first = ?", n).Scan(&text)
+	if err == nil {
+		err = os.WriteFile(to, text, 0o600)
+	}
+	if err != nil {
+		return 0, err
+	}
+	if given, err := rowsOf(ctx, to); err != nil || given != rows {
+		return 0, errNoStart
+	}
+	return n, nil
+}
+
+// rowsOf returns the digest of all rows of a mapped copy.
+func rowsOf(ctx context.Context, path string) (string, error) {
+	c, err := openCopy(path, true)
+	if err != nil {
+		return "", err
+	}
+	defer c.Close()
+	s, err := c.sums(ctx)
+	return s.all, err
+}
+
+// entriesAfter returns what returns the entries from one number to another, one after another, and then nil.
+func entriesAfter(ctx context.Context, db querier, after, last int64) func() (*entry, error) {
+	var rows *sql.Rows
+	return func() (*entry, error) {
+		if rows == nil {
+			var err error
+			rows, err = db.QueryContext(ctx, "SELECT "+columns+" FROM entry WHERE n > ? AND n <= ? ORDER BY n", after, last)
+			if err != nil {
+				return nil, err
+			}
+		}
+		if !rows.Next() {
+			err := rows.Err()
+			_ = rows.Close()
+			return nil, err
+		}
+		e, err := entryOf(rows)
+		if err != nil {
+			_ = rows.Close()
+		}
+		return &e, err
+	}
+}
+
+// openEntries returns the entries that have no answer, which are the last ones.
+func openEntries(ctx context.Context, db querier, answered int64) (open []entry, err error) {
+	next := entriesAfter(ctx, db, answered, 1<<62)
+	for n := answered + 1; ; n++ {
+		e, err := next()
+		if err != nil || e == nil {
+			return open, err
+		}
+		if e.n != n {
+			return nil, fmt.Errorf("entry %d is missing", n)
+		}
+		open = append(open, *e)
+	}
+}

@@ -1,0 +1,104 @@
+package record
+
+import (
+	"context"
+	"errors"
+	"fmt"
+	"io"
+
+	"rbac-node/internal/office"
+)
+
+// Restore makes a copy of a pair from a backup what a front may begin with: it verifies the pair, ends all sessions, and begins a new part
+// that says who has restored it and why. If the backup has no record, it begins one unless that isn't wanted. It returns what it has
+// done.
+func (t *Tool) Restore(ctx context.Context, by, reason string, isRecorded bool) (string, error) {
+	if isRecorded && (!isWord(by) || !isWord(reason)) {
+		return "", errRestoreWord
+	}
+	// The program merges the log, too, if the backup has one.
+	if err := office.Run(ctx, t.Program, "check", t.Office); err != nil {
+		return "", err
+	}
+	has, err := hasRecord(DirOf(t.Office))
+	switch {
+	case err != nil:
+		return "", err
+	case has && !isRecorded:
+		return "", errors.New("it has a record, from which --no-record would part the office")
+	case !has:
+		return t.restoreOffice(ctx, by, reason, isRecorded)
+	}
+	said := ""
+	t.Out = io.Discard
+	if err := t.Verify(ctx, nil); errors.Is(err, ErrMissing) {
+		said = "\nparts of the record are missing that were moved away before the backup was made"
+	} else if err != nil {
+		return "", err
+	}
+	ended, entry, err := t.restorePair(ctx, by, reason)
+	if err != nil {
+		return "", err
+	}
+	return fmt.Sprintf("sessions that were ended: %d\nentry %d of the record says who has restored it and why%s", ended, entry, said), nil
+}
+
+var errRestoreWord = fmt.Errorf("restore needs --by and --reason, each of at most %d bytes without control characters", longestWord)
+
+// restorePair ends all sessions of an office, and returns how many, and the entry that says so.
+func (t *Tool) restorePair(ctx context.Context, by, reason string) (ended, entry int64, err error) {
+	r, lock, err := t.openLocked(ctx)
+	if err != nil {
+		return 0, 0, err
+	}
+	defer lock.Close()
+	defer r.close()
+	if err := r.Before(ctx); err != nil { // It finds the answers that the backup doesn't have.
+		return 0, 0, err
+	}
+	if ended, err = t.endSessions(ctx); err != nil {
+		return 0, 0, err
+	}
+	if err := r.beginAnew(ctx, by, reason); err != nil {
+		return 0, 0, fmt.Errorf("record: %w", err)
+	}
+	return ended, r.head.n, r.close()
+}
+
+// restoreOffice is Restore for an office without a record.
+func (t *Tool) restoreOffice(ctx context.Context, by, reason string, isRecorded bool) (string, error) {
+	ended, err := t.endSessions(ctx)
+	if err != nil {
+		return "", err
+	}
+	said := fmt.Sprintf("sessions that were ended: %d\nthe backup has no record", ended)
+	if !isRecorded {
+		return said, nil
+	}
+	t.Out = io.Discard
+	if err := t.adoptFirst(ctx, by, reason); err != nil && !errors.Is(err, errNothing) {
+		return "", err
+	}
+	return said + ": it begins anew", nil
+}
+
+// endSessions ends all sessions of an office that nobody has open, and returns how many.
+func (t *Tool) endSessions(ctx context.Context) (ended int64, err error) {
+	c, err := openCopy(t.Office, false)
+	if err != nil {
+		return 0, err
+	}
+	err = c.db.QueryRowContext(ctx, "SELECT count(*) FROM pair_row WHERE kind = 7").Scan(&ended)
+	for _, statement := range []string{"DELETE FROM pair_row WHERE kind IN (7, 8)", "PRAGMA wal_checkpoint(TRUNCATE)"} {
+		if err == nil {
+			_, err = c.db.ExecContext(ctx, statement)
+		}
+	}
+	if closing := c.Close(); err == nil {
+		err = closing
+	}
+	if err != nil {
+		return 0, fmt.Errorf("end the sessions: %w", err)
+	}
+	return ended, office.Run(ctx, t.Program, "check", t.Office)
+}

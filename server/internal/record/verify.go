@@ -1,0 +1,445 @@
+package record
+
+import (
+	"context"
+	"errors"
+	"fmt"
+	"os"
+	"path/filepath"
+	"sort"
+
+	"rbac-node/internal/office"
+)
+
+// A verifier reads a record from its beginning, and does its commands again.
+type verifier struct {
+	*Tool
+	scratch string
+	// want has the rows of the office, or is nil if a front has it. On a node it has those of the newest snapshot, which is at a place
+	// of the record.
+	want *sums
+	at   Head
+	// heads has the links that are known from elsewhere, by the numbers of their entries.
+	heads map[int64]string
+	// bases are the base copies that were there before the file at hand was opened.
+	bases []base
+	// newest is the last entry of the file that was read, which may have no answer.
+	newest int64
+	// isMissing says that entries aren't here.
+	isMissing bool
+	// last is the last entry that was read, and rows are those after it, if a rerun has led there.
+	last entry
+	rows string
+	// stop may be nil.
+	stop *stop
+}
+
+// Verify reports whether the chain holds, whether the program gives the same answers, and whether the office has the rows that the
+// record gives. While a front has the office its rows are not compared. Heads that are known from elsewhere show whether the end
+// was cut off, or whether the chain was computed anew. It returns ErrMissing if that is all that is wrong.
+func (t *Tool) Verify(ctx context.Context, heads []Head) error { return t.verify(ctx, heads, nil) }
+
+// verify is Verify, which may do something after an entry.
+func (t *Tool) verify(ctx context.Context, heads []Head, at *stop) error {
+	if t.Data == "" && t.Part == "" {
+		if err := CheckOffice(t.Office); err != nil {
+			return err
+		}
+	}
+	files, release, err := t.files(ctx)
+	if err != nil {
+		return err
+	}
+	defer release()
+	scratch, end, err := newScratch(t.Office+t.Data+t.Part, t.dir(), forVerify)
+	if err != nil {
+		return err
+	}
+	defer end()
+	v := &verifier{Tool: t, scratch: scratch, heads: map[int64]string{}, stop: at}
+	for _, head := range heads {
+		if link, has := v.heads[head.N]; has && link != head.Chain {
+			return fmt.Errorf("entry %d has two known links: the chain was computed anew", head.N)
+		}
+		v.heads[head.N] = head.Chain
+	}
+	if err := v.files(ctx, files); err != nil {
+		return err
+	}
+	if err := syncLog(files[len(files)-1]); err != nil {
+		return err
+	}
+	v.sayUnknown()
+	fmt.Fprintf(t.Out, "head %s\n", Head{v.last.n, v.last.ch})
+	if v.isMissing {
+		return ErrMissing
+	}
+	return nil
+}
+
+// sayUnknown says which entries come after the newest known head.
+func (v *verifier) sayUnknown() {
+	newest := int64(0)
+	for n := range v.heads {
+		if n > newest {
+			newest = n
+		}
+	}
+	if newest > 0 && newest < v.last.n {
+		fmt.Fprintf(v.Out, "entries %d to %d come after the newest known head: it doesn't protect them\n", newest+1, v.last.n)
+	}
+}
+
+// ErrMissing is returned for a record of which all that is here is good.
+var ErrMissing = errors.New("what is here is good, but entries are missing")
+
+// files reads all files of a record.
+func (v *verifier) files(ctx context.Context, files []string) error {
+	if v.Part != "" {
+		if err := v.file(ctx, v.Part); err != nil {
+			return fmt.Errorf("%s: %w", v.Part, err)
+		}
+		return v.end()
+	}
+	current, err := v.look(ctx, files[len(files)-1])
+	if err != nil {
+		return err
+	}
+	defer current.Close()
+	for _, path := range files[:len(files)-1] {
+		if err := v.file(ctx, path); err != nil {
+			return fmt.Errorf("%s: %w", path, err)
+		}
+	}
+	if err := v.read(ctx, current, true); err != nil {
+		return fmt.Errorf("%s: %w", files[len(files)-1], err)
+	}
+	if v.Data != "" && v.want != nil {
+		return fmt.Errorf("the newest snapshot is at entry %d, which is not here", v.at.N)
+	}
+	return v.end()
+}
+
+// end refuses a record that ends before a known head, or before a base copy.
+func (v *verifier) end() error {
+	last := v.last.n
+	for n := range v.heads {
+		if n > last {
+			last = n
+		}
+	}
+	if v.last.n < last {
+		return fmt.Errorf("the record ends at entry %d: those from there to %d are missing", v.last.n, last)
+	}
+	if newest := len(v.bases) - 1; newest >= 0 && v.bases[newest].n > v.newest {
+		return fmt.Errorf("the base copy %s is of an entry that is not here", v.bases[newest].name())
+	}
+	return nil
+}
+
+// look opens the file at hand and describes the office, both as of one moment if no front has the office.
+func (v *verifier) look(ctx context.Context, path string) (*view, error) {
+	if v.Data != "" {
+		return v.lookAtNode(ctx, path)
+	}
+	bases, err := basesIn(v.dir())
+	if err != nil {
+		return nil, err
+	}
+	sort.Slice(bases, func(i, j int) bool { return bases[i].n < bases[j].n })
+	v.bases = bases
+	lock, err := v.lockIfFree(ctx)
+	if err != nil {
+		return nil, err
+	}
+	if lock == nil {
+		return openView(ctx, path)
+	}
+	defer lock.Close()
+	want, err := sumsOf(ctx, v.Program, v.Office, filepath.Join(v.scratch, "office"))
+	if err != nil {
+		return nil, err
+	}
+	v.want = &want
+	return openView(ctx, path)
+}
+
+// lookAtNode describes the newest snapshot of a node, and opens the file at hand, which has all entries up to that snapshot.
+func (v *verifier) lookAtNode(ctx context.Context, path string) (*view, error) {
+	folder := office.FolderIn(v.Data)
+	snapshots, err := office.List(folder)
+	if err != nil && !errors.Is(err, os.ErrNotExist) {
+		return nil, err
+	}
+	for _, s := range snapshots {
+		if v.at, err = ParseHead(s.Record); err != nil {
+			continue // The record begins later.
+		}
+		want, err := sumsOf(ctx, v.Program, office.PathIn(folder, s), filepath.Join(v.scratch, "office"))
+		if err != nil {
+			return nil, err
+		}
+		v.want = &want
+		break
+	}
+	if v.want == nil {
+		fmt.Fprintln(v.Out, "there is no snapshot since the record began: no rows are compared")
+	}
+	return openView(ctx, path)
+}
+
+// compareNode does the entries of a part up to the newest snapshot of a node, if it has them, and compares the rows.
+func (v *verifier) compareNode(ctx context.Context, opened *view, p part, end int64, again *rerun) error {
+	if v.Data == "" || v.want == nil || v.at.N < v.last.n || v.at.N > end {
+		return nil
+	}
+	if err := again.each(ctx, v.checked(entriesAfter(ctx, opened.tx, v.last.n, v.at.N), p)); err != nil {
+		return err
+	}
+	same, err := again.has(ctx, *v.want)
+	if err == nil && (!same || v.last.ch != v.at.Chain) {
+		err = fmt.Errorf("the newest snapshot is not what the record gives at entry %d: somebody has written one of them", v.at.N)
+	}
+	if err != nil {
+		return err
+	}
+	fmt.Fprintf(v.Out, "the newest snapshot has the rows that the record gives at entry %d\n", v.at.N)
+	v.want = nil
+	return nil
+}
+
+// file reads the file of an earlier part.
+func (v *verifier) file(ctx context.Context, path string) error {
+	opened, err := openView(ctx, path)
+	if err != nil {
+		return err
+	}
+	defer opened.Close()
+	if err := v.read(ctx, opened, false); err != nil {
+		return err
+	}
+	parts, err := partsOf(ctx, opened)
+	if err != nil {
+		return err
+	}
+	first, last, is := namesOf(path)
+	switch {
+	case !is: // It has another name.
+	case v.last.n != last:
+		return fmt.Errorf("it ends at entry %d, and its name says %d", v.last.n, last)
+	case parts[0].first != first:
+		return fmt.Errorf("it begins with entry %d, and its name says %d", parts[0].first, first)
+	}
+	return nil
+}
+
+func partsOf(ctx context.Context, opened *view) (parts []part, err error) {
+	rows, err := opened.tx.QueryContext(ctx, "SELECT first, why, before, rows FROM part ORDER BY first")
+	if err != nil {
+		return nil, err
+	}
+	defer rows.Close()
+	for rows.Next() {
+		var p part
+		if err := rows.Scan(&p.first, &p.why, &p.before, &p.rows); err != nil {
+			return nil, err
+		}
+		parts = append(parts, p)
+	}
+	if len(parts) == 0 {
+		return nil, errors.New("it has no part")
+	}
+	return parts, rows.Err()
+}
+
+// read reads a file. The last one may have entries without an answer.
+func (v *verifier) read(ctx context.Context, opened *view, isLast bool) error {
+	if err := judgeFile(ctx, opened); err != nil {
+		return err
+	}
+	parts, err := partsOf(ctx, opened)
+	if err != nil {
+		return err
+	}
+	if err := v.judgeParts(ctx, opened, parts); err != nil {
+		return err
+	}
+	answered, last, err := lastOf(opened.tx)
+	if err != nil {
+		return err
+	}
+	if !isLast && last.n != answered.n {
+		return fmt.Errorf("entry %d has no answer", last.n)
+	}
+	v.newest = last.n
+	for i, p := range parts {
+		end, isEnd := answered.n, i == len(parts)-1
+		if !isEnd {
+			end = parts[i+1].first - 1
+		}
+		if err := v.part(ctx, opened, p, end, isLast && isEnd); err != nil {
+			return err
+		}
+	}
+	return nil
+}
+
+// part reads a part that ends with an entry.
+func (v *verifier) part(ctx context.Context, opened *view, p part, end int64, isLast bool) error {
+	if err := v.join(p); err != nil {
+		return err
+	}
+	if err := v.layOut(ctx, opened, p); err != nil {
+		return err
+	}
+	again, err := startRerun(v.Program, v.scratch, v.HangTimeout)
+	if err != nil {
+		return err
+	}
+	defer func() { _ = again.Close() }() // What it has done is thrown away.
+	again.stop = v.stop
+	if err := v.compareNode(ctx, opened, p, end, again); err != nil {
+		return err
+	}
+	if err := v.compareBases(ctx, opened, p, end, again); err != nil {
+		return err
+	}
+	if err := again.each(ctx, v.checked(entriesAfter(ctx, opened.tx, v.last.n, end), p)); err != nil {
+		return err
+	}
+	if v.last.answer == unknown && isLast {
+		return fmt.Errorf("nobody knows the answer to entry %d, and no part begins anew after it", v.last.n)
+	}
+	if v.last.n != end {
+		return fmt.Errorf("entries %d to %d are missing", v.last.n+1, end)
+	}
+	if end >= p.first {
+		fmt.Fprintf(v.Out, "entries %d to %d: the chain holds, and the program gives the same answers\n", p.first, end)
+	}
+	if isLast && v.want != nil && v.Data == "" {
+		return v.compare(ctx, opened, again)
+	}
+	s, err := again.sums(ctx)
+	v.rows = s.all
+	if isLast && v.Data == "" {
+		fmt.Fprintln(v.Out, "a front has the office: its rows are not compared")
+	}
+	return err
+}
+
+// layOut writes the copy of the office with which a part begins to where a rerun needs it.
+func (v *verifier) layOut(ctx context.Context, opened *view, p part) error {
+	var text []byte
+	if err := opened.tx.QueryRowContext(ctx, "SELECT office FROM part WHERE first = ?", p.first).Scan(&text); err != nil {
+		return err
+	}
+	file := filepath.Join(v.scratch, rerunFile)
+	for _, left := range []string{file, file + walSuffix} {
+		if err := os.RemoveAll(left); err != nil {
+			return err
+		}
+	}
+	if err := os.WriteFile(file, text, 0o600); err != nil {
+		return err
+	}
+	if rows, err := rowsOf(ctx, file); err != nil || rows != p.rows {
+		return fmt.Errorf("the copy of the office at entry %d is not what the entry says", p.first)
+	}
+	return nil
+}
+
+// missing says that entries before a part aren't here.
+func missing(from int64, p part) string {
+	why := "their part was moved away"
+	if p.why == joined {
+		why = "this part begins with a snapshot"
+	}
+	return fmt.Sprintf("entries %d to %d are not here: %s", from, p.first-1, why)
+}
+
+// join reports how a part follows what was read before.
+func (v *verifier) join(p part) error {
+	switch next := v.last.n + 1; {
+	case p.first < next:
+		return fmt.Errorf("the part that begins with entry %d comes after entry %d", p.first, v.last.n)
+	case p.first > next && v.Part != "" && v.last.n == 0:
+		fmt.Fprintf(v.Out, "entry %d follows the head %s\n", p.first, Head{p.first - 1, p.before})
+		v.last = entry{n: p.first - 1, ch: p.before}
+	case p.first > next:
+		fmt.Fprintln(v.Out, missing(next, p))
+		for n := range v.heads {
+			if next <= n && n < p.first {
+				return fmt.Errorf("entry %d, whose link is known, is not here", n)
+			}
+		}
+		v.last, v.isMissing = entry{n: p.first - 1, ch: p.before}, true
+	case p.before != v.last.ch:
+		return fmt.Errorf("the part that begins with entry %d does not follow entry %d", p.first, v.last.n)
+	case (p.why == continued || p.why == joined) && p.rows != v.rows:
+		return fmt.Errorf("the part that begins with entry %d has other rows than entry %d leaves", p.first, v.last.n)
+	}
+	return nil
+}
+
+// sayAdopted says how a part begins over an office that was adopted.
+func (v *verifier) sayAdopted(p *part) {
+	what := "anew over an office that somebody has written behind the record"
+	switch {
+	case v.Data != "":
+		what = "anew over the office of a backup"
+	case p.first == 1:
+		what = "over an office that had commands and no record"
+	}
+	fmt.Fprintf(v.Out, "entry %d begins %s: adopted %s, for %q\n", p.first, what, p.adoption, p.reason)
+}
+
+// checked returns entries as next does, after it has checked their links.
+func (v *verifier) checked(next func() (*entry, error), p part) func() (*entry, error) {
+	return func() (*entry, error) {
+		e, err := next()
+		if err != nil || e == nil {
+			return e, err
+		}
+		isFirst := p.why != joined && e.n == p.first
+		link, isKnown := v.heads[e.n]
+		switch {
+		case e.n != v.last.n+1:
+			return nil, fmt.Errorf("entry %d is missing", v.last.n+1)
+		case e.ch == "":
+			return nil, fmt.Errorf("entry %d has no answer", e.n)
+		case chained(v.last.ch, e) != e.ch:
+			return nil, fmt.Errorf("the chain breaks at entry %d: it or the one before it was changed", e.n)
+		case isKnown && link != e.ch:
+			return nil, fmt.Errorf("entry %d has another link than the one that is known: the chain was computed anew", e.n)
+		case v.last.answer == unknown && e.answer != unknown && !(isFirst && p.why == adopted):
+			return nil, fmt.Errorf("nobody knows the answer to entry %d, and no part begins anew after it", v.last.n)
+		case isFirst && !p.begins(e) || !isFirst && !e.isCommand() && !e.isReview() && !e.isBounded():
+			return nil, fmt.Errorf("entry %d is not what its part says", e.n)
+		}
+		if isFirst && p.why == adopted {
+			v.sayAdopted(&p)
+		}
+		v.last = *e
+		return e, nil
+	}
+}
+
+// compare compares the rows of the office with those that the record gives. The last entries may have no answer yet.
+func (v *verifier) compare(ctx context.Context, opened *view, again *rerun) error {
+	open, err := openEntries(ctx, opened.tx, v.last.n)
+	if err != nil {
+		return err
+	}
+	done, err := again.fit(ctx, open, *v.want)
+	if err != nil {
+		return err
+	}
+	if done < 0 {
+		return errDiffers
+	}
+	if len(open) > 0 {
+		fmt.Fprintf(v.Out, "%d entries have no answer yet; the next start of the front finds out which were done\n", len(open))
+	}
+	fmt.Fprintln(v.Out, "the office has the rows that the record gives")
+	return nil
+}

@@ -1,0 +1,119 @@
+// Package recorded has what is asked of the record of an office, and what it answers.
+package recorded
+
+import (
+	"context"
+	"errors"
+	"strings"
+	"time"
+
+	"rbac-node/internal/api"
+)
+
+// TimeLayout is how the time of an entry is written, in UTC.
+const TimeLayout = "2006-01-02T15:04:05.000Z"
+
+// ReviewPrefix is how the request of an entry begins that says that somebody has ended a review of who has what.
+const ReviewPrefix = `{"record":"reviewed",`
+
+// A Filter chooses entries. An empty text chooses all.
+type Filter struct {
+	User, Role, Object, Operation, Function, Caller, Since, Until string
+	// Set is a separation of duty set, Session the digest of a session's name, and Reason a part of the reason.
+	Set, Session, Reason string
+	IsRefused            bool
+}
+
+// timeLayouts are how a time of a filter may be written, in UTC and with a Z behind it or without.
+var timeLayouts = []string{"2006", "2006-01", "2006-01-02", "2006-01-02T15", "2006-01-02T15:04", "2006-01-02T15:04:05"}
+
+var errTime = errors.New("a time is written as in 2026-11-27 or 2026-11-27T09:30, in UTC")
+
+// ParseTime returns a time of a filter as entries have it. An empty text chooses all.
+func ParseTime(text string) (string, error) {
+	if text == "" {
+		return "", nil
+	}
+	for _, layout := range timeLayouts {
+		if at, err := time.Parse(layout, strings.TrimSuffix(text, "Z")); err == nil {
+			return at.Format(TimeLayout), nil
+		}
+	}
+	return "", errTime
+}
+
+// A Query asks for the newest entries that a filter chooses.
+type Query struct {
+	Filter
+	// Before is the number that the entries come before, or 0.
+	Before int64
+	Limit  int
+}
+
+// An Entry is a command of the record, or says how a part of the record begins, or that a review has ended.
+type Entry struct {
+	N                  int64
+	At, Caller, Reason string
+	// Request and Answer are JSON. Answer is empty if nothing is known yet.
+	Request, Answer string
+	// IsFound says that a start of the front has found out the answer.
+	IsFound bool
+}
+
+// A Page has entries, the newest first.
+type Page struct {
+	Entries []Entry
+	// HasMore says that there are older ones that the filter chooses.
+	HasMore bool
+	// Head is the number and the link of the last entry that has an answer, and First the number of the first one that is here.
+	Head  string
+	First int64
+}
+
+// Links are entries, the oldest first, as the texts whose digest, after the link before them, is the link of the entry. They show
+// that one head continues another.
+type Links struct {
+	Entries [][]string
+	// Head is durable. First is the first entry of the file that they begin in: what comes before it may have been moved away.
+	Head  string
+	First int64
+}
+
+// A Command is one of the log with its answer.
+type Command struct {
+	Call               *api.Call
+	Caller, At, Reason string
+	Answer             []byte
+	// IsBounded says that only the beginning of the request is recorded if it is long and was refused.
+	IsBounded bool
+}
+
+// A Follower is the record of a node, which gets the commands of the log in their order.
+type Follower interface {
+	// Resume goes on after the head that the office in use has, which a snapshot gave. That may have been fetched from another node.
+	Resume(ctx context.Context, head string, isFetched bool) error
+	// HasBegun reports whether there is a record, and Begin begins one with the office in use. No program has that open, unless it is as
+	// it was at Resume.
+	HasBegun() bool
+	Begin(ctx context.Context, at string, isAsAtResume bool) error
+	// Admit refuses a command that can't be recorded.
+	Admit(call *api.Call) error
+	// Add adds a command. It doesn't wait; Room waits until there is room for many more.
+	Add(c Command)
+	Room()
+	// Added returns the head after all that was added, or an empty text. Keep makes the entries up to a head durable.
+	Added() string
+	Keep(ctx context.Context, head string) error
+	// Divide may let the record go on in another file after a head that was kept, with which a snapshot was made.
+	Divide(ctx context.Context, snapshot, head string)
+	// Why says why entries wait instead of being written, or is empty.
+	Why() string
+	// Failed is closed when the record can't go on, and Failure says why.
+	Failed() <-chan struct{}
+	Failure() error
+	// Recorded returns entries, and Links the next ones after an entry, up to the head.
+	Recorded(ctx context.Context, query Query) (Page, error)
+	Links(ctx context.Context, after int64) (Links, error)
+	// Close writes what was added. Nothing is added afterwards.
+	Close() error
+}

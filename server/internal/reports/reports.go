@@ -1,0 +1,150 @@
+// Package reports has what auditors read of an office: lines that are made one after the other, in the order of those of the tools
+// for auditors, from what was in the office at one place in the order.
+package reports
+
+import (
+	"fmt"
+	"sort"
+
+	"rbac-node/internal/state"
+)
+
+// A Filter chooses lines. An empty text chooses all.
+type Filter struct {
+	User, Role, Object, Operation, Set string
+	// Left is how many more members violate a set at most, if HasLeft.
+	Left    int64
+	HasLeft bool
+}
+
+// filters has the keys of the filters of each report.
+var filters = map[string][]string{
+	"permissions": {"user", "role", "object", "operation"}, "sessions": {"user", "role", "object", "operation"},
+	"near": {"user", "set", "left"}, "room": nil, "dump": nil,
+}
+
+// Filters returns the keys of the filters of a report, and whether there is such a report.
+func Filters(name string) (keys []string, has bool) {
+	keys, has = filters[name]
+	return keys, has
+}
+
+// A Report is a list of lines.
+type Report struct {
+	// Columns has the heads of the cells of a line. It is nil if each line is an object of JSON.
+	Columns []string
+	// Numbers has the columns that are numbers.
+	Numbers map[string]bool
+	// Lines is how many lines there are. They have not been made.
+	Lines int64
+	// Write makes the lines, and gives each to a function until that fails. The cells are valid until it returns.
+	Write func(add func(cells ...string) error) error
+}
+
+// New returns a report of an office.
+func New(name string, office *state.Frozen, filter Filter) (*Report, error) {
+	switch name {
+	case "permissions":
+		return permissions(office, filter), nil
+	case "sessions":
+		return sessions(office, filter), nil
+	case "near":
+		return near(office, filter), nil
+	case "room":
+		return room(office), nil
+	case "dump":
+		return dump(office), nil
+	}
+	return nil, fmt.Errorf("no report is called %q", name)
+}
+
+// A roleSet is a set of roles by their numbers.
+type roleSet []uint64
+
+func (s roleSet) has(number int) bool { return s[number/64]&(1<<(number%64)) != 0 }
+
+func (s roleSet) add(number int) { s[number/64] |= 1 << (number % 64) }
+
+// Roles have the roles of an office by their numbers, which are in the order of their names, and what is below those that were
+// asked for.
+type roles struct {
+	office  *state.Frozen
+	numbers map[string]int
+	below   map[int]roleSet
+}
+
+func newRoles(office *state.Frozen) *roles {
+	r := &roles{office: office, numbers: make(map[string]int, len(office.Roles)), below: map[int]roleSet{}}
+	for i, row := range office.Roles {
+		r.numbers[row[0]] = i
+	}
+	return r
+}
+
+func (r *roles) name(number int) string { return r.office.Roles[number][0] }
+
+// number returns the number of a role, or -1.
+func (r *roles) number(name string) int {
+	if number, has := r.numbers[name]; has {
+		return number
+	}
+	return -1
+}
+
+// under returns a role and its juniors.
+func (r *roles) under(number int) roleSet {
+	found, has := r.below[number]
+	if !has {
+		found = make(roleSet, (len(r.office.Roles)+63)/64)
+		for name := range r.office.Graph.Below(r.name(number)) {
+			if one := r.number(name); one >= 0 {
+				found.add(one)
+			}
+		}
+		r.below[number] = found
+	}
+	return found
+}
+
+// A holder is a user with the assigned roles, or a session with the activated ones. The roles are in their order.
+type holder struct {
+	name, user string
+	roles      []int
+}
+
+// users returns the users who are assigned to roles, in the order of their names, or one of them.
+func (r *roles) users(only string) (found []holder) {
+	rows := r.office.Assigned
+	if only != "" {
+		first := sort.Search(len(rows), func(i int) bool { return rows[i][0] >= only })
+		last := sort.Search(len(rows), func(i int) bool { return rows[i][0] > only })
+		rows = rows[first:last]
+	}
+	for i, row := range rows {
+		if i == 0 || rows[i-1][0] != row[0] {
+			found = append(found, holder{name: row[0], user: row[0]})
+		}
+		if number := r.number(row[1]); number >= 0 {
+			last := &found[len(found)-1]
+			last.roles = append(last.roles, number)
+		}
+	}
+	return found
+}
+
+// sessions returns the sessions in the order of their digests, or those of one user.
+func (r *roles) sessions(only string) (found []holder) {
+	for _, one := range r.office.Sessions {
+		if only != "" && one.User != only {
+			continue
+		}
+		next := holder{name: one.Digest, user: one.User}
+		for _, role := range one.Active {
+			if number := r.number(role); number >= 0 {
+				next.roles = append(next.roles, number)
+			}
+		}
+		found = append(found, next)
+	}
+	return found
+}

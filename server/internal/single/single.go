@@ -1,0 +1,274 @@
+// Package single keeps one office on one machine, without etcd. It feeds `rbac replay FILE`, so the file is the truth: an answer
+// comes after its command is in the file, and every function is answered by the replay. Lists and snapshots, which no function
+// answers, come from the state in memory.
+package single
+
+import (
+	"context"
+	"encoding/json"
+	"errors"
+	"fmt"
+	"net/http"
+	"os"
+	"os/exec"
+	"path/filepath"
+	"syscall"
+	"time"
+
+	"rbac-node/internal/api"
+	"rbac-node/internal/faults"
+	"rbac-node/internal/feed"
+	"rbac-node/internal/logs"
+	"rbac-node/internal/office"
+	"rbac-node/internal/trial"
+)
+
+const (
+	// MostReads is after how many reads of its input a replay is started anew at a quiet moment.
+	MostReads = 900_000_000
+	// overlap is how long an earlier program may take to end that has the office open.
+	overlap = 5 * time.Second
+)
+
+// Options are what an office needs.
+type Options struct {
+	File, Program string
+	// AnswerTimeout is how long a request waits for its answer, and HangTimeout how long a replay may answer nothing.
+	AnswerTimeout, HangTimeout time.Duration
+	Reads                      int64
+	Log                        *logs.Logger
+	Figures                    *feed.Figures
+	// IsOpen says that everybody who can connect may do everything.
+	IsOpen bool
+	// SessionAge is after how much time a session ends, and SessionIdle after how much in which it isn't named. Zero is never.
+	SessionAge, SessionIdle time.Duration
+	// Locked is called when the office belongs to this front, and is there. Say is called with what the start does from then on.
+	Locked func() error
+	Say    func(stage string)
+	// CheckRecord refuses what the record can't be that of, before the office is made, and OpenRecord opens the record. Without them
+	// nothing is recorded.
+	CheckRecord func() error
+	OpenRecord  func(ctx context.Context) (Recorder, error)
+}
+
+// A Recorder keeps the commands of an office with their answers.
+type Recorder interface {
+	feed.Keeper
+	// Admit writes the lines of a unit as they are recorded, or refuses it.
+	Admit(u *feed.Unit) error
+	// Before finds out which of the commands without an answer were done. No replay runs meanwhile.
+	Before(ctx context.Context) error
+	// Why says why no command is recorded now, or is empty.
+	Why() string
+	// Close ends the record. No replay runs any more, and the last one has ended in order or not.
+	Close(isInOrder bool) error
+}
+
+// An Office is the office of a file.
+type Office struct {
+	Options
+	order
+	feed *feed.Feed
+	lock *os.File
+	// record is nil if nothing is recorded.
+	record Recorder
+	trying trying
+}
+
+// Open opens the office of a file, and makes it if there is no file.
+func Open(ctx context.Context, options Options) (*Office, error) {
+	lock, err := Lock(ctx, options.File+".lock")
+	if err != nil {
+		return nil, err
+	}
+	o := &Office{Options: options, lock: lock, trying: make(trying, 1)}
+	trial.RemoveFolders(o.File)
+	if err := o.open(ctx); err != nil {
+		if o.record != nil {
+			_ = o.record.Close(false) // What has failed before says more.
+		}
+		_ = lock.Close()
+		return nil, err
+	}
+	return o, nil
+}
+
+// RestoringSuffix is added to the path of an office for the folder in which a restore prepares what it puts in place of the office.
+const RestoringSuffix = ".restoring"
+
+// PlanOf returns the path of a file that is there while a restore of an office isn't finished.
+func PlanOf(office string) string { return filepath.Join(office+RestoringSuffix, "plan") }
+
+// CheckRestored refuses an office that is locked and whose restore isn't finished: it may have another record than its own.
+func CheckRestored(office string) error {
+	if _, err := os.Lstat(PlanOf(office)); !errors.Is(err, os.ErrNotExist) {
+		return fmt.Errorf("a restore of %s was interrupted: run its command, rbac-node restore, again", office)
+	}
+	return nil
+}
+
+// open opens the record and the office. The office is locked.
+func (o *Office) open(ctx context.Context) error {
+	if err := CheckRestored(o.File); err != nil {
+		return err
+	}
+	if o.CheckRecord != nil {
+		if err := o.CheckRecord(); err != nil {
+			return err
+		}
+	}
+	if err := makeIfMissing(ctx, o.Program, o.File); err != nil {
+		return err
+	}
+	if err := o.count(); err != nil {
+		return err
+	}
+	o.Say("the record is opened")
+	if err := o.Locked(); err != nil {
+		return err
+	}
+	options := feed.Options{
+		Name: "office", Before: o.before, Observer: o,
+		// The replay inherits the lock. So whoever gets it knows that no replay of an earlier front writes the file any more.
+		Start: func() (*office.Replay, error) {
+			if faults.Has(faults.Unlocked) {
+				return office.Start(o.Program, o.File, o.HangTimeout)
+			}
+			return office.Start(o.Program, o.File, o.HangTimeout, o.lock)
+		},
+		First: [][]byte{[]byte(`{"fn":"ssdRoleSets"}`)},
+		Reads: o.Reads, Log: o.Log, Figures: o.Figures,
+	}
+	var err error
+	if o.OpenRecord != nil {
+		if o.record, err = o.OpenRecord(ctx); err != nil {
+			return err
+		}
+		options.Keeper = o.record
+	}
+	if o.feed, err = feed.Open(ctx, options); err != nil {
+		return fmt.Errorf("the office %s doesn't open: %w", o.File, err)
+	}
+	if o.unread != nil {
+		ended, end := context.WithCancel(context.Background())
+		end()
+		_ = o.feed.Run(ended) // Nothing has been asked.
+		return fmt.Errorf("the office %s can't be read: %w", o.File, o.unread)
+	}
+	return nil
+}
+
+// Lock returns a lock that no other program has. An earlier replay may need a moment to end.
+func Lock(ctx context.Context, path string) (*os.File, error) {
+	file, err := os.OpenFile(path, os.O_RDWR|os.O_CREATE|syscall.O_NOFOLLOW, 0o600)
+	if err != nil {
+		return nil, fmt.Errorf("lock: %w", err)
+	}
+	within, cancel := context.WithTimeout(ctx, overlap)
+	defer cancel()
+	for {
+		err := syscall.Flock(int(file.Fd()), syscall.LOCK_EX|syscall.LOCK_NB)
+		if err == nil {
+			return file, nil
+		}
+		select {
+		case <-within.Done():
+			_ = file.Close()
+			return nil, fmt.Errorf("lock %s, which another front has: %w", path, err)
+		case <-time.After(10 * time.Millisecond):
+		}
+	}
+}
+
+// makeIfMissing makes an office unless there is something at the path. After a crash there is a whole office or nothing.
+func makeIfMissing(ctx context.Context, program, path string) error {
+	if _, err := os.Lstat(path); !errors.Is(err, os.ErrNotExist) {
+		return err
+	}
+	making := path + ".making"
+	for _, left := range []string{making, making + "-wal"} {
+		if err := os.Remove(left); err != nil && !errors.Is(err, os.ErrNotExist) {
+			return fmt.Errorf("make an office: %w", err)
+		}
+	}
+	if said, err := exec.CommandContext(ctx, program, "init", making).CombinedOutput(); err != nil {
+		return fmt.Errorf("make an office: %s init %s: %w: %s", program, making, err, said)
+	}
+	if err := os.Rename(making, path); err != nil {
+		return fmt.Errorf("make an office: %w", err)
+	}
+	return syncFolder(filepath.Dir(path))
+}
+
+// syncFolder makes the names in a folder durable.
+func syncFolder(path string) error {
+	folder, err := os.Open(path)
+	if err != nil {
+		return err
+	}
+	defer folder.Close()
+	if err := folder.Sync(); err != nil {
+		return fmt.Errorf("sync %s: %w", path, err)
+	}
+	return nil
+}
+
+// Run answers until the context ends, and then those that have asked before.
+func (o *Office) Run(ctx context.Context) error {
+	defer o.lock.Close()
+	if o.SessionAge+o.SessionIdle > 0 {
+		go o.state.Expire(ctx, o.SessionAge, o.SessionIdle, func() int { return 0 }, func(ctx context.Context, call *api.Call) {
+			_, _ = o.Do(ctx, api.NewBatch(api.Question, call)) // It is tried again.
+		})
+	}
+	err := o.feed.Run(ctx)
+	o.trying <- struct{}{} // Whoever has tried commands has removed the copy.
+	if o.record == nil {
+		return err
+	}
+	if closing := o.record.Close(err == nil); err == nil {
+		err = closing
+	}
+	return err
+}
+
+// Close ends an office that Run was never called for.
+func (o *Office) Close() error {
+	ended, end := context.WithCancel(context.Background())
+	end()
+	return o.Run(ended)
+}
+
+// IsAlive reports whether the goroutine that feeds the replay goes on, before the context ends.
+func (o *Office) IsAlive(ctx context.Context) bool { return o.feed.IsAlive(ctx) }
+
+// A health is the condition of an office.
+type health struct {
+	Ready bool   `json:"ready"`
+	Why   string `json:"why,omitempty"`
+	Open  bool   `json:"open,omitempty"`
+	// Record says why commands are refused although questions are answered.
+	Record string `json:"record,omitempty"`
+}
+
+func (o *Office) health() health {
+	h := health{Why: o.feed.Why(), Open: o.IsOpen}
+	h.Ready = h.Why == ""
+	if o.record != nil {
+		h.Record = o.record.Why()
+	}
+	return h
+}
+
+// IsReady reports whether the office answers.
+func (o *Office) IsReady() bool { return o.health().Ready }
+
+// ServeHealth reports the condition of the office, with 200 if it answers and 503 if not.
+func (o *Office) ServeHealth(w http.ResponseWriter, _ *http.Request) {
+	w.Header().Set("Content-Type", "application/json")
+	h := o.health()
+	if !h.Ready {
+		w.WriteHeader(http.StatusServiceUnavailable)
+	}
+	_ = json.NewEncoder(w).Encode(h) // If it fails, the client is gone.
+}

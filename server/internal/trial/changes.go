@@ -1,0 +1,228 @@
+package trial
+
+import (
+	"math/bits"
+	"sort"
+
+	"rbac-node/internal/api"
+	"rbac-node/internal/state"
+)
+
+// mostRows is how many changes of each kind are listed. The others are counted.
+const mostRows = 1000
+
+// A Change is that a user could do an operation on an object, or no longer.
+type Change struct {
+	Object    string `json:"object"`
+	Operation string `json:"operation"`
+	User      string `json:"user"`
+}
+
+// Changes have the first changes, and how many there are in all.
+type Changes struct {
+	Count int64    `json:"count"`
+	Rows  []Change `json:"rows"`
+}
+
+// A view is what users can do in some session, as decideByUser decides it: by the roles that they are authorized for and that can be
+// activated, unless they are locked.
+type view struct {
+	permissions []state.Row
+	users       map[string]set
+}
+
+// A set has permissions by their places.
+type set []uint64
+
+const word = 64
+
+func (s set) with(i int) set {
+	for len(s) <= i/word {
+		s = append(s, 0)
+	}
+	s[i/word] |= 1 << (i % word)
+	return s
+}
+
+func (s set) has(i int) bool { return i/word < len(s) && s[i/word]>>(i%word)&1 > 0 }
+
+// union adds another set to this one.
+func (s set) union(other set) set {
+	for len(s) < len(other) {
+		s = append(s, 0)
+	}
+	for i, part := range other {
+		s[i] |= part
+	}
+	return s
+}
+
+// look asks the copy what users can do, or all users if none are named. The roles of each permission and of each user are answers of
+// its program. Which users are locked and which roles no session can have is known.
+func (a *asker) look(known *state.State, users []string) (*view, error) {
+	v := &view{permissions: known.Permissions(), users: map[string]set{}}
+	granted, err := a.grantedTo(v.permissions)
+	if err != nil {
+		return nil, err
+	}
+	graph := known.Graph()
+	for role := range granted {
+		if set, _ := graph.Blocked(role); set != "" {
+			delete(granted, role)
+		}
+	}
+	if users == nil {
+		users = known.Users()
+	}
+	var asked []string
+	var calls []*api.Call
+	for _, user := range users {
+		if known.IsLocked(user) {
+			continue
+		}
+		call, err := api.NewCall("authorizedRoles", "user", user)
+		if err != nil {
+			return nil, err
+		}
+		asked, calls = append(asked, user), append(calls, call)
+	}
+	// Many users have the same roles.
+	same := map[string]set{}
+	err = a.ask(calls, func(i int, answer []byte) {
+		has, isKnown := same[string(answer)]
+		if !isKnown {
+			has = permissionsOf(answer, granted)
+			same[string(answer)] = has
+		}
+		v.users[asked[i]] = has
+	})
+	return v, err
+}
+
+// grantedTo returns the permissions that are granted to each role itself.
+func (a *asker) grantedTo(permissions []state.Row) (map[string]set, error) {
+	calls := make([]*api.Call, len(permissions))
+	for i, one := range permissions {
+		var err error
+		if calls[i], err = api.NewCall("permissionRoles", "object", one[0], "operation", one[1]); err != nil {
+			return nil, err
+		}
+	}
+	granted := map[string]set{}
+	err := a.ask(calls, func(i int, answer []byte) {
+		for _, role := range namesOf(answer) {
+			granted[role] = granted[role].with(i)
+		}
+	})
+	return granted, err
+}
+
+// permissionsOf returns what the roles of an answer have. A user that isn't there has no role.
+func permissionsOf(answer []byte, granted map[string]set) (found set) {
+	for _, role := range namesOf(answer) {
+		found = found.union(granted[role])
+	}
+	return found
+}
+
+// namesOf returns the names that an answer lists.
+func namesOf(answer []byte) (names []string) {
+	if !api.IsAccepted(answer) {
+		return nil
+	}
+	_ = api.ValueOf(answer, &names) // The program writes lists of names.
+	return names
+}
+
+// changes returns what users can do in the second view and not in the first, and the other way round.
+func changes(before, after *view) (gained, lost Changes) {
+	gained.Rows, lost.Rows = []Change{}, []Change{}
+	first := placesIn(after.permissions, before.permissions)
+	for _, user := range usersIn(before, after) {
+		had, has := first.translate(before.users[user]), after.users[user]
+		gained.add(user, minus(has, had), first.all)
+		lost.add(user, minus(had, has), first.all)
+	}
+	return gained, lost
+}
+
+// usersIn returns the users of both views in their order.
+func usersIn(views ...*view) (users []string) {
+	isIn := map[string]bool{}
+	for _, v := range views {
+		for user := range v.users {
+			if !isIn[user] {
+				isIn[user] = true
+				users = append(users, user)
+			}
+		}
+	}
+	sort.Strings(users)
+	return users
+}
+
+// Places say where the permissions of an earlier view are in all, which begin with those of the later one.
+type places struct {
+	all    []state.Row
+	of     []int
+	isSame bool
+}
+
+func placesIn(later, earlier []state.Row) places {
+	p := places{all: append([]state.Row(nil), later...), of: make([]int, len(earlier)), isSame: true}
+	at := make(map[state.Row]int, len(later))
+	for i, one := range later {
+		at[one] = i
+	}
+	for i, one := range earlier {
+		place, isThere := at[one]
+		if !isThere {
+			place = len(p.all)
+			p.all = append(p.all, one)
+		}
+		p.of[i] = place
+		p.isSame = p.isSame && place == i
+	}
+	return p
+}
+
+// translate returns a set of the earlier view by the places in all.
+func (p places) translate(s set) (found set) {
+	if p.isSame {
+		return s
+	}
+	for i, place := range p.of {
+		if s.has(i) {
+			found = found.with(place)
+		}
+	}
+	return found
+}
+
+// minus returns what is in one set and not in another.
+func minus(one, other set) set {
+	left := append(set(nil), one...)
+	for i := range left {
+		if i < len(other) {
+			left[i] &^= other[i]
+		}
+	}
+	return left
+}
+
+// add counts what a user has gained or lost, and lists it if there is room.
+func (c *Changes) add(user string, found set, permissions []state.Row) {
+	var own []state.Row
+	for i, part := range found {
+		c.Count += int64(bits.OnesCount64(part))
+		for ; part != 0 && len(c.Rows) < mostRows; part &= part - 1 {
+			own = append(own, permissions[i*word+bits.TrailingZeros64(part)])
+		}
+	}
+	sort.Slice(own, func(i, k int) bool { return own[i].IsBefore(own[k]) })
+	for _, one := range own {
+		if len(c.Rows) < mostRows {
+			c.Rows = append(c.Rows, Change{Object: one[0], Operation: one[1], User: user})
+		}
+	}
+}
