@@ -221,7 +221,11 @@ HOSTILE = {
     "no record.db": (lambda b, other: os.remove(f"{b}/office.record/record.db"), "SHA256SUMS names it, and it is not there"),
     "another byte": (lambda b, other: changed_byte(f"{b}/office"), "it is not what SHA256SUMS says"),
     "another byte of the record": (lambda b, other: changed_byte(f"{b}/office.record/record.db"), "it is not what SHA256SUMS says"),
-    "a file without a sum": (lambda b, other: Path(f"{b}/office.record/base-9-x").write_text("x"), "it is not what SHA256SUMS says"),
+    "a file without a sum": (lambda b, other: Path(f"{b}/office.record/base-9-f").write_text("x"), "it is not what SHA256SUMS says"),
+    "a name that a terminal obeys": (
+        lambda b, other: Path(f"{b}/SHA256SUMS").write_bytes(Path(f"{b}/SHA256SUMS").read_bytes() + b"0  \x1b[2J\n"),
+        '"\\x1b[2J": SHA256SUMS names it',
+    ),
     "no office, by its bytes": (lambda b, other: rewritten(f"{b}/office", b"no office"), "check"),
     "the office of another backup": (
         lambda b, other: rewritten(f"{b}/office", Path(f"{other}/office").read_bytes()), "the office is not what the record gives",
@@ -355,6 +359,8 @@ def all_of(trace):
 def after_kill(bench, what, front, then):
     """What a kill has left, by what the program and a front do with it."""
     done = subprocess.run([RBAC, "check", front.office], capture_output=True, text=True, check=False)
+    # Otherwise the unit of the program alone would make an empty office there.
+    bench.same(f"{what}: there is an office", os.path.getsize(front.office) > 0, True)
     if not os.path.exists(f"{front.office}.restoring/plan"):
         bench.same(f"{what}: check", (done.returncode, done.stdout), (0, "good\n"))
         found = rows_of(front.office, bench.path("found"))

@@ -10,6 +10,7 @@ import (
 	"io"
 	"os"
 	"path/filepath"
+	"regexp"
 	"strings"
 	"syscall"
 )
@@ -23,6 +24,9 @@ const (
 	// mostSums is how many bytes a file of sums may have.
 	mostSums = 1 << 24
 )
+
+// recordFile matches the names of the files of a record: the one at hand, earlier parts, and copies of the office.
+var recordFile = regexp.MustCompile(`^(record\.db|record\.db-wal|record-[0-9]+-[0-9]+\.db|base-[0-9]+-[0-9a-f]+)$`)
 
 // A backup has the files of a backup, which are open. No name of them is looked up again.
 type backup struct {
@@ -88,10 +92,8 @@ func (b *backup) openRecord(top *os.File, uid int) error {
 		return err
 	}
 	for _, entry := range entries {
-		name := entry.Name()
-		isPart := strings.HasPrefix(name, "record-") && strings.HasSuffix(name, ".db")
-		if name == "record.db" || name == "record.db"+walSuffix || isPart || strings.HasPrefix(name, "base-") {
-			if err := b.open(folder, recordName, name, uid); err != nil {
+		if recordFile.MatchString(entry.Name()) {
+			if err := b.open(folder, recordName, entry.Name(), uid); err != nil {
 				return err
 			}
 		}
@@ -189,7 +191,7 @@ func (b *backup) copyTo(ctx context.Context, folder string) error {
 		delete(left, name)
 	}
 	for name := range left {
-		return fmt.Errorf("%s: %s names it, and it is not there: take another backup", name, sumsName)
+		return fmt.Errorf("%q: %s names it, and it is not there: take another backup", name, sumsName)
 	}
 	return nil
 }

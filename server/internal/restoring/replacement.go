@@ -6,7 +6,9 @@ import (
 	"fmt"
 	"os"
 	"path/filepath"
+	"strings"
 	"syscall"
+	"unicode"
 
 	"rbac-node/internal/single"
 )
@@ -94,8 +96,16 @@ func (r replacement) plan() (*plan, error) {
 	if err := json.Unmarshal(text, p); err != nil {
 		return nil, fmt.Errorf("%s: %w", r.planPath(), err)
 	}
+	// Whoever may write the folder of the office may write a plan, which root carries out and prints.
+	if !strings.HasPrefix(p.Before, r.before()) || strings.Contains(p.Before[len(r.before()):], "/") ||
+		strings.IndexFunc(p.Backup+p.Before+strings.ReplaceAll(p.Done, "\n", ""), unicode.IsControl) >= 0 {
+		return nil, fmt.Errorf("%s: no restore has written this: look who has, and move the folder away", r.planPath())
+	}
 	return p, nil
 }
+
+// before returns how the folder for what was there before begins.
+func (r replacement) before() string { return r.office + ".before-" }
 
 // write makes durable all that was prepared, and then the plan.
 func (r replacement) write(p plan) error {
@@ -144,6 +154,22 @@ func (r replacement) finish(p plan) error {
 			}
 		}
 	}
+	if err := r.putRecord(p); err != nil {
+		return err
+	}
+	if isOffice {
+		if err := r.putOffice(); err != nil {
+			return err
+		}
+	}
+	if err := sync(filepath.Dir(r.office)); err != nil {
+		return err
+	}
+	return os.RemoveAll(r.folder())
+}
+
+// putRecord moves the earlier record away, if it is still there, and puts the one that was prepared in its place.
+func (r replacement) putRecord(p plan) error {
 	isRecord, err := exists(r.in(recordName))
 	if err != nil {
 		return err
@@ -153,26 +179,21 @@ func (r replacement) finish(p plan) error {
 			return err
 		}
 	}
-	if isRecord {
-		if err := os.Rename(r.in(recordName), r.office+recordSuffix); err != nil {
-			return err
-		}
+	if !isRecord {
+		return nil
 	}
-	if isOffice {
-		if err := os.Remove(r.office + walSuffix); err != nil && !errors.Is(err, os.ErrNotExist) {
-			return err
-		}
-		if err := sync(filepath.Dir(r.office)); err != nil {
-			return err
-		}
-		if err := os.Rename(r.in(officeName), r.office); err != nil {
-			return err
-		}
+	return os.Rename(r.in(recordName), r.office+recordSuffix)
+}
+
+// putOffice puts the office that was prepared in place of the earlier one, whose log has another name by now.
+func (r replacement) putOffice() error {
+	if err := os.Remove(r.office + walSuffix); err != nil && !errors.Is(err, os.ErrNotExist) {
+		return err
 	}
 	if err := sync(filepath.Dir(r.office)); err != nil {
 		return err
 	}
-	return os.RemoveAll(r.folder())
+	return os.Rename(r.in(officeName), r.office)
 }
 
 // keep gives what is at a path a name in the folder for what was there before, by a link or by a move.

@@ -100,7 +100,7 @@ func (o *Options) prepare(ctx context.Context, r replacement, b *backup) (p plan
 	if err := b.copyTo(ctx, r.folder()); err != nil {
 		return p, fmt.Errorf("backup %s: %w", o.Backup, err)
 	}
-	p = plan{Backup: o.Backup, Before: o.Office + ".before-" + time.Now().UTC().Format("20060102-150405.000000")}
+	p = plan{Backup: o.Backup, Before: r.before() + time.Now().UTC().Format("20060102-150405.000000")}
 	if p.Done, err = o.Prepare(ctx, r.in(officeName)); err != nil {
 		return p, fmt.Errorf("backup %s: %w", o.Backup, err)
 	}

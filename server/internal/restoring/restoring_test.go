@@ -122,6 +122,29 @@ func leaveLog(_ context.Context, office string) (string, error) {
 	return "", os.WriteFile(office+walSuffix, []byte("a log"), 0o600)
 }
 
+// A plan that no restore has written is neither carried out nor printed.
+func TestForeignPlan(t *testing.T) {
+	for name, text := range map[string]string{
+		"another folder":       `{"Before":"/etc/office.before-1"}`,
+		"a folder elsewhere":   `{"Before":"HERE/office.before-1/../../elsewhere"}`,
+		"letters of terminals": `{"Before":"HERE/office.before-1","Done":"\u001b[2J"}`,
+		"no plan":              `{`,
+		"nothing":              `{}`,
+	} {
+		dir := t.TempDir()
+		here := filepath.Join(dir, "here")
+		lay(t, filepath.Join(dir, "backup"), inBackup)
+		lay(t, here, wasThere)
+		lay(t, here, map[string]string{"office.restoring/plan": strings.ReplaceAll(text, "HERE", here)})
+		before := has(t, here)
+		var out strings.Builder
+		if err := Run(context.Background(), options(dir, func(o *Options) { o.Out = &out })); err == nil || out.Len() > 0 {
+			t.Errorf("%s: %v, %q", name, err, out.String())
+		}
+		same(t, has(t, here), before)
+	}
+}
+
 // From each state that a crash can leave, the same command ends well, and another one finishes the first and says so.
 func TestInterrupted(t *testing.T) {
 	plan := func(dir string) string {
