@@ -57,7 +57,9 @@ ann = ["boss"]
     compiled = policy(bench, "callers", "p.toml").out
     lines = [json.loads(line) for line in compiled.splitlines()]
     granted = {(one["role"], one["operation"]) for one in lines if one["fn"] == "grantPermission"}
-    bench.same("what is granted", granted, {("boss", "lists"), *((role, one) for role in ("boss", "clerk") for one in COMMANDS)})
+    bench.same(
+        "what is granted", granted, {("boss", "lists"), *((role, one) for role in ("boss", "clerk") for one in COMMANDS)}
+    )
     bench.write("p.jsonl", compiled)
     wanted = """[roles]
 boss.grants.office = ["all commands", "lists"]

@@ -25,7 +25,10 @@ def command(name, *words, folder=None, given=b"", seconds=SECONDS):
 
 def command_here(name, *words, folder, given=b""):
     """The same without a process of its own, whose start takes longer than most commands do."""
-    streams = {stream: io.TextIOWrapper(io.BytesIO(content)) for stream, content in (("stdin", given), ("stdout", b""), ("stderr", b""))}
+    streams = {
+        stream: io.TextIOWrapper(io.BytesIO(content))
+        for stream, content in (("stdin", given), ("stdout", b""), ("stderr", b""))
+    }
     start = import_module(f"rbac_policy.{name.removeprefix('rbac-')}_command").start
     with chdir(folder), patch.multiple(sys, argv=[name, *map(str, words)], **streams):
         try:

@@ -132,7 +132,9 @@ class Directory:
     def ldif(self):
         """The entries as slapadd reads them."""
         return "\n".join(
-            "".join(f"{key}:: {base64.b64encode(value.encode()).decode()}\n" for key, values in entry.items() for value in values)
+            "".join(
+                f"{key}:: {base64.b64encode(value.encode()).decode()}\n" for key, values in entry.items() for value in values
+            )
             for entry in self.entries
         ).encode()
 
@@ -218,8 +220,12 @@ class Answers:
             for dn, some in zip(named, searched(ask, directory.suffix, f"({key}=%s)", list(named))):
                 self.direct |= {(named[dn], named[group]) for group in some if group in named}
             if key == "member":
-                groups = {group: self.name_at(group) for group in {group for one in entries.values() for group in one["memberOf"]}}
-                nested = {(named[dn], groups[group]) for dn, one in entries.items() for group in one["memberOf"] if groups[group]}
+                groups = {
+                    group: self.name_at(group) for group in {group for one in entries.values() for group in one["memberOf"]}
+                }
+                nested = {
+                    (named[dn], groups[group]) for dn, one in entries.items() for group in one["memberOf"] if groups[group]
+                }
                 same(bench, "slapd's own nested groups of names", but_itself(nested), but_itself(closed(self.direct)))
         for key, of in (("memberUid", directory.uids), ("gidNumber", directory.numbers)):
             found = searched(ask, directory.suffix, f"(&(objectClass=posixGroup)({key}=%s))", list(of))
@@ -296,12 +302,18 @@ def compare(bench, folder, directory, answers, has_locks):
     unfit = {name for name, _ in named("^the assignments with (.+)(): a file of people can't have this name")}
     cut = named("^that (.+) inherits from (.+): it closes a cycle")
     all_members, is_lost = closed(answers.direct), gone | unfit & directory.users
-    kept = {pair for pair in answers.direct - cut if is_lost.isdisjoint(pair) and not (pair[0] in directory.users and pair[1] in unfit)}
+    kept = {
+        pair
+        for pair in answers.direct - cut
+        if is_lost.isdisjoint(pair) and not (pair[0] in directory.users and pair[1] in unfit)
+    }
     bench.same(f"{folder}: what the office allows and slapd doesn't say", roles - all_members, set())
     bench.same(f"{folder}: what the office lacks and the list doesn't say", of_users(closed(kept), directory) - roles, set())
     same(bench, f"{folder}: what closes a cycle", cut, {(one, group) for one, group in cut if (group, one) in all_members})
     lines = [line for line in left.splitlines() if line.startswith("the member ")]
-    bench.same(f"{folder}: members that are called missing", [one for one in lines if not re.search("= ?gone,|nobody", one)], [])
+    bench.same(
+        f"{folder}: members that are called missing", [one for one in lines if not re.search("= ?gone,|nobody", one)], []
+    )
     for kind in ("found", "post"):
         is_there = any(entry.get("cn") == [kind] for entry in directory.entries)
         bench.same(f"{folder}: the list has the group {kind}", f'the group "cn={kind},' in left, is_there)

@@ -120,7 +120,10 @@ def check_sessions(bench):
     # ann keeps the session that doesn't need the role that she loses, and bob, who isn't in the file, is locked.
     bench.write("people.csv", b"user,roles,locked\nann,employee,\ncat,teller,yes\ndan,teller;auditor,\n")
     words = ["people.csv", "--file", "office", "--leavers", "lock"]
-    wanted = [f"  {digest} of {user}" for user, digest in sorted([("ann", digest("a1")), ("bob", digest("b1")), ("cat", digest("c1"))])]
+    wanted = [
+        f"  {digest} of {user}"
+        for user, digest in sorted([("ann", digest("a1")), ("bob", digest("b1")), ("cat", digest("c1"))])
+    ]
     for done in (people(bench, "plan", *words), people(bench, "apply", *words, "--confirm", "1", "--yes")):
         shown = done.out.decode().partition("Sessions that end:\n")[2].splitlines()
         bench.same("the sessions that end", [line for line in shown if line.startswith("  ")], wanted)
@@ -129,7 +132,14 @@ def check_sessions(bench):
     bench.same("the sessions that are left", left_sessions(bench, "office"), {"a2", "d1"})
     bench.write("people.csv", b"user,roles\nann,employee;nobody\n")
     done = people(bench, "plan", "people.csv", "--file", "office")
-    ends(bench, "only a refusal", done, 1, "Changes: none\n", "people.csv:2: refused: assign the user ann to the role nobody: 4 NoRole")
+    ends(
+        bench,
+        "only a refusal",
+        done,
+        1,
+        "Changes: none\n",
+        "people.csv:2: refused: assign the user ann to the role nobody: 4 NoRole",
+    )
     bench.same("no session ends", "Sessions that end" in done.out.decode(), False)
 
 
