@@ -212,7 +212,7 @@ class AllFaults(Faults):
     def kill_leader(self, _):
         for i in range(MACHINES):
             status = self.cluster.etcd_call("/v3/maintenance/status", {}, i)
-            if status and status["leader"] == status["header"]["member_id"]:
+            if status and status.get("leader") == status["header"]["member_id"]:
                 self.kill_member(i)
                 self.did("leaders of etcd killed")
                 return
