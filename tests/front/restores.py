@@ -287,7 +287,9 @@ def check_owner(bench):
     os.chown(own, user.pw_uid, user.pw_gid)
     for path in (bench.folder, bench.folder.parent):
         os.chmod(path, 0o755)
-    status, _, said = restore(other, backup)
+    # The user may not reach the folder of the repository.
+    program = shutil.copy(RBAC, bench.path("program"))
+    status, _, said = restore(other, backup, "--program", program)
     bench.same("the restore", (status, said), (0, ""))
     made = [path for path in Path(own).rglob("*") if not path.is_symlink()]
     owners = {(path.stat().st_uid, path.stat().st_gid) for path in made}
@@ -298,7 +300,7 @@ def check_owner(bench):
     os.rename(f"{own}/office.record", f"{own}/away.record")
     for path in (f"{backup}/office", f"{backup}/office.record", f"{backup}/SHA256SUMS", backup):
         os.chown(path, 12345, 12345)
-        status, _, said = restore(other, backup)
+        status, _, said = restore(other, backup, "--program", program)
         bench.same(f"{path} of a stranger", (status, "belongs to another user" in said), (1, True))
         os.chown(path, 0, 0)
     bench.same("what was made", sorted(os.listdir(own)), ["away", "away.record", "office.lock", "office.restoring.new"])
