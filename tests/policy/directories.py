@@ -14,7 +14,7 @@ import pytest
 
 from .commands import ends, people, policy
 
-# Random directories, each below a suffix of its own, and how many of them with --gate.
+# Random directories, each below a suffix of its own, and how many of them with --long.
 DIRECTORIES, MORE_DIRECTORIES = 3, 40
 USERS, PASSWORD = 7, "pw"
 
