@@ -2,13 +2,25 @@
  * that the handle has. This file is tested, and nothing proves it. */
 #include "rbac.h"
 #include <stdbool.h>
+#include <sys/random.h>
+#include <time.h>
 
-uint32_t rbac_office_open(rbac_office *);
+uint32_t rbac_office_open(rbac_office *, uint64_t, uint64_t);
 void rbac_office_close(rbac_office *);
 uint32_t rbac_office_answer(rbac_office *, const void *, size_t, void *, size_t, size_t *);
 uint32_t rbac_office_kept_answer(rbac_office *, void *, size_t, size_t *);
 int32_t rbac_office_check(const void *, bool, const void *, size_t, const void *, size_t, const void *, size_t);
 uint64_t rbac_office_revision(const void *);
+uint32_t rbac_office_explain_user(rbac_office *, const void *, size_t, const void *, size_t, const void *, size_t, void *, size_t,
+    rbac_row *);
+uint32_t rbac_office_explain_session(rbac_office *, const void *, size_t, const void *, size_t, const void *, size_t, void *,
+    size_t, rbac_row *);
+uint32_t rbac_office_assignment_conflict(rbac_office *, const void *, size_t, const void *, size_t, size_t, void *, size_t, rbac_row *);
+uint32_t rbac_office_activation_conflict(rbac_office *, const void *, size_t, const void *, size_t, const void *, size_t, size_t,
+    void *, size_t, rbac_row *);
+uint32_t rbac_office_inheritance_conflict(rbac_office *, bool, const void *, size_t, const void *, size_t, size_t, void *, size_t,
+    rbac_row *);
+uint32_t rbac_office_range(rbac_office *, uint32_t, const void *, size_t, size_t *, size_t *);
 uint32_t rbac_office_row(rbac_office *, uint32_t, size_t, void *, size_t, rbac_row *);
 uint32_t rbac_office_rows(rbac_office *, uint32_t, size_t, void *, size_t, rbac_row *, size_t, size_t *);
 uint32_t rbac_office_add_row(rbac_office *, uint32_t, const void *, size_t, const void *, size_t, const void *, size_t, uint32_t);
@@ -28,7 +40,16 @@ static const void *at(const void *text)
 
 uint32_t rbac_open(rbac_office *office)
 {
-    return office != NULL ? rbac_office_open(office) : RBAC_NULL;
+    uint64_t secret[2];
+
+    if (office == NULL)
+        return RBAC_NULL;
+    /* A kernel without random bytes leaves what is hard to know elsewhere. */
+    if (getrandom(secret, sizeof secret, 0) != sizeof secret) {
+        secret[0] = (uintptr_t)secret;
+        secret[1] = (uint64_t)time(NULL) << 32 ^ (uint64_t)clock();
+    }
+    return rbac_office_open(office, secret[0], secret[1]);
 }
 
 void rbac_close(rbac_office *office)
@@ -79,6 +100,64 @@ int32_t rbac_check_user(const rbac_office *office, const void *user, size_t user
     return decide(office, true, user, user_length, operation, operation_length, object, object_length);
 }
 
+uint32_t rbac_explain_user(rbac_office *office, const void *user, size_t user_length, const void *operation,
+    size_t operation_length, const void *object, size_t object_length, void *out, size_t out_length, rbac_row *reason)
+{
+    char empty;
+
+    if (office == NULL || reason == NULL || lacks(user, user_length) || lacks(operation, operation_length)
+        || lacks(object, object_length) || lacks(out, out_length))
+        return RBAC_NULL;
+    return rbac_office_explain_user(office, at(user), user_length, at(operation), operation_length, at(object), object_length,
+        out != NULL ? out : &empty, out_length, reason);
+}
+
+uint32_t rbac_explain_session(rbac_office *office, const void *session, size_t session_length, const void *operation,
+    size_t operation_length, const void *object, size_t object_length, void *out, size_t out_length, rbac_row *reason)
+{
+    char empty;
+
+    if (office == NULL || reason == NULL || lacks(session, session_length) || lacks(operation, operation_length)
+        || lacks(object, object_length) || lacks(out, out_length))
+        return RBAC_NULL;
+    return rbac_office_explain_session(office, at(session), session_length, at(operation), operation_length, at(object),
+        object_length, out != NULL ? out : &empty, out_length, reason);
+}
+
+uint32_t rbac_assignment_conflict(rbac_office *office, const void *user, size_t user_length, const void *role, size_t role_length,
+    size_t index, void *out, size_t out_length, rbac_row *set)
+{
+    char empty;
+
+    if (office == NULL || set == NULL || lacks(user, user_length) || lacks(role, role_length) || lacks(out, out_length))
+        return RBAC_NULL;
+    return rbac_office_assignment_conflict(office, at(user), user_length, at(role), role_length, index, out != NULL ? out : &empty,
+        out_length, set);
+}
+
+uint32_t rbac_activation_conflict(rbac_office *office, const void *user, size_t user_length, const void *session,
+    size_t session_length, const void *role, size_t role_length, size_t index, void *out, size_t out_length, rbac_row *set)
+{
+    char empty;
+
+    if (office == NULL || set == NULL || lacks(user, user_length) || lacks(session, session_length) || lacks(role, role_length)
+        || lacks(out, out_length))
+        return RBAC_NULL;
+    return rbac_office_activation_conflict(office, at(user), user_length, at(session), session_length, at(role), role_length,
+        index, out != NULL ? out : &empty, out_length, set);
+}
+
+uint32_t rbac_inheritance_conflict(rbac_office *office, int of_sessions, const void *asc, size_t asc_length, const void *desc,
+    size_t desc_length, size_t index, void *out, size_t out_length, rbac_row *set)
+{
+    char empty;
+
+    if (office == NULL || set == NULL || lacks(asc, asc_length) || lacks(desc, desc_length) || lacks(out, out_length))
+        return RBAC_NULL;
+    return rbac_office_inheritance_conflict(office, of_sessions != 0, at(asc), asc_length, at(desc), desc_length, index,
+        out != NULL ? out : &empty, out_length, set);
+}
+
 uint32_t rbac_revision(const rbac_office *office, uint64_t *revision)
 {
     if (office == NULL || revision == NULL)
@@ -106,6 +185,13 @@ uint32_t rbac_rows(rbac_office *office, uint32_t table, size_t index, void *out,
         return RBAC_NULL;
     return rbac_office_rows(office, table, index, out != NULL ? out : &empty, out_length, rows != NULL ? rows : &none, row_count,
         count);
+}
+
+uint32_t rbac_range(rbac_office *office, uint32_t table, const void *first, size_t first_length, size_t *start, size_t *end)
+{
+    if (office == NULL || start == NULL || end == NULL || lacks(first, first_length))
+        return RBAC_NULL;
+    return rbac_office_range(office, table, at(first), first_length, start, end);
 }
 
 uint32_t rbac_add_row(rbac_office *office, uint32_t table, const void *first, size_t first_length, const void *second,

@@ -50,7 +50,8 @@ enum {
     RBAC_NULL = 62      /* a pointer is null that may not be */
 };
 
-/* Makes a new and empty office. If the handle has an office already, that one is freed.
+/* Makes a new and empty office. If the handle has an office already, that one is freed. Names are hashed by a secret of 16 bytes, for
+ * which it asks the kernel.
  *
  * RBAC_DONE: the handle has the new office. Its revision is 0.
  * RBAC_MEMORY: the handle is as before. */
@@ -94,6 +95,87 @@ int32_t rbac_check(const rbac_office *office, const void *session, size_t sessio
 int32_t rbac_check_user(const rbac_office *office, const void *user, size_t user_length, const void *operation,
     size_t operation_length, const void *object, size_t object_length);
 
+/* The lengths of the names of a row or of a reason, and its number. A name that it doesn't have has length 0. */
+typedef struct rbac_row {
+    size_t first;
+    size_t second;
+    size_t third;
+    uint32_t number;
+} rbac_row;
+
+/* The numbers of the reasons why a user may do an operation on an object in some session, or why not, and why a session may,
+ * or why not. A reason about a session is the first, the third or the last of them. */
+enum {
+    RBAC_WHY_ALLOWED = 1,       /* assigned or activated role, granted role: access; the permission is granted to the second */
+    RBAC_WHY_LOCKED = 2,        /* the user is locked */
+    RBAC_WHY_NOT_GRANTED = 3,   /* the permission is granted to no role */
+    RBAC_WHY_NOT_AUTHORIZED = 4,/* the user is authorized for no role to which it is granted */
+    RBAC_WHY_SEPARATED = 5,     /* role, dynamic set: no session may have such a role; this one violates this set alone */
+    RBAC_WHY_NOT_ACTIVE = 6     /* the session has no role to which it is granted */
+};
+
+/* Says why rbac_check_user decides as it does. The office stays the same.
+ *
+ * RBAC_DONE: the number of the reason and the lengths of its two names are in `*reason`, and the names stand in `out`, one
+ * directly after the other. RBAC_WHY_ALLOWED comes exactly if rbac_check_user returns 1. It names the first role in byte order
+ * that is granted the permission, for which the user is authorized and which a session may have alone, and the first assigned
+ * role that is this role or a senior of it. Otherwise the reason is the first that applies in the order of their numbers, and
+ * RBAC_WHY_SEPARATED names the first role that is granted the permission and for which the user is authorized, and the first
+ * set that this role violates alone.
+ * RBAC_SHORT: `*reason` is written, but the names are longer than `out_length`. 128 bytes are enough.
+ * Otherwise there is no decision, and the result is the code of the first of these reasons that applies: RBAC_NULL,
+ * RBAC_CLOSED, RBAC_BAD_NAME, 2, 6, 33, as for rbac_check_user. */
+uint32_t rbac_explain_user(rbac_office *office, const void *user, size_t user_length, const void *operation,
+    size_t operation_length, const void *object, size_t object_length, void *out, size_t out_length, rbac_row *reason);
+
+/* Says why rbac_check decides as it does. The office stays the same.
+ *
+ * RBAC_DONE: the number of the reason, and its two names, as from rbac_explain_user. RBAC_WHY_ALLOWED comes exactly if
+ * rbac_check returns 1. It names the first role of the session in byte order that is granted the permission, and the first role activated in
+ * the session that is this role or a senior of it. Otherwise the reason is RBAC_WHY_NOT_GRANTED if that applies, and
+ * RBAC_WHY_NOT_ACTIVE if not. No session is denied since its user is locked: locking ends the user's sessions.
+ * RBAC_SHORT as above.
+ * Otherwise there is no decision, and the result is the code of the first of these reasons that applies: RBAC_NULL,
+ * RBAC_CLOSED, RBAC_BAD_NAME, 26, 6, 33, as for rbac_check. */
+uint32_t rbac_explain_session(rbac_office *office, const void *session, size_t session_length, const void *operation,
+    size_t operation_length, const void *object, size_t object_length, void *out, size_t out_length, rbac_row *reason);
+
+/* Returns a static separation of duty set that would be violated if the user were assigned to the role: the one at the place
+ * `index`, from 0, of all of them in byte order. If assignUser is refused with 24 StaticSeparation, it names the first. The office
+ * stays the same.
+ *
+ * RBAC_DONE: the name stands in `out`, and its length is `set->first`.
+ * RBAC_ABSENT: there are no more. At place 0 there is none, so assignUser isn't refused with 24 StaticSeparation.
+ * RBAC_SHORT as above; 64 bytes are enough.
+ * Otherwise the code of the first of these reasons that applies: RBAC_NULL, RBAC_CLOSED, RBAC_BAD_NAME, 2 (no such user),
+ * 4 (no such role). It may also be RBAC_MEMORY. */
+uint32_t rbac_assignment_conflict(rbac_office *office, const void *user, size_t user_length, const void *role, size_t role_length,
+    size_t index, void *out, size_t out_length, rbac_row *set);
+
+/* Returns a dynamic separation of duty set that would be violated if the role were activated in the user's session: the one at
+ * the place `index`, from 0, of all of them in byte order. If addActiveRole is refused with 25 DynamicSeparation, it names the
+ * first. The office stays the same.
+ *
+ * The results are those of rbac_assignment_conflict, with these reasons: RBAC_NULL, RBAC_CLOSED, RBAC_BAD_NAME, 2 (no such user),
+ * 26 (no such session), 4 (no such role), 28 (the session isn't the user's), 29 (the user isn't authorized for the role). */
+uint32_t rbac_activation_conflict(rbac_office *office, const void *user, size_t user_length, const void *session,
+    size_t session_length, const void *role, size_t role_length, size_t index, void *out, size_t out_length, rbac_row *set);
+
+/* Returns a separation of duty set that would be violated if `asc` became an immediate ascendant of `desc`, and who violates it:
+ * the set at the place `index`, from 0, of all of them in byte order. With 0 in `of_sessions` they are the static sets, each with
+ * the first user in byte order who would be authorized for too many of its roles; otherwise the dynamic sets, each with the
+ * first session in byte order that would have too many. If addInheritance is refused with 24 StaticSeparation or 25
+ * DynamicSeparation, it names the first of these sets. The office stays the same.
+ *
+ * RBAC_DONE: the two names stand in `out`, one directly after the other, and their lengths are `set->first` and `set->second`.
+ * RBAC_ABSENT: there are no more. At place 0 there is none, so addInheritance isn't refused with this reason.
+ * RBAC_SHORT as above; 128 bytes are enough.
+ * Otherwise the code of the first of these reasons that applies: RBAC_NULL, RBAC_CLOSED, RBAC_BAD_NAME, 4 (no such role),
+ * 16 (`asc` is `desc` or a junior of it). It may also be RBAC_MEMORY. Each call looks at all sets, and for each at users or
+ * sessions until one violates it. */
+uint32_t rbac_inheritance_conflict(rbac_office *office, int of_sessions, const void *asc, size_t asc_length, const void *desc,
+    size_t desc_length, size_t index, void *out, size_t out_length, rbac_row *set);
+
 /* Writes to `*revision` how many commands the office has accepted. A decision that was made at a revision holds as long as
  * the revision stays the same.
  *
@@ -102,7 +184,8 @@ uint32_t rbac_revision(const rbac_office *office, uint64_t *revision);
 
 /* ---- saving and loading
  *
- * An office is saved by reading the rows of its 15 tables, and loaded by adding these rows to an office in any order. */
+ * An office is saved by reading the rows of its 15 tables, and loaded by adding these rows to an office in any order. It is loaded
+ * fastest in the order in which they were read: in the reverse order the time grows with the square of their number. */
 
 /* The tables, and what the names of a row are. */
 enum {
@@ -124,14 +207,6 @@ enum {
     RBAC_TABLES = 15                /* how many tables there are */
 };
 
-/* The lengths of the names of a row, and its number. A name that the table doesn't have has length 0. */
-typedef struct rbac_row {
-    size_t first;
-    size_t second;
-    size_t third;
-    uint32_t number;
-} rbac_row;
-
 /* So many bytes are enough for the names of a row. */
 #define RBAC_LONGEST_ROW 192
 
@@ -151,6 +226,14 @@ uint32_t rbac_row_at(rbac_office *office, uint32_t table, size_t index, void *ou
  * RBAC_ABSENT: there is no such table, and `*count` is 0. RBAC_CLOSED as above, with 0 in `*count`. */
 uint32_t rbac_rows(rbac_office *office, uint32_t table, size_t index, void *out, size_t out_length, rbac_row *rows,
     size_t row_count, size_t *count);
+
+/* Finds the rows of a table whose first name is this one: they are those from the place `*start` on, up to the one before `*end`.
+ * These are the number of rows with a lesser first name, and of those whose first name isn't greater. So `*start` is also the
+ * place from which on the first name is this one or a greater one. `first` may be any bytes, also those of no name: with no bytes
+ * `*start` is 0. The office stays the same, and the places hold as long as its revision does.
+ *
+ * RBAC_DONE, or RBAC_ABSENT (there is no such table) or RBAC_CLOSED with 0 in both. */
+uint32_t rbac_range(rbac_office *office, uint32_t table, const void *first, size_t first_length, size_t *start, size_t *end);
 
 /* Adds a row to those of the next rbac_load. Names that the table doesn't have are ignored, and so is such a number.
  * Decisions and answers don't depend on it.

@@ -58,7 +58,8 @@ def can_mount() -> bool:
 
 # What go.mod of the server requires directly, as Debian's packages have it.
 LIBRARIES = (
-    "github.com/coreos/go-systemd/daemon", "github.com/mattn/go-sqlite3", "go.etcd.io/etcd/clientv3", "go.uber.org/zap",
+    "github.com/coreos/go-systemd/daemon", "github.com/mattn/go-sqlite3", "github.com/prometheus/client_golang/prometheus",
+    "go.etcd.io/etcd/clientv3", "go.uber.org/zap",
     "golang.org/x/crypto/sha3", "golang.org/x/sync/errgroup", "google.golang.org/grpc", "gopkg.in/square/go-jose.v2/jwt",
 )  # fmt: skip
 
@@ -84,7 +85,8 @@ NEEDS = {name: Need(program(name), package) for package, names in PROGRAMS.items
     "libraries of the server": Need(
         lambda: all((GOCODE / path).is_dir() for path in LIBRARIES),
         "golang-github-mattn-go-sqlite3-dev golang-golang-x-crypto-dev golang-gopkg-square-go-jose.v2-dev golang-etcd-server-dev "
-        "golang-go.uber-zap-dev golang-golang-x-sync-dev golang-github-coreos-go-systemd-dev libc6-dev",
+        "golang-go.uber-zap-dev golang-golang-x-sync-dev golang-github-coreos-go-systemd-dev "
+        "golang-github-prometheus-client-golang-dev libc6-dev",
     ),
     "casbin-go": Need(library_of_go("github.com/casbin/casbin"), "golang-github-casbin-casbin-dev"),
     "postgresql": Need(lambda: any(Path("/usr/lib/postgresql").glob("*/bin/initdb")), "postgresql"),

@@ -16,7 +16,7 @@ from program.bench import PROGRAM
 from .keeping import log_of
 from .machines import Cluster
 from .networks import MACHINES
-from .records import ALLOWED, CALLERS, EVERY, Asker, entries_of, files_of, joined, lacking, parts_of, raised_at, same_head, tool
+from .records import ALLOWED, CALLERS, EVERY, Asker, entries_of, files_of, joined, lacking, parts_of, same_head, tool
 from .running import build
 
 # From how many entries on each node divides its record. The last one doesn't.
@@ -65,7 +65,6 @@ def check_divided(bench, seed):
         node.words += ["--record-part", str(entries)]
     with cluster:
         asker = Asker(cluster, seed)
-        cluster.until(lambda: raised_at(cluster), "the log says who asks")
         asker.ask(1)
         cluster.until(lambda: same_head(cluster), "all have a record")
         readers = [Reader(cluster, i) for i in range(MACHINES)]
@@ -117,7 +116,6 @@ def check_killed_cut(bench):
     there twice, and verify finds nothing. After the last kill the node starts."""
     with cluster_of(bench) as cluster:
         asker = Asker(cluster, 1)
-        cluster.until(lambda: raised_at(cluster), "the log says who asks")
         asker.ask(EVERY + EVERY // 2)
         cluster.until(lambda: same_head(cluster), "all have the same head")
         cluster.nodes[0].stop(signal.SIGTERM)

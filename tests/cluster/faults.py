@@ -87,12 +87,6 @@ class Faults:
     def kill_busy_replay(self, i):
         self.kill_replay(i, True)
 
-    def kill_callers(self, i):
-        """Ends the office of the callers, which the node starts again."""
-        for child in self.children(self.cluster.nodes[i], lambda child: arguments_of(child) == [b"replay", b"--memory"])[1]:
-            send(child, signal.SIGKILL)
-            self.did("offices of callers killed")
-
     def end_node(self, i):
         """The node is asked to end, and has to end in order, unless it was about to start or had just failed."""
         status = self.cluster.nodes[i].stop(signal.SIGTERM)
@@ -159,15 +153,14 @@ def arguments_of(process):
 
 def is_replay(process):
     """Whether a process is the replay of the office, and no other run of the program."""
-    words = arguments_of(process)
-    return words[:1] == [b"replay"] and words[1:] != [b"--memory"]
+    return arguments_of(process)[:1] == [b"replay"]
 
 
 KILLS = [Faults.kill_node, Faults.kill_member, Faults.kill_machine, Faults.kill_two_members, Faults.kill_replay]
 PAUSES = [Faults.pause_node, Faults.pause_member, Faults.pause_replay]
 # What happens often, and what each of it is called.
-OFTEN = KILLS + KILLS[:2] + PAUSES + [Faults.kill_busy_replay, Faults.end_node, Faults.reload_callers, Faults.kill_callers]
+OFTEN = KILLS + KILLS[:2] + PAUSES + [Faults.kill_busy_replay, Faults.end_node, Faults.reload_callers]
 NAMES = (
-    "nodes killed", "members killed", "machines killed", "pairs of members killed", "replays killed", "offices of callers killed",
+    "nodes killed", "members killed", "machines killed", "pairs of members killed", "replays killed",
     "nodes paused", "members paused", "replays paused", "nodes ended by SIGTERM", "nodes told to read their callers again",
 )  # fmt: skip

@@ -147,8 +147,7 @@ def registered(cluster, made=False):
     """The revisions of the snapshots that each node has registered in etcd, or of those that it has made itself."""
     reply = cluster.etcd_call("/v3/kv/range", {"key": encoded(f"{PREFIX}/nodes/"), "range_end": encoded(f"{PREFIX}/nodes0")})
     values = [json.loads(base64.b64decode(kv["value"])) for kv in (reply or {}).get("kvs", [])]
-    members = [one for one in values if isinstance(one, dict)]  # The form of entries is beside them.
-    return {int(one["name"][1:]): {s["revision"] for s in one["snapshots"] or [] if not (made and s.get("copied"))} for one in members}
+    return {int(one["name"][1:]): {s["revision"] for s in one["snapshots"] or [] if not (made and s.get("copied"))} for one in values}
 
 
 def shared(cluster, i, made=False):

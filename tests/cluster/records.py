@@ -20,7 +20,7 @@ from program.bench import PROGRAM
 
 from .answers import exchange, post
 from .keeping import log_of, registered
-from .machines import PREFIX, SECONDS, Cluster, encoded
+from .machines import PREFIX, SECONDS, Cluster
 from .networks import MACHINES
 from .rows import snapshots_of
 from .running import build
@@ -72,12 +72,6 @@ def tool(node, *words):
         words = ("verify", "--program", PROGRAM, *words[1:])
     done = subprocess.run([node, "record", *words], capture_output=True, text=True, timeout=10 * SECONDS, check=False)
     return done.returncode, done.stdout, done.stderr
-
-
-def raised_at(cluster):
-    """The revision from which the entries of the log say who asks, or 0."""
-    reply = cluster.etcd_call("/v3/kv/range", {"key": encoded(f"{PREFIX}/nodes//"), "range_end": encoded(f"{PREFIX}/nodes/0")})
-    return max((int(kv["mod_revision"]) for kv in (reply or {}).get("kvs", [])), default=0)
 
 
 def recorded_text(line):
@@ -148,15 +142,9 @@ def unlike(entries, wanted, judge):
 
 def faults_of(cluster, judge):
     """What is wrong with the records of a cluster whose nodes have ended, when a judge has compared its log with the answers."""
-    raised = raised_at(cluster)
     parts = [parts_of(cluster.data(f"node{i}")) for i in range(MACHINES)]
     entries, faults = joined([[entry for _, found in one for entry in found] for one in parts], map(entries_of, cluster.copies))
-    wanted = [
-        (revision, place, line)
-        for revision, lines, _ in judge.entries
-        for place, line in enumerate(lines)
-        if raised and revision > raised
-    ]
+    wanted = [(revision, place, line) for revision, lines, _ in judge.entries for place, line in enumerate(lines)]
     last, missing = entries[-1].n if entries else 0, len(wanted) + 1 - len(entries) if wanted else 0
     print(f"{len(wanted):9,}  commands in the log since the records began, which end at entry {last:,}: {missing:,} are in none", flush=True)
     if last != (len(wanted) + 1 if wanted else 0):
@@ -228,7 +216,6 @@ def check_records(bench, seed, node=None):
     words = ("--callers", bench.path("callers.jsonl"), "--tokens", bench.path("tokens"), "--etcd-open")
     with Cluster(bench.folder, node or build(bench.shared), every=EVERY, more=words) as cluster:
         asker = Asker(cluster, seed)
-        cluster.until(lambda: raised_at(cluster), "the log says who asks")
         for _ in range(6):
             asker.ask(40)
             cluster.nodes[asker.random.randrange(MACHINES)].send(signal.SIGKILL)

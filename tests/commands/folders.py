@@ -12,14 +12,20 @@ from pathlib import Path
 
 import pytest
 
+from front.running import build as build_front
 from program.bench import PROGRAM, TESTS
 
 ROOT = TESTS.parent
-NEEDED = pytest.mark.needs("cc", "readelf", "minisign", "dpkg-buildpackage", "dh", "dh_installsysusers")
+# What the folder of a release needs, to have everything.
+NEEDED = pytest.mark.needs(
+    "cc", "readelf", "minisign", "dpkg-buildpackage", "dh", "dh_installsysusers", "go", "libraries of the server", "buildah",
+    "users of images", "javac", "cargo", "pip", "python-headers",
+)  # fmt: skip
 
 # While one process makes the folder, the others have something else to do.
 pytestmark = [pytest.mark.xdist_group("release"), pytest.mark.slow]
 CONTACT = "security@release.example, key 0123 4567"
+URL, GO_PATH, JAVA_GROUP = "https://release.example/rbac", "release.example/rbac", "example.release"
 
 
 def run(words, **settings):
@@ -53,7 +59,7 @@ def make(folder):
     """Makes a signed folder."""
     _, secret = new_key(folder, "ours")
     new_key(folder, "theirs")
-    words = ["folder", "--key", secret, folder / "made"]
+    words = ["folder", "--key", secret, "--url", URL, "--go-path", GO_PATH, "--java-group", JAVA_GROUP, folder / "made"]
     status, said = run([ROOT / "bin/release", *words], RELEASE=record(folder / "release"), RELEASE_CONTACT=CONTACT)
     if status:
         raise ValueError(said)
@@ -66,8 +72,8 @@ class Signed:
         self.bench, self.place, self.made = bench, place, place / "made"
 
     def copy(self, name):
-        """A copy of the release that may be changed."""
-        return shutil.copytree(self.made, self.bench.folder / name)
+        """A copy of the release, by links: a file that is changed has to be replaced."""
+        return shutil.copytree(self.made, self.place / "copies" / self.bench.folder.parent.name / name, copy_function=os.link)
 
     def verify(self, folder, key="ours.pub"):
         """The status of bin/verify, and what it prints; without a key if none is given."""
@@ -82,6 +88,8 @@ class Signed:
 
 @pytest.fixture
 def release(bench, built):
+    # What is compiled for the front of the tests is what the package needs too.
+    built("front", build_front)
     return Signed(bench, built("release", make))
 
 
@@ -89,6 +97,12 @@ def flip(path, place):
     """Changes one byte of a file to another letter."""
     content = bytearray(path.read_bytes())
     content[place] = ord("a") if content[place] != ord("a") else ord("b")
+    replace(path, content)
+
+
+def replace(path, content):
+    """Gives a path another file. The one that was there may have other links."""
+    path.unlink()
     path.write_bytes(content)
 
 
@@ -96,25 +110,26 @@ def sum_again(folder):
     """Writes SHA256SUMS anew, as anybody can."""
     names = sorted(path.name for path in folder.iterdir() if not path.name.startswith("SHA256SUMS"))
     lines = [f"{sha256((folder / name).read_bytes()).hexdigest()}  {name}\n" for name in names]
-    (folder / "SHA256SUMS").write_text("".join(lines), encoding="ascii")
+    replace(folder / "SHA256SUMS", "".join(lines).encode())
 
 
 @NEEDED
 def check_accepted(bench, release):
-    """The folder has the packages, the manifests, the lists and the contact, and is accepted with its key, as a file or as a text."""
+    """The folder has the packages, the image, the clients, the manifests, the SBOM and the contact, and is accepted with its key, as a
+    file or as a text."""
     folder = release.made
     names = {path.name for path in folder.iterdir()}
     packages = {name for name in names if name.endswith(".deb")}
-    others = {"CONTACT", "SHA256SUMS", "SHA256SUMS.minisig", "libraries", "library.manifest", "manifest"}
-    bench.same("what is there besides packages", names - packages, others)
-    wanted = {"rbac", "librbac1", "librbac-dev"}
+    wanted = {"rbac", "rbac-node", "librbac1", "librbac-dev"}
     bench.same("packages that are missing", wanted - {name.split("_")[0] for name in packages}, set())
+    clients = {name for name in names if name.startswith(("rbac-client-", "rbac_client-", "rbac_office-", "rbac-go-"))}
+    bench.same("how many archives the clients have", len(clients), 10)
+    others = {"CONTACT", "SHA256SUMS", "SHA256SUMS.minisig", "library.manifest", "manifest", "CHANGELOG.md", "LICENSE", "NOTICES"}
+    others |= {"sbom.spdx.json", f"rbac-node-image_{(ROOT / 'VERSION').read_text(encoding='ascii').strip()}_amd64.tar"}
+    bench.same("what is there besides", names - packages - clients, others)
     bench.same("the contact", (folder / "CONTACT").read_text(encoding="utf-8"), f"{CONTACT}\n")
-    lines = [line.split("\t") for line in (folder / "libraries").read_text(encoding="utf-8").splitlines()]
-    bench.same("the columns of the libraries", {len(line) for line in lines}, {5})
-    bench.same("the packages in that list", {line[0] for line in lines}, packages)
-    in_program = {line[2] for line in lines if line[1] == "rbac" and line[4] == "in it"}
-    bench.same("libraries of the program", {"sqlite", "serde_json", "httparse", "clap", "csv", "std"} - in_program, set())
+    for name, source in (("CHANGELOG.md", "CHANGELOG.md"), ("LICENSE", "LICENSE"), ("NOTICES", "release/NOTICES")):
+        bench.same(f"{name} is that of the sources", (folder / name).read_bytes(), (ROOT / source).read_bytes())
     said = f"{folder}: every file is the one that was signed\n"
     text = (release.place / "ours.pub").read_text(encoding="ascii").splitlines()[1]
     bench.same("with the key in a file", release.verify(folder), (0, said))
@@ -155,13 +170,13 @@ def check_sums(bench, release):
         release.refuses(f"another sum of {name}", folder, "no signature of SHA256SUMS")
         release.refuses(f"another sum of {name}, without a key", folder, f"{name} was changed", "")
     for what, changed, words in (
-        ("a line that is missing", lines[1:], "CONTACT"),
+        ("a line that is missing", lines[1:], "CHANGELOG.md is not listed"),
         ("a line twice", [*lines, lines[0]], "names a file twice"),
         ("a name in another folder", [*lines, f"{'0' * 64}  ../x\n"], "a line that is not a sum and a name"),
         ("an empty list", [], "doesn't list manifest"),
     ):
         folder = release.copy(what)
-        (folder / "SHA256SUMS").write_text("".join(changed), encoding="ascii")
+        replace(folder / "SHA256SUMS", "".join(changed).encode())
         release.refuses(what, folder, "no signature of SHA256SUMS")
         release.refuses(f"{what}, without a key", folder, words, "")
 
@@ -186,25 +201,34 @@ def check_forged(bench, release):
     """Somebody who makes all sums anew is refused with the key, also after signing by another one; and if parts don't belong together
     without a key too."""
     folder = release.copy("forged")
-    (folder / "CONTACT").write_text("somebody else\n", encoding="ascii")
+    replace(folder / "CONTACT", b"somebody else\n")
     sum_again(folder)
     bench.same("without a key nothing shows that", release.verify(folder, "")[0], 0)
     release.refuses("other sums", folder, "no signature of SHA256SUMS")
+    (folder / "SHA256SUMS.minisig").unlink()
     run(["minisign", "-S", "-s", release.place / "theirs.key", "-m", folder / "SHA256SUMS"])
     release.refuses("other sums, signed by another key", folder, "no signature of SHA256SUMS")
-    for name, words in (
-        ("manifest", "the manifest was changed by hand"),
-        ("libraries", "the list of libraries has nothing of"),
+    package = next(path.name for path in sorted(release.made.iterdir()) if path.suffix == ".deb")
+    for name, before, after, words in (
+        ("manifest", "sources ", "sources 0", "the manifest was changed by hand"),
+        ("sbom.spdx.json", f'"packageFileName": "{package}"', '"packageFileName": "other.deb"', f"sbom.spdx.json has nothing of {package}"),
+        ("sbom.spdx.json", "SPDX-2.3", "SPDX-9.9", "is not of SPDX 2.3"),
+        ("sbom.spdx.json", "{", "[", "can't be read"),
     ):
-        folder = release.copy(f"other-{name}")
+        folder = release.copy(f"other-{name}-{len(after)}")
         text = (folder / name).read_text(encoding="utf-8")
-        (folder / name).write_text(text.replace("sources ", "sources 0") if name == "manifest" else "", encoding="utf-8")
+        bench.same(f"{before} is in {name}", before in text, True)
+        replace(folder / name, text.replace(before, after).encode())
         sum_again(folder)
         release.refuses(f"another {name} with its sum", folder, words, "")
+    folder = release.copy("other-archive")
+    flip(folder / package, 2000)
+    sum_again(folder)
+    release.refuses("another archive with its sum", folder, f"sbom.spdx.json has another sum of {package}", "")
     folder = release.copy("other-program")
     other = bench.write("program", b"#!/bin/sh\n")
     run([ROOT / "bin/release", "--record", other, "0" * 64, bench.folder / "record"])
-    shutil.copy(bench.folder / "record/manifest", folder / "manifest")
+    replace(folder / "manifest", (bench.folder / "record/manifest").read_bytes())
     sum_again(folder)
     release.refuses("the manifest of another program", folder, "is not that of the manifest", "")
 

@@ -96,10 +96,12 @@ def place_of(old):
 def broken(bench, name):
     """A copy of what builds the front, with an edit."""
     root = bench.folder / "sources"
-    (root / "bin").mkdir(parents=True)
-    shutil.copy(ROOT / "bin/node", root / "bin/node")
-    shutil.copy(ROOT / "bin/vendor", root / "bin/vendor")
-    shutil.copytree(ROOT / "server", root / "server")
+    for one in ("node", "vendor", "library"):
+        (root / "bin").mkdir(parents=True, exist_ok=True)
+        shutil.copy(ROOT / "bin" / one, root / "bin" / one)
+    for one in ("server", "library", "release", "clients/go"):
+        shutil.copytree(ROOT / one, root / one)
+    shutil.copy(ROOT / "VERSION", root / "VERSION")
     file, old, new, *_ = BREAKS[name]
     path = root / "server/internal" / file
     text, count = place_of(old).subn(lambda _: new, path.read_text(encoding="utf-8"))

@@ -26,13 +26,8 @@ pytestmark = pytest.mark.needs("nginx", "openssl")
 
 NGINX = DEPLOY / "nginx"
 
-# Each group of clients with the settings that serve it, and the password of its user, who is named like it.
-GROUPS = {
-    "applications": ("tiers", "first"),
-    "auditors": ("tiers", "second"),
-    "administrators": ("tiers", "third"),
-    "replica": ("replica", "fourth"),
-}
+# Each group of clients, with the password of its user, who is named like it.
+GROUPS = {"applications": "first", "auditors": "second", "administrators": "third"}
 # How long nginx waits for an answer.
 PATIENCE = "proxy_read_timeout 100s;"
 NAMES = ["rbac-common", *(f"rbac-{group}" for group in GROUPS)]
@@ -60,19 +55,18 @@ DISGUISED = [
 def sorts():
     """Returns the functions that each group may call, according to the page and the sources."""
     questions, commands = set(sources.question_keys()), set(sources.command_keys())
-    table, _ = markdown.tables(PAGE)
+    (table,) = markdown.tables(PAGE)
     said = {row[0]: set(re.findall(r"`(\w+)`", row[1])) for row in table}
     return {
         "applications": said["applications"],
         "auditors": questions - {"checkAccess"},
         "administrators": questions | commands,
-        "replica": questions,
     }
 
 
-def settings(name, folder, port, server_port):
+def settings(folder, port, server_port):
     """Returns the settings of a file, unchanged but for free ports, in a folder of a test."""
-    text = (NGINX / f"{name}.conf").read_text(encoding="utf-8")
+    text = (NGINX / "tiers.conf").read_text(encoding="utf-8")
     places = {"443": str(port), "8080": str(server_port), "/etc/nginx/": f"{folder}/", "/var/log/rbac/": f"{folder}/"}
     for old, new in places.items():
         text = text.replace(old, new)
@@ -85,7 +79,7 @@ def credentials(bench, patience=PATIENCE):
     """Makes a certificate, a file of users for each group, and the settings of all servers, with this patience."""
     words = "openssl req -x509 -newkey ec -pkeyopt ec_paramgen_curve:prime256v1 -nodes -days 2 -subj /CN=a".split()
     subprocess.run([*words, "-keyout", bench.path("rbac.key"), "-out", bench.path("rbac.crt")], check=True, capture_output=True)
-    for group, (_, password) in GROUPS.items():
+    for group, password in GROUPS.items():
         # As the page says: one kind of digest for people, and one for applications.
         kind = "-apr1" if group == "applications" else "-6"
         digest = subprocess.run(["openssl", "passwd", kind, password], capture_output=True, check=True).stdout
@@ -98,10 +92,10 @@ def credentials(bench, patience=PATIENCE):
 class Proxy:
     """nginx with some settings, in front of a server."""
 
-    def __init__(self, bench, name, server_port, patience=PATIENCE):
+    def __init__(self, bench, server_port, patience=PATIENCE):
         credentials(bench, patience)
         self.port = free_port()
-        path = bench.write("nginx.conf", settings(name, bench.folder, self.port, server_port).encode())
+        path = bench.write("nginx.conf", settings(bench.folder, self.port, server_port).encode())
         self.process = subprocess.Popen(["nginx", "-p", bench.folder, "-c", path], stderr=subprocess.PIPE)
 
     def __enter__(self):
@@ -143,7 +137,7 @@ def request(group, target, length, user, password=None, head=b""):
     """The head of a request."""
     lines = [f"POST {target} HTTP/1.1", f"Host: {group}.rbac.example.org", f"Content-Length: {length}", "Connection: close"]
     if user:
-        pair = base64.b64encode(f"{user}:{password or GROUPS[user][1]}".encode()).decode()
+        pair = base64.b64encode(f"{user}:{password or GROUPS[user]}".encode()).decode()
         lines.append(f"Authorization: Basic {pair}")
     return "\r\n".join(lines).encode() + b"\r\n" + head + b"\r\n"
 
@@ -153,14 +147,13 @@ def is_passed(answer):
     return answer[1].startswith(b"{")
 
 
-@pytest.mark.parametrize("name", ["tiers", "replica"])
-def check_who_may(bench, name):
+def check_who_may(bench):
     """Each group reaches its functions and no others; nobody reaches one without the right password."""
     office = small_office(bench)
-    wanted, groups = sorts(), [group for group, (file, _) in GROUPS.items() if file == name]
+    wanted = sorts()
     functions = sorted(wanted["administrators"])
-    with Server(bench, office.path, 1_000_000) as server, Proxy(bench, name, server.port) as proxy:
-        for group in groups:
+    with Server(bench, office.path, 1_000_000) as server, Proxy(bench, server.port) as proxy:
+        for group in GROUPS:
             passed = {function for function in functions if is_passed(proxy.ask(group, f"/v1/{function}", b"[]"))}
             bench.same(f"the functions for {group}", sorted(passed), sorted(wanted[group]))
             for target in ("/v1/fly", "/", "/v1/", "/v1"):
@@ -184,7 +177,7 @@ def check_decisions(bench):
         for session in ("s1", "s2")
         for operation in ("open", "view", "burn")
     ]
-    with Server(bench, office.path, len(questions)) as server, Proxy(bench, "tiers", server.port) as proxy:
+    with Server(bench, office.path, len(questions)) as server, Proxy(bench, server.port) as proxy:
         for question in questions:
             wanted = office.model.answer(json.dumps({"fn": "checkAccess", **question}).encode())
             given = proxy.ask("applications", "/v1/checkAccess", json.dumps(question).encode())[1]
@@ -201,7 +194,7 @@ def check_long_bodies(bench):
     text, records = sizes["bytes of a body of JSON"], sizes["bytes of a body of CSV"]
     question = b'{"role":"clerk"}'
     chunked = b"Transfer-Encoding: chunked\r\n"
-    with Server(bench, office.path, 100) as server, Proxy(bench, "tiers", server.port) as proxy:
+    with Server(bench, office.path, 100) as server, Proxy(bench, server.port) as proxy:
         for more, wanted in ((0, 200), (1, 413)):
             answer = proxy.ask("auditors", "/v1/assignedUsers", question.ljust(text + more))
             bench.same(f"{text + more} bytes of JSON", answer[0], wanted)
@@ -218,7 +211,7 @@ def check_slow_client(bench):
     """A client that sends a part of its body and waits holds up nobody."""
     office = small_office(bench)
     body = b'{"role":"clerk"}'
-    with Server(bench, office.path, 100) as server, Proxy(bench, "tiers", server.port) as proxy, proxy.connect() as slow:
+    with Server(bench, office.path, 100) as server, Proxy(bench, server.port) as proxy, proxy.connect() as slow:
         slow.sendall(request("auditors", "/v1/assignedUsers", len(body), "auditors") + body[:5])
         for _ in range(3):
             bench.same("another client", proxy.ask("auditors", "/v1/assignedUsers", body)[0], 200)
@@ -239,7 +232,7 @@ def check_logs(bench):
         ("fly", "\x01\x7f"),
         ("importAssignments", rows.getvalue()),
     ]
-    with Server(bench, office.path, 100) as server, Proxy(bench, "tiers", server.port) as proxy:
+    with Server(bench, office.path, 100) as server, Proxy(bench, server.port) as proxy:
         statuses = [proxy.ask("administrators", f"/v1/{name}", body.encode())[0] for name, body in bodies]
         refused = proxy.ask("administrators", "/v1/addUser", b'{"user":"hidden"}', "administrators", "wrong")[0]
         session = b'{"user":"bob","roles":[],"session":"hidden"}'
@@ -283,16 +276,16 @@ NO_SERVER = 502
 
 def check_own_answers(bench):
     """The statuses that the page says nginx itself answers are those that it answers, and none is a decision."""
-    table = markdown.tables(PAGE)[1]
-    listed = [int(row[0]) for row in table]
+    (words,) = re.findall(r"What nginx itself answers, with ([\d, or]+), has", markdown.in_one_line(PAGE))
+    listed = [int(one) for one in re.findall(r"\d+", words)]
     bench.same("the statuses of the page", listed, sorted({NO_SERVER, *(status for status, _ in OWN.values())}))
     hasty = "client_body_timeout 1s;\nproxy_read_timeout 1s;"
-    with socket.create_server((HOST, 0)) as silent, Proxy(bench, "tiers", silent.getsockname()[1], hasty) as proxy:
+    with socket.create_server((HOST, 0)) as silent, Proxy(bench, silent.getsockname()[1], hasty) as proxy:
         for name, (status, text) in OWN.items():
             bench.same(f"{name}: status, and whether nginx answers", answered(proxy, text), (status, True))
         slow = request("auditors", "/v1/ssdRoleSets", 2, "auditors")
         bench.same("a body that does not come: status, and whether nginx answers", answered(proxy, slow), (None, False))
-    with Proxy(bench, "tiers", free_port()) as proxy:
+    with Proxy(bench, free_port()) as proxy:
         bench.same("no server: status, and whether nginx answers", answered(proxy, GOOD), (NO_SERVER, True))
         with socket.create_connection((HOST, proxy.port), SECONDS) as plain:
             plain.sendall(PLAIN)
@@ -328,7 +321,7 @@ def check_kept_logs(bench):
     """A rotation deletes no log of administrators, and of others what is older. nginx goes on in a file with the right mode."""
     groups, office, place = ("administrators", "applications"), small_office(bench), rotation(bench)
     os.chmod(place, 0o644)
-    with Server(bench, office.path, 100) as server, Proxy(bench, "tiers", server.port) as proxy:
+    with Server(bench, office.path, 100) as server, Proxy(bench, server.port) as proxy:
         for group in groups:
             for day in OLD:
                 bench.write(f"{group}.log-{day}.gz", b"old")
@@ -351,11 +344,10 @@ def check_kept_logs(bench):
     bench.same("how many logs of applications are left", len(list(bench.folder.glob("applications.log-*"))), 14)
 
 
-@pytest.mark.parametrize("name", ["tiers", "replica"])
-def check_settings(bench, name):
+def check_settings(bench):
     """nginx accepts the settings without a warning."""
     credentials(bench)
-    path = bench.write("nginx.conf", settings(name, bench.folder, free_port(), free_port()).encode())
+    path = bench.write("nginx.conf", settings(bench.folder, free_port(), free_port()).encode())
     done = run(["nginx", "-t", "-q", "-p", bench.folder, "-c", path])
     said = [line for line in done.err.decode().splitlines() if "[alert] could not open error log" not in line]
-    bench.same(f"what nginx prints about {name}", (done.status, said), (0, []))
+    bench.same("what nginx prints", (done.status, said), (0, []))

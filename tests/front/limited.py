@@ -1,14 +1,11 @@
 """What one caller can't do to others: large bodies without a right, large answers without an end, more requests than it may have."""
 
-import os
-import signal
 import socket
-import threading
 
 import pytest
 
 from .identities import bearer, secured
-from .program import HOST, Front, read_all, until
+from .program import HOST, Front, read_all
 
 # How many requests for large answers a caller may have at once, and how many more it sends.
 SLOTS, MORE = 16, 5
@@ -16,40 +13,36 @@ SLOTS, MORE = 16, 5
 FORBIDDEN = (403, '{"code":63,"error":"Forbidden"}')
 
 
+# The users of an office, and lists of them that are too long for the buffers of a socket.
+USERS, LISTS = 1_000, "\n".join(['{"list":"users","limit":1000}'] * 20)
+
+
 def check_slots(bench):
-    """A caller has 16 requests for lists and snapshots at once: more get 429. They don't wait for one another's answers."""
+    """A caller has 16 requests for lists and snapshots at once, until their answers are read: more get 429."""
     rights = {"token:desk": [("lists", "office"), ("snapshot", "office")], "token:admin": [("addUser", "office")]}
-    with secured(bench, rights=rights) as front:
-        front.ask("addUser", {"user": "ann"}, **bearer("another"))
-        office = next(process for process in front.replays() if "--memory" not in words_of(process))
-        os.kill(office, signal.SIGSTOP)
-        given, guard = [], threading.Lock()
-
-        def ask():
-            # The office is asked for this list, and so it can't be answered yet.
-            status, said = front.exchange("GET", "/lists/permissions?user=ann", None, **bearer("secret"))
-            with guard:
-                given.append((status, said))
-
-        threads = [threading.Thread(target=ask) for _ in range(SLOTS + MORE)]
-        for thread in threads:
-            thread.start()
-        until(lambda: len(given) == MORE, "those who find no slot are answered")
-        bench.same("without a slot", set(given), {(429, '{"code":64,"error":"TooManyRequests"}')})
-        bench.same("a snapshot without a slot", front.exchange("GET", "/snapshot", None, **bearer("secret"))[0], 429)
+    front, path = secured(bench, rights=rights), bench.path("socket")
+    front.listen += f",unix:{path}"
+    with front:
+        for first in range(0, USERS, 100):
+            lines = "".join(f'{{"fn":"addUser","user":"{number:064}"}}\n' for number in range(first, first + 100))
+            front.exchange("POST", "/v1/batch", lines, **bearer("another"))
+        request = head("/lists", len(LISTS), "Authorization: Bearer secret") + LISTS.encode()
+        slow = [socket.socket(socket.AF_UNIX) for _ in range(SLOTS)]
+        for client in slow:
+            client.connect(path)
+            client.sendall(request)
+        began = [client.recv(1) for client in slow]
+        for what, asked in (("a list", "/lists/users?limit=1"), ("a snapshot", "/snapshot")):
+            given = front.exchange("GET", asked, None, **bearer("secret"))
+            bench.same(f"{what} without a slot", given, (429, '{"code":64,"error":"TooManyRequests"}'))
         bench.same("several lists", front.exchange("POST", "/lists", '{"list":"users"}', **bearer("secret"))[0], 429)
         bench.same("another right", front.exchange("GET", "/caller", None, **bearer("secret"))[0], 200)
-        os.kill(office, signal.SIGCONT)
-        for thread in threads:
-            thread.join()
-        bench.same("with one", given[MORE:], [(200, '{"ok":true,"value":[]}')] * SLOTS)
-        bench.same("afterwards", front.exchange("GET", "/lists/users", None, **bearer("secret"))[0], 200)
+        for client, begin in zip(slow, began):
+            text = begin + b"".join(iter(lambda: client.recv(1 << 20), b""))
+            bench.same("with one", (status_of(text), text.count(b'"ok":true'), text.count(b"0" * 60)), (200, 20, 20 * USERS))
+            client.close()
+        bench.same("afterwards", front.exchange("GET", "/lists/users?limit=1", None, **bearer("secret"))[0], 200)
         bench.same("the end", front.end(), 0)
-
-
-def words_of(process):
-    with open(f"/proc/{process}/cmdline", "rb") as file:
-        return file.read().decode().split("\0")
 
 
 # What has a body about one thing, and about many.

@@ -231,7 +231,7 @@ def check_load(bench):
 
 
 def check_closed(bench):
-    """While the office doesn't answer, nothing is said about what is in it. A watch ends, and the numbers go on behind a gap."""
+    """While the office can't be read, nothing is said about what is in it. A watch ends, and the numbers go on behind a gap."""
     with Front(bench, "--no-record") as front:
         bench.same("addUser", front.ask("addUser", {"user": "ann"})[0], 200)
         status, number, _ = snapshot(front)
@@ -240,7 +240,8 @@ def check_closed(bench):
         bench.write("office", b"no office")
         for process in children(front.process.pid):
             os.kill(process, 9)
-        until(lambda: front.exchange("GET", "/healthz")[0] == 503, "the office doesn't answer")
+        until(lambda: "doesn't start" in front.said(), "the log says why")
+        bench.same("health", front.exchange("GET", "/healthz")[0], 503)
         for path in ("/lists/users", "/snapshot", f"/watch?after={number}"):
             bench.same(path, front.exchange("GET", path)[0], 503)
         asked = {"user": "ann", "operation": "open", "object": "safe"}

@@ -145,7 +145,7 @@ class Front(Asking):
         self.process.wait()
 
     def replays(self):
-        """The processes that the front has started, the office's replay and that of the callers."""
+        """The processes that the front has started: the office's replay, and those of what is tried over a copy."""
         return children(self.process.pid)
 
     def connection(self):

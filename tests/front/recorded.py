@@ -156,7 +156,7 @@ def refuted(bench, what, office, says, *more):
 def left_in_memory(office):
     """The folders in memory that belong to an office."""
     part = hashlib.sha256(os.path.abspath(office).encode()).hexdigest()[:16]
-    return [name for name in os.listdir("/dev/shm") if name.startswith(("rbac-record-", "rbac-what-if-")) and part in name]
+    return [name for name in os.listdir("/dev/shm") if name.startswith("rbac-record-") and part in name]
 
 
 def files_with(folder, text):

@@ -129,7 +129,7 @@ def check_disk_of_both(bench):
             full(bench, "a full disk", front)
             for replay in front.replays():
                 os.kill(replay, signal.SIGKILL)
-            until(lambda: asked(front) == 200, "there is another replay", lambda: front.said()[-1500:])
+            until(lambda: "the replay answers again" in front.said(), "there is another replay", lambda: front.said()[-1500:])
             full(bench, "after the replay was killed", front)
             for turn in (1, 2):
                 front.kill()

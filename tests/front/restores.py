@@ -106,7 +106,12 @@ def check_restore(bench, maker):
     bench.same("the rows that were kept", rows_of(f"{kept}/office", bench.path("kept")), earlier)
     last = entries(front.office)[-1]
     bench.same("who and why", (last.reason, json.loads(last.request)["by"]), (f"restore of {os.path.basename(backup)}: ticket 9", "root"))
-    bench.same("what the record calls changed", json.loads(last.request)["changed"]["removed"], 1)
+    said, name = json.loads(last.request), os.path.basename(backup)
+    bench.same("what the record calls changed", (said["changed"]["removed"], said["restored"]), (1, name))
+    says = f'entry {last.n} begins anew over the backup "{name}", which was restored: adopted by "root", with 0 rows added and 1 removed'
+    bench.same("verify names the restore", says in tool("record", "verify", "--office", front.office)[1], True)
+    _, out, _ = tool("record", "access", "--office", front.office, "--entry", str(last.n - 1), "--user", "a")
+    bench.same("so does access", f'the backup "{name}" was restored' in out, True)
     with front:
         bench.same("a user of the backup", front.ask("assignedRoles", {"user": "a"})[0], 200)
         bench.same("a user of after it", front.ask("assignedRoles", {"user": "c"})[0], 409)

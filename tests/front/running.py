@@ -24,6 +24,7 @@ def build(folder, root=TESTS.parent):
 def go(*words, folder=SERVER, **more):
     """Returns what a command of Go prints about the server, and its status. It uses the libraries that bin/vendor copies, as bin/node does."""
     subprocess.run([TESTS.parent / "bin/vendor"], check=True, stdout=sys.stderr)
-    settings = {**os.environ, "GO111MODULE": "on", "GOFLAGS": "-mod=vendor", "GOPROXY": "off", "GOWORK": "off", "CGO_ENABLED": "1", **more}
-    done = subprocess.run(words, cwd=folder, env=settings, capture_output=True, text=True, stdin=subprocess.DEVNULL, check=False)
+    settings = {"GO111MODULE": "on", "GOFLAGS": "-mod=vendor -buildvcs=false", "GOPROXY": "off", "GOWORK": "off"}
+    settings |= {"CGO_ENABLED": "1", "CGO_CFLAGS": "-O2 -g0"}
+    done = subprocess.run(words, cwd=folder, env={**os.environ, **settings, **more}, capture_output=True, text=True, stdin=subprocess.DEVNULL, check=False)
     return done.stdout + done.stderr, done.returncode

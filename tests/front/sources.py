@@ -41,7 +41,7 @@ def check_refusals(bench):
     for _, code, name in found:
         if name not in ("Diverged", "UnknownFunction"):
             bench.same(f"{code} {name}", f"{code} {name}" in PAGE or f'"code":{code},"error":"{name}"' in PAGE, True)
-    bench.same("how many", len(found), 10)
+    bench.same("how many", len(found), 9)
 
 
 def check_limits(bench):

@@ -42,7 +42,7 @@ LICENCES = "usr/share/doc/"
 OPTIONS = ["--read-only", "--cap-drop=all", "--security-opt=no-new-privileges"]
 
 # The most bytes that the layer may have.
-MOST_BYTES = 26_000_000
+MOST_BYTES = 28_000_000
 
 
 def opened():

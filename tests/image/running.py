@@ -4,7 +4,8 @@ import os
 import subprocess
 from pathlib import Path
 
-from program.bench import PROGRAM, TESTS
+from commands.folders import record
+from program.bench import TESTS
 
 ROOT = TESTS.parent
 VERSION = (ROOT / "VERSION").read_text(encoding="ascii").strip()
@@ -13,16 +14,9 @@ VERSION = (ROOT / "VERSION").read_text(encoding="ascii").strip()
 IMAGE = "RBAC_IMAGE"
 
 
-def recorded(folder):
-    """A folder that has the program that is checked, as that of the sources."""
-    digest = subprocess.run([ROOT / "bin/release", "--digest"], capture_output=True, text=True, check=True).stdout.strip()
-    subprocess.run([ROOT / "bin/release", "--record", PROGRAM, digest, folder], check=True)
-    return str(folder)
-
-
 def build(folder):
     """Builds the image into a folder."""
-    settings = {**os.environ, "RELEASE": recorded(folder / "release"), "TMPDIR": str(folder)}
+    settings = {**os.environ, "RELEASE": record(folder / "release"), "TMPDIR": str(folder)}
     words = [ROOT / "bin/image", folder / "image.tar"]
     done = subprocess.run(words, env=settings, capture_output=True, text=True, check=False)
     if done.returncode:

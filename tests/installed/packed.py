@@ -17,12 +17,9 @@ def output(*words):
 
 @pytest.mark.gate
 def check_same_bytes(bench):
-    """Made again with another time, mask, language and folder, both packages have the same bytes.
-
-    Go takes what it compiled before from its cache. With an empty one, which is two minutes of a processor, the bytes are the same.
-    """
+    """Made again with another time, mask, language and folder, and nothing compiled before, both packages have the same bytes."""
     again = bench.folder / "again"
-    settings = {"TZ": "Asia/Tokyo", "LC_ALL": "C.UTF-8", "TMPDIR": bench.path("")}
+    settings = {"TZ": "Asia/Tokyo", "LC_ALL": "C.UTF-8", "TMPDIR": bench.path(""), "GOCACHE": bench.path("compiled")}
     before = os.umask(0o077)
     try:
         make(again, os.environ[RELEASE], **settings)

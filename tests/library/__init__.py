@@ -2,6 +2,7 @@
 
     building    builds the library, and a program in each language that answers lines
     answers     the answers and decisions of each language are those of the plain model and of the program
+    explaining  the reasons of decisions about users, and the sets that assignments would violate, are those of the plain model
     saving      rows that are saved, and offices that are loaded from them
     interface   rbac.h: its symbols, its codes, null pointers, buffers that are too short
     memory      each allocation fails in turn; sanitizers and valgrind

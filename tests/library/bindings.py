@@ -77,7 +77,7 @@ for function, arguments in (
     ("grantPermission", {"object": "safe", "operation": "open", "role": "clerk"}),
 ):
     office.call(function, **arguments)
-records = "user,role\\r\\n" + "ann,nobody\\r\\n" * 4_000
+records = "user,role\\r\\n" + "ann,nobody\\r\\n" * 1_000
 line = json.dumps({"fn": "importAssignments", "csv": records}).encode()
 stop = False
 def work():

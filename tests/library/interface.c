@@ -60,6 +60,7 @@ static void nulls(rbac_office *office)
 static void closed(rbac_office *office)
 {
     uint64_t revision = 7;
+    size_t start = 7, end = 7;
     rbac_row row;
 
     length = 7;
@@ -77,6 +78,9 @@ static void closed(rbac_office *office)
     length = 7;
     want("rows when closed", rbac_rows(office, 0, 0, out, sizeof out, &row, 1, &length), RBAC_CLOSED);
     want("their count", length, 0);
+    want("range when closed", rbac_range(office, RBAC_ROLES, TEXT("c"), &start, &end), RBAC_CLOSED);
+    want("its places", start == 0 && end == 0, 1);
+    want("a session's reason when closed", rbac_explain_session(office, TEXT("s"), TEXT("p"), TEXT("o"), out, 9, &row), RBAC_CLOSED);
     want("add when closed", rbac_add_row(office, 0, TEXT("u"), NULL, 0, NULL, 0, 0), RBAC_CLOSED);
     want("load when closed", rbac_load(office, 0), RBAC_CLOSED);
     rbac_close(office);
@@ -163,6 +167,121 @@ static void names(rbac_office *office)
     want("a row of no table", rbac_add_row(office, RBAC_TABLES, TEXT("u"), NULL, 0, NULL, 0, 0), RBAC_ABSENT);
 }
 
+/* Explains decisions about a session of ann, and what would be activated in it. */
+static void sessions(rbac_office *office)
+{
+    rbac_row reason;
+
+    want("a session", rbac_answer(office, LINE("\"createSession\",\"user\":\"ann\",\"session\":\"s\",\"roles\":[\"boss\"]"), out,
+        sizeof out, &length), RBAC_DONE);
+    memset(out, '-', sizeof out);
+    want("why a session", rbac_explain_session(office, TEXT("s"), TEXT("open"), TEXT("safe"), out, 10, &reason), RBAC_DONE);
+    want("its number", reason.number, RBAC_WHY_ALLOWED);
+    want("its names", memcmp(out, "bossteller-", 11), 0);
+    want("why of no session", rbac_explain_session(office, TEXT("t"), TEXT("open"), TEXT("safe"), out, 9, &reason), 26);
+    want("why of null", rbac_explain_session(office, NULL, 1, TEXT("p"), TEXT("o"), out, 9, &reason), RBAC_NULL);
+    want("why to null", rbac_explain_session(office, TEXT("s"), TEXT("p"), TEXT("o"), NULL, 1, &reason), RBAC_NULL);
+    want("why without lengths", rbac_explain_session(office, TEXT("s"), TEXT("p"), TEXT("o"), out, 9, NULL), RBAC_NULL);
+    want("why by null", rbac_explain_session(NULL, TEXT("s"), TEXT("p"), TEXT("o"), out, 9, &reason), RBAC_NULL);
+    want("no conflict of a session", rbac_activation_conflict(office, TEXT("ann"), TEXT("s"), TEXT("teller"), 0, out, 9, &reason),
+        RBAC_ABSENT);
+    want("one of no session", rbac_activation_conflict(office, TEXT("ann"), TEXT("t"), TEXT("teller"), 0, out, 9, &reason), 26);
+    want("one of null", rbac_activation_conflict(office, TEXT("ann"), NULL, 1, TEXT("r"), 0, out, 9, &reason), RBAC_NULL);
+    want("one to null", rbac_activation_conflict(office, TEXT("ann"), TEXT("s"), TEXT("r"), 0, NULL, 1, &reason), RBAC_NULL);
+    want("one without lengths", rbac_activation_conflict(office, TEXT("ann"), TEXT("s"), TEXT("r"), 0, out, 9, NULL), RBAC_NULL);
+    want("one by null", rbac_activation_conflict(NULL, TEXT("ann"), TEXT("s"), TEXT("r"), 0, out, 9, &reason), RBAC_NULL);
+}
+
+/* Finds the set that the session would violate. */
+static void inheritances(rbac_office *office)
+{
+    rbac_row set;
+
+    want("a role", rbac_answer(office, LINE("\"addRole\",\"role\":\"payer\""), out, sizeof out, &length), RBAC_DONE);
+    want("a set", rbac_answer(office, LINE("\"createDsdSet\",\"set\":\"pay\",\"roles\":[\"payer\",\"teller\"],\"cardinality\":2"),
+        out, sizeof out, &length), RBAC_DONE);
+    memset(out, '-', sizeof out);
+    want("a conflict", rbac_inheritance_conflict(office, 2, TEXT("boss"), TEXT("payer"), 0, out, 4, &set), RBAC_DONE);
+    want("its lengths", set.first == 3 && set.second == 1 && set.third == 0, 1);
+    want("its names", memcmp(out, "pays-", 5), 0);
+    want("too short", rbac_inheritance_conflict(office, 1, TEXT("boss"), TEXT("payer"), 0, out, 3, &set), RBAC_SHORT);
+    want("no more", rbac_inheritance_conflict(office, 1, TEXT("boss"), TEXT("payer"), 1, out, 9, &set), RBAC_ABSENT);
+    want("none of users", rbac_inheritance_conflict(office, 0, TEXT("boss"), TEXT("payer"), 0, out, 9, &set), RBAC_ABSENT);
+    want("a cycle", rbac_inheritance_conflict(office, 1, TEXT("teller"), TEXT("boss"), 0, out, 9, &set), 16);
+    want("one of null", rbac_inheritance_conflict(office, 0, TEXT("boss"), NULL, 1, 0, out, 9, &set), RBAC_NULL);
+    want("one to null", rbac_inheritance_conflict(office, 0, TEXT("boss"), TEXT("r"), 0, NULL, 1, &set), RBAC_NULL);
+    want("one without lengths", rbac_inheritance_conflict(office, 0, TEXT("boss"), TEXT("r"), 0, out, 9, NULL), RBAC_NULL);
+    want("one by null", rbac_inheritance_conflict(NULL, 0, TEXT("boss"), TEXT("r"), 0, out, 9, &set), RBAC_NULL);
+}
+
+/* Finds the three roles: boss, payer and teller. */
+static void ranges(rbac_office *office)
+{
+    size_t start, end;
+
+    want("a range", rbac_range(office, RBAC_ROLES, TEXT("payer"), &start, &end), RBAC_DONE);
+    want("its places", start == 1 && end == 2, 1);
+    want("a range between", rbac_range(office, RBAC_ROLES, TEXT("c"), &start, &end), RBAC_DONE);
+    want("its places", start == 1 && end == 1, 1);
+    want("a range of nothing", rbac_range(office, RBAC_ROLES, NULL, 0, &start, &end), RBAC_DONE);
+    want("its places", start == 0 && end == 0, 1);
+    want("a range of no table", rbac_range(office, RBAC_TABLES, TEXT("c"), &start, &end), RBAC_ABSENT);
+    want("a range of null", rbac_range(office, RBAC_ROLES, NULL, 1, &start, &end), RBAC_NULL);
+    want("a range to null", rbac_range(office, RBAC_ROLES, TEXT("c"), NULL, &end), RBAC_NULL);
+    want("a range to null", rbac_range(office, RBAC_ROLES, TEXT("c"), &start, NULL), RBAC_NULL);
+    want("a range by null", rbac_range(NULL, RBAC_ROLES, TEXT("c"), &start, &end), RBAC_NULL);
+}
+
+/* Explains decisions about ann, who is locked at the end. */
+static void reasons(void)
+{
+    static const char *const lines[] = {
+        "{\"fn\":\"addUser\",\"user\":\"ann\"}",
+        "{\"fn\":\"addRole\",\"role\":\"teller\"}",
+        "{\"fn\":\"addAscendant\",\"asc\":\"boss\",\"desc\":\"teller\"}",
+        "{\"fn\":\"assignUser\",\"user\":\"ann\",\"role\":\"boss\"}",
+        "{\"fn\":\"addPermObj\",\"object\":\"safe\"}",
+        "{\"fn\":\"addPermission\",\"object\":\"safe\",\"operation\":\"open\"}",
+        "{\"fn\":\"grantPermission\",\"object\":\"safe\",\"operation\":\"open\",\"role\":\"teller\"}",
+    };
+    rbac_office office = RBAC_OFFICE_NONE;
+    rbac_row reason;
+
+    want("why by null", rbac_explain_user(NULL, TEXT("u"), TEXT("p"), TEXT("o"), out, sizeof out, &reason), RBAC_NULL);
+    want("why when closed", rbac_explain_user(&office, TEXT("u"), TEXT("p"), TEXT("o"), out, sizeof out, &reason), RBAC_CLOSED);
+    want("a conflict when closed", rbac_assignment_conflict(&office, TEXT("u"), TEXT("r"), 0, out, 9, &reason), RBAC_CLOSED);
+    want("open", rbac_open(&office), RBAC_DONE);
+    want("why of no user", rbac_explain_user(&office, NULL, 1, TEXT("p"), TEXT("o"), out, sizeof out, &reason), RBAC_NULL);
+    want("why to null", rbac_explain_user(&office, TEXT("u"), TEXT("p"), TEXT("o"), NULL, 1, &reason), RBAC_NULL);
+    want("why without lengths", rbac_explain_user(&office, TEXT("u"), TEXT("p"), TEXT("o"), out, sizeof out, NULL), RBAC_NULL);
+    want("why of no name", rbac_explain_user(&office, TEXT("u"), TEXT("\n"), TEXT("o"), out, sizeof out, &reason), RBAC_BAD_NAME);
+    want("why of nobody", rbac_explain_user(&office, TEXT("u"), TEXT("p"), TEXT("o"), out, sizeof out, &reason), 2);
+    for (size_t at = 0; at < sizeof lines / sizeof *lines; at++)
+        want(lines[at], rbac_answer(&office, lines[at], strlen(lines[at]), out, sizeof out, &length), RBAC_DONE);
+    memset(out, '-', sizeof out);
+    want("why", rbac_explain_user(&office, TEXT("ann"), TEXT("open"), TEXT("safe"), out, 10, &reason), RBAC_DONE);
+    want("its number", reason.number, RBAC_WHY_ALLOWED);
+    want("its lengths", reason.first == 4 && reason.second == 6 && reason.third == 0, 1);
+    want("its names", memcmp(out, "bossteller-", 11), 0);
+    want("no conflict", rbac_assignment_conflict(&office, TEXT("ann"), TEXT("boss"), 0, out, sizeof out, &reason), RBAC_ABSENT);
+    want("a conflict of nobody", rbac_assignment_conflict(&office, TEXT("u"), TEXT("r"), 0, out, sizeof out, &reason), 2);
+    want("a conflict of no role", rbac_assignment_conflict(&office, TEXT("ann"), TEXT("r"), 0, out, sizeof out, &reason), 4);
+    want("a conflict of no name", rbac_assignment_conflict(&office, TEXT("ann"), NULL, 0, 0, out, 9, &reason), RBAC_BAD_NAME);
+    want("a conflict of null", rbac_assignment_conflict(&office, NULL, 1, TEXT("r"), 0, out, 9, &reason), RBAC_NULL);
+    want("a conflict to null", rbac_assignment_conflict(&office, TEXT("ann"), TEXT("r"), 0, NULL, 1, &reason), RBAC_NULL);
+    want("a conflict without lengths", rbac_assignment_conflict(&office, TEXT("ann"), TEXT("r"), 0, out, 9, NULL), RBAC_NULL);
+    want("a conflict by null", rbac_assignment_conflict(NULL, TEXT("ann"), TEXT("r"), 0, out, 9, &reason), RBAC_NULL);
+    sessions(&office);
+    inheritances(&office);
+    ranges(&office);
+    want("why, too short", rbac_explain_user(&office, TEXT("ann"), TEXT("open"), TEXT("safe"), out, 9, &reason), RBAC_SHORT);
+    want("its number", reason.number, RBAC_WHY_ALLOWED);
+    want("a lock", rbac_answer(&office, LINE("\"lockUserAccount\",\"user\":\"ann\""), out, sizeof out, &length), RBAC_DONE);
+    want("why not", rbac_explain_user(&office, TEXT("ann"), TEXT("open"), TEXT("safe"), NULL, 0, &reason), RBAC_DONE);
+    want("its number", reason.number, RBAC_WHY_LOCKED);
+    rbac_close(&office);
+}
+
 static void loads(rbac_office *office)
 {
     uint64_t revision;
@@ -198,5 +317,6 @@ int main(void)
     loads(&office);
     rbac_close(&office);
     closed(&office);
+    reasons();
     return broken;
 }

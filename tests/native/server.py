@@ -10,6 +10,8 @@ import pytest
 from front.running import SERVER, TAGS, build, go
 from program.bench import PROGRAM
 
+# How bin/node compiles, so that what is compiled is shared.
+FORM = ["-trimpath", "-buildmode=pie"]
 PACKAGES = sorted({path.parent for path in SERVER.rglob("*_test.go") if SERVER / "vendor" not in path.parents})
 
 pytestmark = pytest.mark.needs("go", "gcc", "libraries of the server")
@@ -21,8 +23,8 @@ def name_of(folder):
 
 def go_test(*words):
     """What `go test` says of all packages: its events, what isn't one, and its status. But for races, which need another form, it compiles as
-    bin/node does."""
-    form = ["-race"] if "-race" in words else ["-trimpath", "-buildmode=pie"]
+    bin/node does. check_form has `go vet` look at all."""
+    form = ["-race"] if "-race" in words else [*FORM, "-vet=off", "-ldflags=-s -w"]
     said, status = go("go", "test", "-count=1", "-json", *form, "-tags", TAGS, "./...", RBAC_PROGRAM=PROGRAM)
     lines = said.splitlines()
     return [json.loads(line) for line in lines if line.startswith("{")], "\n".join(line for line in lines if not line.startswith("{")), status
@@ -68,4 +70,4 @@ def check_races(bench):
 def check_form(bench):
     """gofmt would change nothing, and `go vet` finds nothing."""
     bench.same("what gofmt would change", go("gofmt", "-l", "cmd", "internal"), ("", 0))
-    bench.same("what go vet finds", go("go", "vet", "-trimpath", "-tags", TAGS, "./..."), ("", 0))
+    bench.same("what go vet finds", go("go", "vet", *FORM, "-tags", TAGS, "./..."), ("", 0))

@@ -88,7 +88,7 @@ def some_of_each_place(faults, most):
 
 
 @pytest.mark.parametrize("part", range(PARTS))
-@pytest.mark.parametrize("version", [1, 2])
+@pytest.mark.parametrize("version", [pytest.param(1, marks=pytest.mark.gate), 2])
 def check_pairs(bench, version, part):
     """Each two faults that are judged at two places, for a part of these pairs."""
     state, faults = small_state(version), all_faults(version)

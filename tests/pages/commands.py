@@ -8,10 +8,10 @@ from . import markdown, sources
 ROOT = sources.ROOT
 PAGE = markdown.section((ROOT / "CONTRIBUTING.md").read_text(encoding="utf-8"), "## How to add a command")
 
-# Files outside crates/ that are written by hand, and files in it: `bin/commands` finds both if they lack a command. The front's copy
-# of the office and the random lines have some commands by a part of their names.
+# Files outside crates/ that are written by hand, and files in it: `bin/commands` finds both if they lack a command. The random
+# lines have some commands by a part of their names.
 FOUND = ["crates/admin_mgr/specs/Verdict.antt", "crates/role_json/src/calls.rt", "docs/reference/api.md", "tests/machine/commands.py"]
-FOUND += ["server/internal/state/apply.go", "tests/machine/drawing.py"]
+FOUND += ["tests/machine/drawing.py"]
 
 # What writes each of these files.
 WRITTEN = {

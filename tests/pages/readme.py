@@ -145,9 +145,6 @@ def check_speed(bench):
     for row, wanted in zip(table, figures(), strict=True):
         said = [float(number.replace(",", "")) for number in re.findall(r"\d[\d,]*(?:\.\d+)?", " ".join(row[2:]))]
         bench.same(f"the figures of {row[0]}", said, [float(f"{number:.2g}") for number in wanted])
-    rate = float(f"{cell('http', 'checkAccess, allowed', 2):.2g}")
-    words = f"makes {rate:,.0f} decisions a second"
-    bench.same(f"operate.md states: {words}", words in markdown.in_one_line(markdown.page("howto/operate.md")), True)
 
 
 def check_crates(bench):

@@ -156,7 +156,8 @@ def check_people(bench):
             "people.csv:4: refused: assign the user cat to the role nobody: 4 NoRole",
         ]
         ends(bench, "apply", done, 1, "Done: 503 changes. Refused: 2.\n", refused)
-        bench.same("the lines of refusals", done.err.decode().splitlines(), refused)
+        said = done.err.decode().splitlines()  # It also says how far it is, if that takes long.
+        bench.same("the lines of refusals", [line for line in said if not line.startswith("changes: ")], refused)
         pulled = policy(bench, "pull", "--users", *at).out.decode()
         bench.same("the users", pulled.count('= ["employee"]'), 251)
         front.ask("createSession", {"user": "bob", "roles": ["teller"], "session": "bob 1"})

@@ -246,3 +246,23 @@ def check_ldif(bench):
     bench.same("the policy", text, '[roles.bosses]\ninherits = ["clerks"]\n\n[roles.clerks]\n\n[roles.unix]\n')
     left = (bench.folder / "out/left.txt").read_text(encoding="utf-8")
     bench.same("the member that is gone is in the list", '"uid=gone,ou=people,dc=example" of clerks' in left, True)
+
+
+def check_ldif_of_one_name(bench):
+    """Two groups or two users of one name are refused, and the message names both."""
+    group, user = (
+        "dn: cn=clerks,ou={0}\nobjectClass: groupOfNames\ncn: Clerks\nmember: {1}\n\n",
+        "dn: uid=ann,ou={0}\nuid: ann\n\n",
+    )
+    for sort, entries, names in (
+        (
+            "groups",
+            group.format("a", "uid=ann,ou=a") + group.format("b", "uid=ann,ou=a"),
+            ('"cn=clerks,ou=a"', '"cn=clerks,ou=b"', "Clerks"),
+        ),
+        ("users", user.format("a") + user.format("b"), ('"uid=ann,ou=a"', '"uid=ann,ou=b"', "ann")),
+    ):
+        path = bench.write("all.ldif", entries.encode())
+        done = policy(bench, "from", "ldif", path, "--out", "out")
+        wanted = f"{path}: the {sort} {names[0]} and {names[1]} have one name, {names[2]}: rename or remove one in the file"
+        ends(bench, sort, done, 2, err=wanted)

@@ -151,7 +151,13 @@ def check_either(bench):
 
 
 def check_help(bench):
-    """Help is a text on standard output, with status 0."""
+    """Help is a text on standard output, with status 0, whatever stands before it; what is at a path stays as it is."""
+    path = Office(bench).path
+    for text in WHOLE:
+        before = bench.contents()
+        done = bench.run(words_of(f"{text} --help", path), b'{"fn":"addUser","user":"ann"}\n')
+        bench.same(f"'{text} --help'", (bool(done.out), done.err, done.status), (True, b"", 0))
+        bench.same(f"the files after '{text} --help'", bench.contents(), before)
     for text in HELPS:
         done = bench.run(text.split())
         bench.same(f"words '{text}'", (bool(done.out), done.err, done.status), (True, b"", 0))

@@ -21,7 +21,6 @@ var statuses = map[int][]int{
 	65: {403},
 	66: {421},
 	67: {412},
-	68: {503},
 }
 
 // refusalNames: the names of the refusals, by their codes.
@@ -77,7 +76,6 @@ var refusalNames = map[int]string{
 	65: "ForeignOrigin",
 	66: "ForeignHost",
 	67: "Outdated",
-	68: "Upgrading",
 }
 
 // repeatable: the commands that may be repeated if their answer was lost. The code, if it isn't 0, then says that it

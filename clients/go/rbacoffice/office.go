@@ -1,10 +1,9 @@
 // Package rbacoffice has an office of roles in this process, by the library librbac.
 //
 // An Office answers the lines of docs/reference/api.md, and decides about access without a line. docs/howto/embed.md says when to use it,
-// and what is proved about it. The compiler of C has to find rbac.h, and the linker librbac.
+// and what is proved about it. The compiler of C has to find rbac.h, and the linker librbac, which linked.go names.
 package rbacoffice
 
-// #cgo LDFLAGS: -lrbac
 // #include <stdlib.h>
 // #include "rbac.h"
 //
@@ -24,6 +23,34 @@ package rbacoffice
 //         _GoStringPtr(operation), _GoStringLen(operation), _GoStringPtr(object), _GoStringLen(object));
 // }
 //
+// static uint32_t explain(uintptr_t at, int of_user, _GoString_ holder, _GoString_ operation, _GoString_ object) {
+//     room *made = (room *)at;
+//     return (of_user ? rbac_explain_user : rbac_explain_session)(&made->office, _GoStringPtr(holder), _GoStringLen(holder),
+//         _GoStringPtr(operation), _GoStringLen(operation), _GoStringPtr(object), _GoStringLen(object), made->out, ROOM, made->rows);
+// }
+//
+// static uint32_t assignment_conflict(uintptr_t at, _GoString_ user, _GoString_ role, size_t index) {
+//     room *made = (room *)at;
+//     return rbac_assignment_conflict(&made->office, _GoStringPtr(user), _GoStringLen(user), _GoStringPtr(role),
+//         _GoStringLen(role), index, made->out, ROOM, made->rows);
+// }
+//
+// static uint32_t activation_conflict(uintptr_t at, _GoString_ user, _GoString_ session, _GoString_ role, size_t index) {
+//     room *made = (room *)at;
+//     return rbac_activation_conflict(&made->office, _GoStringPtr(user), _GoStringLen(user), _GoStringPtr(session),
+//         _GoStringLen(session), _GoStringPtr(role), _GoStringLen(role), index, made->out, ROOM, made->rows);
+// }
+//
+// static uint32_t inheritance_conflict(uintptr_t at, int of_sessions, _GoString_ asc, _GoString_ desc, size_t index) {
+//     room *made = (room *)at;
+//     return rbac_inheritance_conflict(&made->office, of_sessions, _GoStringPtr(asc), _GoStringLen(asc), _GoStringPtr(desc),
+//         _GoStringLen(desc), index, made->out, ROOM, made->rows);
+// }
+//
+// static uint32_t range_of(uintptr_t at, uint32_t table, _GoString_ first, size_t *start, size_t *end) {
+//     return rbac_range(&((room *)at)->office, table, _GoStringPtr(first), _GoStringLen(first), start, end);
+// }
+//
 // static uint32_t answer(uintptr_t at, const void *line, size_t length) {
 //     room *made = (room *)at;
 //     return rbac_answer(&made->office, line, length, made->out, ROOM, &made->length);
@@ -34,9 +61,9 @@ package rbacoffice
 //     return rbac_kept_answer(&made->office, out, length, &made->length);
 // }
 //
-// static uint32_t rows(uintptr_t at, uint32_t table, size_t index) {
+// static uint32_t rows(uintptr_t at, uint32_t table, size_t index, size_t most) {
 //     room *made = (room *)at;
-//     return rbac_rows(&made->office, table, index, made->out, ROOM, made->rows, ROWS, &made->length);
+//     return rbac_rows(&made->office, table, index, made->out, ROOM, made->rows, most < ROWS ? most : ROWS, &made->length);
 // }
 //
 // static uint32_t add_row(uintptr_t at, uint32_t table, _GoString_ first, _GoString_ second, _GoString_ third,
@@ -227,6 +254,127 @@ func (o *Office) decide(ofUser C.int, holder, operation, object string) (bool, e
 	}
 }
 
+// A Why is the reason of a decision.
+type Why uint32
+
+// The reasons. About a user a reason is the first that applies, from Locked on; about a session it is NotGranted, NotActive or Allowed.
+const (
+	// Allowed says that there is access: Names has an assigned role, or one that was activated, and the role that is granted the
+	// permission, which is this one or a junior of it.
+	Allowed Why = C.RBAC_WHY_ALLOWED
+	// Locked says that the user is locked.
+	Locked Why = C.RBAC_WHY_LOCKED
+	// NotGranted says that the permission is granted to no role.
+	NotGranted Why = C.RBAC_WHY_NOT_GRANTED
+	// NotAuthorized says that the user is authorized for no role to which it is granted.
+	NotAuthorized Why = C.RBAC_WHY_NOT_AUTHORIZED
+	// Separated says that no session may have such a role: Names has the first, and the first dynamic set that it violates alone.
+	Separated Why = C.RBAC_WHY_SEPARATED
+	// NotActive says that the session has no role to which it is granted.
+	NotActive Why = C.RBAC_WHY_NOT_ACTIVE
+)
+
+// Reason says why a decision is as it is. Names that it doesn't have are empty.
+type Reason struct {
+	Why   Why
+	Names [2]string
+}
+
+// Conflict is a separation of duty set that an inheritance would violate, with the first user who would be authorized for too many of
+// its roles, or with the first session that would have too many.
+type Conflict struct {
+	Set, Holder string
+}
+
+// Explain says why Check decides as it does: Allowed exactly if it returns true.
+func (o *Office) Explain(session, operation, object string) (Reason, error) {
+	return o.explain(0, session, operation, object)
+}
+
+// ExplainUser says why CheckUser decides as it does: Allowed exactly if it returns true.
+func (o *Office) ExplainUser(user, operation, object string) (Reason, error) {
+	return o.explain(1, user, operation, object)
+}
+
+// explain returns the reason of the decision about the holder, which is a user if ofUser is 1, and a session if it is 0.
+func (o *Office) explain(ofUser C.int, holder, operation, object string) (Reason, error) {
+	o.mu.Lock()
+	defer o.mu.Unlock()
+	if o.room == nil {
+		return Reason{}, ErrClosed
+	}
+	if code := C.explain(o.at(), ofUser, holder, operation, object); code != C.RBAC_DONE {
+		return Reason{}, errorOf(code)
+	}
+	return Reason{Why(o.room.rows[0].number), o.twoNames()}, nil
+}
+
+// twoNames returns the two names of the first row of the room. The caller holds the lock.
+func (o *Office) twoNames() [2]string {
+	row := o.room.rows[0]
+	text := string(o.out(0, row.first+row.second))
+	return [2]string{text[:row.first], text[row.first:]}
+}
+
+// AssignmentConflicts returns the static separation of duty sets that would be violated if the user were assigned to the role, in byte
+// order. If assignUser is refused with StaticSeparation, it names the first.
+func (o *Office) AssignmentConflicts(user, role string) ([]string, error) {
+	return o.sets(func(index C.size_t) C.uint32_t { return C.assignment_conflict(o.at(), user, role, index) })
+}
+
+// ActivationConflicts returns the dynamic separation of duty sets that would be violated if the role were activated in the user's
+// session, in byte order. If addActiveRole is refused with DynamicSeparation, it names the first.
+func (o *Office) ActivationConflicts(user, session, role string) ([]string, error) {
+	return o.sets(func(index C.size_t) C.uint32_t { return C.activation_conflict(o.at(), user, session, role, index) })
+}
+
+// sets returns the names of the sets that a function of the library writes into the room one by one.
+func (o *Office) sets(at func(index C.size_t) C.uint32_t) ([]string, error) {
+	conflicts, err := o.conflicts(at)
+	if err != nil {
+		return nil, err
+	}
+	names := make([]string, len(conflicts))
+	for i, one := range conflicts {
+		names[i] = one.Set
+	}
+	return names, nil
+}
+
+// StaticConflicts returns the static separation of duty sets that would be violated if asc became an immediate ascendant of desc, in
+// byte order, each with the first user in byte order who would violate it. If addInheritance is refused with StaticSeparation, it names
+// the first.
+func (o *Office) StaticConflicts(asc, desc string) ([]Conflict, error) {
+	return o.conflicts(func(index C.size_t) C.uint32_t { return C.inheritance_conflict(o.at(), 0, asc, desc, index) })
+}
+
+// DynamicConflicts returns the dynamic sets that would be violated, each with the first session in byte order that would violate it.
+// If addInheritance is refused with DynamicSeparation, it names the first.
+func (o *Office) DynamicConflicts(asc, desc string) ([]Conflict, error) {
+	return o.conflicts(func(index C.size_t) C.uint32_t { return C.inheritance_conflict(o.at(), 1, asc, desc, index) })
+}
+
+// conflicts returns what a function of the library writes into the room one by one, until there are no more.
+func (o *Office) conflicts(at func(index C.size_t) C.uint32_t) ([]Conflict, error) {
+	o.mu.Lock()
+	defer o.mu.Unlock()
+	if o.room == nil {
+		return nil, ErrClosed
+	}
+	found := []Conflict{}
+	for {
+		switch code := at(C.size_t(len(found))); code {
+		case C.RBAC_DONE:
+			names := o.twoNames()
+			found = append(found, Conflict{names[0], names[1]})
+		case C.RBAC_ABSENT:
+			return found, nil
+		default:
+			return nil, errorOf(code)
+		}
+	}
+}
+
 // Revision returns how many commands the office has accepted. A decision holds as long as this stays the same.
 func (o *Office) Revision() (uint64, error) {
 	o.mu.RLock()
@@ -241,9 +389,10 @@ func (o *Office) Revision() (uint64, error) {
 	return uint64(revision), nil
 }
 
-// refusals has the names of the refusals of decisions and of rows.
+// refusals has the names of the refusals of questions without a line, and of rows.
 var refusals = map[C.uint32_t]string{
-	C.RBAC_BAD_NAME: "BadName", 2: "NoUser", 6: "NoObject", 26: "NoSession", 32: "TooMany", 33: "NoOperation", 52: "Damaged",
+	C.RBAC_BAD_NAME: "BadName", 2: "NoUser", 4: "NoRole", 6: "NoObject", 16: "Cycle", 26: "NoSession", 28: "NotOwner",
+	29: "NotAuthorized", 32: "TooMany", 33: "NoOperation", 52: "Damaged",
 }
 
 // errorOf returns the error for a code of the library, which isn't RBAC_DONE.
@@ -300,15 +449,62 @@ func (o *Office) Rows() ([]Row, error) {
 	}
 	var rows []Row
 	for table := Table(0); table < tables; table++ {
-		for index := C.size_t(0); ; index += o.room.length {
-			if code := C.rows(o.at(), C.uint32_t(table), index); code != C.RBAC_DONE {
-				return nil, errorOf(code)
+		for index := 0; ; index += int(o.room.length) {
+			var err error
+			if rows, err = o.rowsFrom(rows, table, index, mostRows); err != nil {
+				return nil, err
 			}
 			if o.room.length == 0 {
 				break
 			}
-			rows = o.appendRows(rows, table)
 		}
+	}
+	return rows, nil
+}
+
+// mostRows is how many rows one call of the library returns at most.
+const mostRows = C.ROWS
+
+// RowsFrom appends rows of a table from a place on, which is counted from 0, to others: at least one if the table has one there, and at
+// most as many as wanted. The rows of a table are in the byte order of their names.
+func (o *Office) RowsFrom(rows []Row, table Table, index, most int) ([]Row, error) {
+	o.mu.Lock()
+	defer o.mu.Unlock()
+	if o.room == nil {
+		return nil, ErrClosed
+	}
+	return o.rowsFrom(rows, table, index, most)
+}
+
+// rowsFrom appends rows of a table from a place on. The caller holds the lock.
+func (o *Office) rowsFrom(rows []Row, table Table, index, most int) ([]Row, error) {
+	if code := C.rows(o.at(), C.uint32_t(table), C.size_t(index), C.size_t(most)); code != C.RBAC_DONE {
+		return nil, errorOf(code)
+	}
+	return o.appendRows(rows, table), nil
+}
+
+// RowsWith returns the rows of the table with this first name, in byte order.
+func (o *Office) RowsWith(table Table, first string) ([]Row, error) {
+	o.mu.Lock()
+	defer o.mu.Unlock()
+	if o.room == nil {
+		return nil, ErrClosed
+	}
+	var index, end C.size_t
+	if code := C.range_of(o.at(), C.uint32_t(table), first, &index, &end); code != C.RBAC_DONE {
+		return nil, errorOf(code)
+	}
+	rows := []Row{}
+	for index < end {
+		if code := C.rows(o.at(), C.uint32_t(table), index, mostRows); code != C.RBAC_DONE {
+			return nil, errorOf(code)
+		}
+		if o.room.length > end-index {
+			o.room.length = end - index
+		}
+		rows = o.appendRows(rows, table)
+		index += o.room.length
 	}
 	return rows, nil
 }

@@ -80,7 +80,6 @@ export const STATUSES = {
   65: [403],
   66: [421],
   67: [412],
-  68: [503],
 };
 
 /**
@@ -140,7 +139,6 @@ export const NAMES = {
   65: "ForeignOrigin",
   66: "ForeignHost",
   67: "Outdated",
-  68: "Upgrading",
 };
 
 /**

@@ -76,7 +76,6 @@ STATUSES: Mapping[int, Tuple[int, ...]] = {
     65: (403,),
     66: (421,),
     67: (412,),
-    68: (503,),
 }
 
 # The names of the refusals, by their codes.
@@ -132,7 +131,6 @@ NAMES: Mapping[int, str] = {
     65: "ForeignOrigin",
     66: "ForeignHost",
     67: "Outdated",
-    68: "Upgrading",
 }
 
 # The commands that may be repeated if their answer was lost. The code, if it isn't 0, then says that it was done.

@@ -14,11 +14,11 @@ from __future__ import annotations
 
 import json
 import os
-from typing import Any, Iterable, Iterator, NamedTuple
+from typing import Any, Callable, Iterable, Iterator, NamedTuple
 
 from ._library import Library, after_fork_in_child, after_fork_in_parent, before_fork, set_on_refusal
 
-__all__ = ["Office", "Refused", "Row", "TABLES"]
+__all__ = ["Office", "Reason", "Refused", "Row", "TABLES"]
 
 # The tables of an office, by their numbers in rbac.h, with the names that a row of each has.
 TABLES = {
@@ -39,8 +39,22 @@ TABLES = {
     "locks": ("user",),
 }
 _NUMBERS = {name: number for number, name in enumerate(TABLES)}
-# The refusals of a decision and of a load, by their codes.
-_NAMES = {1: "BadName", 2: "NoUser", 6: "NoObject", 26: "NoSession", 32: "TooMany", 33: "NoOperation", 52: "Damaged"}
+# The reasons of a decision, by their numbers in rbac.h.
+_REASONS = {1: "allowed", 2: "locked", 3: "notGranted", 4: "notAuthorized", 5: "separated", 6: "notActive"}
+# The refusals of a question without a line, and of a load, by their codes.
+_NAMES = {
+    1: "BadName",
+    2: "NoUser",
+    4: "NoRole",
+    6: "NoObject",
+    16: "Cycle",
+    26: "NoSession",
+    28: "NotOwner",
+    29: "NotAuthorized",
+    32: "TooMany",
+    33: "NoOperation",
+    52: "Damaged",
+}
 
 
 class Refused(Exception):
@@ -57,6 +71,20 @@ class Row(NamedTuple):
     table: str
     names: tuple[str, ...]
     number: int = 0
+
+
+class Reason(NamedTuple):
+    """Why a user may do an operation on an object in some session, or why a session may, or why not.
+
+    About a user, the first of these that applies: "locked", "notGranted" (the permission is granted to no role), "notAuthorized"
+    (the user is authorized for no such role), "separated" (each such role violates a dynamic set alone; `names` has a role and a
+    set), or "allowed" (`names` has an assigned role, and the role that is granted the permission, which is this one or a junior of
+    it). About a session: "notGranted", "notActive" (the session has no such role), or "allowed" (`names` has a role that was
+    activated, and the role that is granted the permission).
+    """
+
+    why: str
+    names: tuple[str, ...] = ()
 
 
 def _refuse(code: int) -> None:
@@ -105,6 +133,50 @@ class Office(Library):
             return answer.get("value")
         raise Refused(answer.pop("code"), answer.pop("error"), answer)
 
+    def explain_user(self, user: str, operation: str, object: str, /) -> Reason:
+        """Why `check_user` decides as it does: "allowed" exactly if it returns True."""
+        number, *names = self._explain_user(user, operation, object)
+        return Reason(_REASONS[number], tuple(name for name in names if name))
+
+    def explain_session(self, session: str, operation: str, object: str, /) -> Reason:
+        """Why `check` decides as it does: "allowed" exactly if it returns True."""
+        number, *names = self._explain_session(session, operation, object)
+        return Reason(_REASONS[number], tuple(name for name in names if name))
+
+    def assignment_conflicts(self, user: str, role: str, /) -> list[str]:
+        """The static sets that would be violated if the user were assigned to the role, in byte order.
+
+        If assignUser is refused with StaticSeparation, it names the first. Raises RuntimeError if a command is done
+        meanwhile.
+        """
+        return self._listed(lambda index: self._assignment_conflict(user, role, index))
+
+    def activation_conflicts(self, user: str, session: str, role: str, /) -> list[str]:
+        """The dynamic sets that would be violated if the role were activated in the user's session, in byte order.
+
+        If addActiveRole is refused with DynamicSeparation, it names the first. Raises RuntimeError if a command is done
+        meanwhile.
+        """
+        return self._listed(lambda index: self._activation_conflict(user, session, role, index))
+
+    def inheritance_conflicts(self, asc: str, desc: str, /, *, of_sessions: bool = False) -> list[tuple[str, str]]:
+        """The static sets that would be violated if asc became an immediate ascendant of desc, in byte order, each with the
+        first user who would be authorized for too many of its roles; or the dynamic sets, each with the first session.
+
+        If addInheritance is refused for separation of duty, it names the first. Raises RuntimeError if a command is done
+        meanwhile.
+        """
+        return self._listed(lambda index: self._inheritance_conflict(of_sessions, asc, desc, index))
+
+    def _listed(self, at: Callable[[int], Any]) -> list[Any]:
+        """What is at the places from 0 on, up to None."""
+        revision, found = self.revision, []
+        while (one := at(len(found))) is not None:
+            found.append(one)
+        if self.revision != revision:
+            raise RuntimeError("the office changed while its sets were read")
+        return found
+
     @property
     def revision(self) -> int:
         """How many commands the office has accepted. A decision holds as long as this stays the same."""
@@ -120,6 +192,18 @@ class Office(Library):
                 index += len(rows)
         if self.revision != revision:
             raise RuntimeError("the office changed while its rows were read")
+
+    def rows_with(self, table: str, first: str, /) -> list[Row]:
+        """The rows of the table with this first name, in byte order. Raises RuntimeError if a command is done meanwhile."""
+        revision, number, parts = self.revision, _NUMBERS[table], TABLES[table]
+        index, end = self._range(number, first)
+        found: list[Row] = []
+        while index < end and (rows := self._rows(number, index)[: end - index]):
+            found.extend(Row(table, row[: len(parts)], row[3]) for row in rows)
+            index += len(rows)
+        if self.revision != revision:
+            raise RuntimeError("the office changed while its rows were read")
+        return found
 
     def __enter__(self) -> Office:
         return self

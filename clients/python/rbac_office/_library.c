@@ -158,6 +158,14 @@ static int is_text(PyObject *argument, const char **text, size_t *length)
     return *text != NULL;
 }
 
+/* Returns NULL after an exception for the code of a question that was refused. */
+static PyObject *refuse(uint32_t code)
+{
+    if (code == RBAC_MEMORY || code == RBAC_CLOSED || on_refusal == NULL)
+        return raise(code);
+    return PyObject_CallFunction(on_refusal, "i", (int)code);
+}
+
 typedef int32_t decision_of(const rbac_office *, const void *, size_t, const void *, size_t, const void *, size_t);
 
 /* Returns what a function of the library decides about a holder, which is a session or a user. */
@@ -181,9 +189,7 @@ static PyObject *decide(Library *self, PyObject *const *args, Py_ssize_t count, 
         Py_RETURN_TRUE;
     if (decision == 0)
         Py_RETURN_FALSE;
-    if (decision == -RBAC_MEMORY || decision == -RBAC_CLOSED || on_refusal == NULL)
-        return raise((uint32_t)-decision);
-    return PyObject_CallFunction(on_refusal, "i", (int)-decision);
+    return refuse((uint32_t)-decision);
 }
 
 static PyObject *library_check(Library *self, PyObject *const *args, Py_ssize_t count)
@@ -194,6 +200,110 @@ static PyObject *library_check(Library *self, PyObject *const *args, Py_ssize_t 
 static PyObject *library_check_user(Library *self, PyObject *const *args, Py_ssize_t count)
 {
     return decide(self, args, count, rbac_check_user, "check_user takes a user, an operation and an object");
+}
+
+typedef uint32_t reason_of(rbac_office *, const void *, size_t, const void *, size_t, const void *, size_t, void *, size_t,
+    rbac_row *);
+
+/* Returns the number of the reason why a user or a session may do an operation on an object, or why not, and its two names. */
+static PyObject *explain(Library *self, PyObject *const *args, Py_ssize_t count, reason_of *reason_about, const char *wanted)
+{
+    const char *holder, *operation, *object;
+    size_t holder_length, operation_length, object_length;
+    char names[RBAC_LONGEST_ROW];
+    rbac_row reason;
+    uint32_t code;
+
+    if (count != 3) {
+        PyErr_SetString(PyExc_TypeError, wanted);
+        return NULL;
+    }
+    if (!is_text(args[0], &holder, &holder_length) || !is_text(args[1], &operation, &operation_length)
+        || !is_text(args[2], &object, &object_length))
+        return NULL;
+    enter(self);
+    code = reason_about(&self->office, holder, holder_length, operation, operation_length, object, object_length, names,
+        sizeof names, &reason);
+    leave(self);
+    if (code != RBAC_DONE)
+        return refuse(code);
+    return Py_BuildValue("(Is#s#)", (unsigned int)reason.number, names, (Py_ssize_t)reason.first, names + reason.first,
+        (Py_ssize_t)reason.second);
+}
+
+static PyObject *library_explain_user(Library *self, PyObject *const *args, Py_ssize_t count)
+{
+    return explain(self, args, count, rbac_explain_user, "explain_user takes a user, an operation and an object");
+}
+
+static PyObject *library_explain_session(Library *self, PyObject *const *args, Py_ssize_t count)
+{
+    return explain(self, args, count, rbac_explain_session, "explain_session takes a session, an operation and an object");
+}
+
+/* Returns the set at a place of those that a command would violate, and who would if `has_holder`, or None behind the last. */
+static PyObject *conflict(uint32_t code, const char *names, const rbac_row *set, int has_holder)
+{
+    if (code == RBAC_ABSENT)
+        Py_RETURN_NONE;
+    if (code != RBAC_DONE)
+        return refuse(code);
+    if (!has_holder)
+        return PyUnicode_FromStringAndSize(names, (Py_ssize_t)set->first);
+    return Py_BuildValue("(s#s#)", names, (Py_ssize_t)set->first, names + set->first, (Py_ssize_t)set->second);
+}
+
+static PyObject *library_assignment_conflict(Library *self, PyObject *args)
+{
+    const char *user, *role;
+    Py_ssize_t user_length, role_length, index;
+    char name[RBAC_LONGEST_ROW];
+    rbac_row set;
+    uint32_t code;
+
+    if (!PyArg_ParseTuple(args, "s#s#n:assignment_conflict", &user, &user_length, &role, &role_length, &index))
+        return NULL;
+    enter(self);
+    code = rbac_assignment_conflict(&self->office, user, (size_t)user_length, role, (size_t)role_length, (size_t)index, name,
+        sizeof name, &set);
+    leave(self);
+    return conflict(code, name, &set, 0);
+}
+
+static PyObject *library_activation_conflict(Library *self, PyObject *args)
+{
+    const char *user, *session, *role;
+    Py_ssize_t user_length, session_length, role_length, index;
+    char name[RBAC_LONGEST_ROW];
+    rbac_row set;
+    uint32_t code;
+
+    if (!PyArg_ParseTuple(args, "s#s#s#n:activation_conflict", &user, &user_length, &session, &session_length, &role,
+            &role_length, &index))
+        return NULL;
+    enter(self);
+    code = rbac_activation_conflict(&self->office, user, (size_t)user_length, session, (size_t)session_length, role,
+        (size_t)role_length, (size_t)index, name, sizeof name, &set);
+    leave(self);
+    return conflict(code, name, &set, 0);
+}
+
+static PyObject *library_inheritance_conflict(Library *self, PyObject *args)
+{
+    const char *asc, *desc;
+    Py_ssize_t asc_length, desc_length, index;
+    char names[RBAC_LONGEST_ROW];
+    rbac_row set;
+    int of_sessions;
+    uint32_t code;
+
+    if (!PyArg_ParseTuple(args, "ps#s#n:inheritance_conflict", &of_sessions, &asc, &asc_length, &desc, &desc_length, &index))
+        return NULL;
+    enter(self);
+    code = rbac_inheritance_conflict(&self->office, of_sessions, asc, (size_t)asc_length, desc, (size_t)desc_length,
+        (size_t)index, names, sizeof names, &set);
+    leave(self);
+    return conflict(code, names, &set, 1);
 }
 
 static PyObject *library_revision(Library *self, PyObject *Py_UNUSED(ignored))
@@ -244,6 +354,23 @@ static PyObject *library_rows(Library *self, PyObject *args)
         at += rows[number].first + rows[number].second + rows[number].third;
     }
     return made;
+}
+
+/* Returns the places between which the rows of a table begin with a name. */
+static PyObject *library_range(Library *self, PyObject *args)
+{
+    unsigned int table;
+    const char *first;
+    Py_ssize_t first_length;
+    size_t start, end;
+    uint32_t code;
+
+    if (!PyArg_ParseTuple(args, "Is#:range", &table, &first, &first_length))
+        return NULL;
+    enter(self);
+    code = rbac_range(&self->office, table, first, (size_t)first_length, &start, &end);
+    leave(self);
+    return code == RBAC_DONE ? Py_BuildValue("(nn)", (Py_ssize_t)start, (Py_ssize_t)end) : raise(code);
 }
 
 static PyObject *library_add_row(Library *self, PyObject *args)
@@ -353,8 +480,17 @@ static PyMethodDef methods[] = {
     {"check", (PyCFunction)(void (*)(void))library_check, METH_FASTCALL, check_doc},
     {"check_user", (PyCFunction)(void (*)(void))library_check_user, METH_FASTCALL, check_user_doc},
     {"close", (PyCFunction)library_close, METH_NOARGS, close_doc},
+    {"_explain_user", (PyCFunction)(void (*)(void))library_explain_user, METH_FASTCALL, "The number of a reason, and its names."},
+    {"_explain_session", (PyCFunction)(void (*)(void))library_explain_session, METH_FASTCALL,
+        "The number of a reason, and its names."},
+    {"_assignment_conflict", (PyCFunction)library_assignment_conflict, METH_VARARGS, "A set that an assignment would violate, or None."},
+    {"_activation_conflict", (PyCFunction)library_activation_conflict, METH_VARARGS,
+        "A set that an activation would violate, or None."},
+    {"_inheritance_conflict", (PyCFunction)library_inheritance_conflict, METH_VARARGS,
+        "A set that an inheritance would violate, and who would, or None."},
     {"_revision", (PyCFunction)library_revision, METH_NOARGS, "How many commands were accepted."},
     {"_rows", (PyCFunction)library_rows, METH_VARARGS, "Some rows of a table from a place on, or none if there is none."},
+    {"_range", (PyCFunction)library_range, METH_VARARGS, "The places between which the rows of a table begin with a name."},
     {"_add_row", (PyCFunction)library_add_row, METH_VARARGS, "Adds a row for the next load. 0, or the code of the refusal."},
     {"_load", (PyCFunction)library_load, METH_O, "Starts again with the added rows. 0, or the code of the refusal."},
     {NULL, NULL, 0, NULL},

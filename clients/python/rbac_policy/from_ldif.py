@@ -49,7 +49,10 @@ def from_ldif(path: str) -> Imported:
             found.leave(f"the group {shown(entry['dn'][0])}", reason)
     for sort, names in (("groups", roles), ("users", users)):
         if several := [name for name, count in Counter(names.values()).items() if count > 1]:
-            raise Stop(f"{path}: several {sort} have the name {shown(several[0])}")
+            first, second, *_ = (shown(by_dn[dn]["dn"][0]) for dn, name in names.items() if name == several[0])
+            raise Stop(
+                f"{path}: the {sort} {first} and {second} have one name, {shown(several[0])}: rename or remove one in the file"
+            )
     found.roles |= set(roles.values())
     for dn, user in users.items():
         found.users[user] = _is_locked(found, by_dn[dn], user)

@@ -1,6 +1,8 @@
 """Policies that are written are read again as the same, whatever the names; sets change without a moment without them."""
 
+import subprocess
 import sys
+from pathlib import Path
 
 import pytest
 
@@ -137,3 +139,13 @@ def test_full():
     steps = (["deleteSsdSet x", "createSsdSet x"], 1)
     assert planned({**FULL, "x": AB, "z": ABC}, {**FULL, "x": CD, "z": ABC}, lambda duty: len(duty.roles) < 3) == steps
     assert planned({**FULL, "x": AB, "y": CD}, {**FULL, "x": CD, "y": AB})[1] == 1
+
+
+def test_older_python():
+    """An older Python is refused by a line, and not by the first module that it lacks."""
+    lines = "import sys; sys.version_info = (3, 9, 0, 'final', 0); import rbac_policy"
+    done = subprocess.run(
+        [sys.executable, "-c", lines], cwd=Path(__file__).resolve().parent.parent, capture_output=True, text=True, check=False
+    )
+    assert done.returncode == 1
+    assert done.stderr.splitlines()[-1] == "ImportError: rbac_policy needs Python 3.11 or later"

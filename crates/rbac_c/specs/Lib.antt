@@ -1,2 +1,5 @@
 pub mod Calls
+pub mod Conflicts
 pub mod Held
+pub mod Range
+pub mod Reasons

@@ -5,14 +5,23 @@ ghost use Rattle.std.specs.Prelude.{◌≡◌, ◌⊎◌, ◌<◌, Some, None, I
 ghost use Rattle.admin_mgr.specs.RbacState.{empty_state};
 ghost use Rattle.role_lines.specs.OfficeInMemory.{OfficeInMemory, starting};
 ghost use Rattle.role_lines.specs.contracts.office.MemoryOffice.{the_row};
-ghost use Rattle.role_lines.specs.StoredRow.{parts};
-ghost use Rattle.rbac_c.specs.Calls.{AddsRow, AnswersCall, Copies, CopiesKept, CopiesRow, CopiesRows, Decided, IsDecided, IsRefused, Loads};
+ghost use Rattle.role_lines.specs.StoredRow.{name_at, pair_at, parts};
+ghost use Rattle.rbac_c.specs.Calls.{AddsRow, AnswersCall, Copies, CopiesKept, CopiesParts, CopiesRow, CopiesRows, Decided, IsDecided, IsRefused, Loads};
+ghost use Rattle.rbac_c.specs.Conflicts.{CopiesActivation, CopiesConflict, CopiesFound, CopiesInheritance};
 ghost use Rattle.rbac_c.specs.Held.{reads};
+ghost use Rattle.rbac_c.specs.Range.{FindsRange};
+ghost use Rattle.rbac_c.specs.Reasons.{ExplainsSession, ExplainsUser};
 
+use crate::conflicts::{
+    activation_conflicts, assignment_conflicts, inheritance_conflicts, name_row, pair_row,
+};
 use crate::copying::{copy, copy_row, copy_rows};
+use crate::explaining::{reason_row, session_reason, session_reason_row, user_reason};
 use crate::handle::OfficeHandle;
-use rbac_sets::Refusal;
-use role_lines::{MemoryOffice, decide, decide_for_user, row_at, row_of, table_numbered};
+use crate::range::range;
+use bit_tables::Seed;
+use rbac_sets::{Name, Refusal};
+use role_lines::{MemoryOffice, decide_for_user, row_at, row_of, table_numbered};
 use std::alloc::Global;
 use std::mem::replace;
 
@@ -44,13 +53,19 @@ pub struct RowLengths {
     pub number: u32,
 }
 
-/// Makes a new and empty office of version 2. If the handle has an office already, that one is freed.
+/// Makes a new and empty office of version 2. If the handle has an office already, that one is freed. The two numbers should
+/// be random: names are hashed by them for decisions, so that nobody who doesn't know them can choose names that collide.
 #[unsafe(no_mangle)]
-pub extern "C" fn rbac_office_open(alloc: Global, office: &mut OfficeHandle) -> u32
+pub extern "C" fn rbac_office_open(
+    alloc: Global,
+    office: &mut OfficeHandle,
+    first: u64,
+    second: u64,
+) -> u32
     ensures opened { result ≡ DONE → office.new.office ≡ Some (starting (empty_state 2) 0) }
     ensures failed { (result ≡ DONE) ⊎ ((result ≡ MEMORY) × (office.new.office ≡ office.old.office)) }
 {
-    match Box::new(alloc, MemoryOffice::empty(alloc)) {
+    match Box::new(alloc, MemoryOffice::empty(alloc, Seed::new(first, second))) {
         Ok(made) => {
             put(alloc, office, OfficeHandle::of(made));
             DONE
@@ -144,6 +159,174 @@ pub unsafe extern "C" fn rbac_office_check(
         operation,
         object,
     )
+}
+
+/// Says why the user may do the operation on the object in some session, or why not: writes the names of the reason into
+/// `out`, one after the other, and their lengths and the number of the reason to `lengths`. The reasons are numbered by
+/// the constants in `explaining`. Returns the code of the refusal if there is no decision.
+#[unsafe(no_mangle)]
+pub extern "C" fn rbac_office_explain_user(
+    alloc: Global,
+    office: &mut OfficeHandle,
+    user: &[u8],
+    operation: &[u8],
+    object: &[u8],
+    out: &mut [u8],
+    lengths: &mut RowLengths,
+) -> u32
+    ensures keeps { office.new.office ≡ office.old.office }
+    ensures explains { ExplainsUser office.old.office user.now operation.now object.now out.new lengths.new result }
+{
+    match replace(office, OfficeHandle::none()).into_box(alloc) {
+        Some(held) => {
+            let result = explain_user(&held, user, operation, object, out, lengths);
+            put(alloc, office, OfficeHandle::of(held));
+            result
+        }
+        None => CLOSED,
+    }
+}
+
+/// Says why the session may do the operation on the object, or why not, as `rbac_office_explain_user` does for a user.
+#[unsafe(no_mangle)]
+pub extern "C" fn rbac_office_explain_session(
+    alloc: Global,
+    office: &mut OfficeHandle,
+    session: &[u8],
+    operation: &[u8],
+    object: &[u8],
+    out: &mut [u8],
+    lengths: &mut RowLengths,
+) -> u32
+    ensures keeps { office.new.office ≡ office.old.office }
+    ensures explains { ExplainsSession office.old.office session.now operation.now object.now out.new lengths.new result }
+{
+    match replace(office, OfficeHandle::none()).into_box(alloc) {
+        Some(held) => {
+            let result = explain_session(&held, session, operation, object, out, lengths);
+            put(alloc, office, OfficeHandle::of(held));
+            result
+        }
+        None => CLOSED,
+    }
+}
+
+/// Writes the name of a static separation of duty set that would be violated if the user were assigned to the role into
+/// `out`, and its length to `lengths`: the set at this place of all of them, in byte order. Returns the code of the
+/// refusal if there is no such user or role.
+#[unsafe(no_mangle)]
+pub extern "C" fn rbac_office_assignment_conflict(
+    alloc: Global,
+    office: &mut OfficeHandle,
+    user: &[u8],
+    role: &[u8],
+    index: usize,
+    out: &mut [u8],
+    lengths: &mut RowLengths,
+) -> u32
+    ensures keeps { office.new.office ≡ office.old.office }
+    ensures copies { CopiesConflict office.old.office user.now role.now index out.new lengths.new result }
+{
+    match replace(office, OfficeHandle::none()).into_box(alloc) {
+        Some(held) => {
+            let result = assignment_conflict(alloc, &held, user, role, index, out, lengths);
+            put(alloc, office, OfficeHandle::of(held));
+            result
+        }
+        None => CLOSED,
+    }
+}
+
+/// Writes the name of a dynamic separation of duty set that would be violated if the role were activated in the user's
+/// session into `out`, and its length to `lengths`: the set at this place of all of them, in byte order. Returns the code of
+/// the refusal if there is no such user, session or role, or the session isn't the user's, or the user isn't authorized.
+#[unsafe(no_mangle)]
+pub extern "C" fn rbac_office_activation_conflict(
+    alloc: Global,
+    office: &mut OfficeHandle,
+    user: &[u8],
+    session: &[u8],
+    role: &[u8],
+    index: usize,
+    out: &mut [u8],
+    lengths: &mut RowLengths,
+) -> u32
+    ensures keeps { office.new.office ≡ office.old.office }
+    ensures copies { CopiesActivation office.old.office user.now session.now role.now index out.new lengths.new result }
+{
+    match replace(office, OfficeHandle::none()).into_box(alloc) {
+        Some(held) => {
+            let result = activation_conflict(
+                alloc, &held, user, session, role, index, out, lengths,
+            );
+            put(alloc, office, OfficeHandle::of(held));
+            result
+        }
+        None => CLOSED,
+    }
+}
+
+/// Writes the name of a static separation of duty set that would be violated if `asc` became an immediate ascendant of
+/// `desc`, and that of the first user who would violate it, into `out`, one after the other, and their lengths to `lengths`:
+/// the set at this place of all of them, in byte order. With `of_sessions` they are the dynamic sets, each with the first
+/// session. Returns the code of the refusal if there is no such role, or the inheritance would make a cycle.
+#[unsafe(no_mangle)]
+pub extern "C" fn rbac_office_inheritance_conflict(
+    alloc: Global,
+    office: &mut OfficeHandle,
+    of_sessions: bool,
+    asc: &[u8],
+    desc: &[u8],
+    index: usize,
+    out: &mut [u8],
+    lengths: &mut RowLengths,
+) -> u32
+    ensures keeps { office.new.office ≡ office.old.office }
+    ensures copies { CopiesInheritance office.old.office of_sessions asc.now desc.now index out.new lengths.new result }
+{
+    match replace(office, OfficeHandle::none()).into_box(alloc) {
+        Some(held) => {
+            let result = inheritance_conflict(
+                alloc,
+                &held,
+                of_sessions,
+                asc,
+                desc,
+                index,
+                out,
+                lengths,
+            );
+            put(alloc, office, OfficeHandle::of(held));
+            result
+        }
+        None => CLOSED,
+    }
+}
+
+/// Writes to `start` how many rows of the table have a first name that is less than these bytes, and to `end` how many have
+/// one that isn't greater. So the rows with this first name are those from `start` on, up to the one before `end`.
+#[unsafe(no_mangle)]
+pub extern "C" fn rbac_office_range(
+    alloc: Global,
+    office: &mut OfficeHandle,
+    table: u32,
+    first: &[u8],
+    start: &mut usize,
+    end: &mut usize,
+) -> u32
+    ensures keeps { office.new.office ≡ office.old.office }
+    ensures finds { FindsRange office.old.office table first.now start.new end.new result }
+{
+    *start = 0;
+    *end = 0;
+    match replace(office, OfficeHandle::none()).into_box(alloc) {
+        Some(held) => {
+            let result = find_range(&held, table, first, start, end);
+            put(alloc, office, OfficeHandle::of(held));
+            result
+        }
+        None => CLOSED,
+    }
 }
 
 /// Writes the names of the row at this place of the table into `out`, one after the other, and their lengths and the
@@ -298,8 +481,139 @@ fn decide_about(
     if of_user {
         decide_for_user(office.state(), holder, operation, object)
     } else {
-        decide(office.state(), holder, operation, object)
+        office.decide(holder, operation, object)
     }
+}
+
+// Copies the reason of the decision about the user.
+fn explain_user(
+    office: &MemoryOffice,
+    user: &[u8],
+    operation: &[u8],
+    object: &[u8],
+    out: &mut [u8],
+    lengths: &mut RowLengths,
+) -> u32
+    ensures { ExplainsUser (Some office.now) user.now operation.now object.now out.new lengths.new result }
+{
+    match user_reason(office.state(), user, operation, object) {
+        Ok(reason) => copy_row(&reason_row(&reason), out, lengths),
+        Err(refusal) => refusal.code(),
+    }
+}
+
+// Copies the reason of the decision about the session.
+fn explain_session(
+    office: &MemoryOffice,
+    session: &[u8],
+    operation: &[u8],
+    object: &[u8],
+    out: &mut [u8],
+    lengths: &mut RowLengths,
+) -> u32
+    ensures { ExplainsSession (Some office.now) session.now operation.now object.now out.new lengths.new result }
+{
+    match session_reason(office.state(), session, operation, object) {
+        Ok(reason) => copy_row(&session_reason_row(&reason), out, lengths),
+        Err(refusal) => refusal.code(),
+    }
+}
+
+// Copies the set at this place of those that the assignment would violate.
+fn assignment_conflict(
+    alloc: Global,
+    office: &MemoryOffice,
+    user: &[u8],
+    role: &[u8],
+    index: usize,
+    out: &mut [u8],
+    lengths: &mut RowLengths,
+) -> u32
+    ensures { CopiesConflict (Some office.now) user.now role.now index out.new lengths.new result }
+{
+    match assignment_conflicts(alloc, office.state(), user, role) {
+        Ok(names) => copy_name(&names, index, out, lengths),
+        Err(refusal) => refusal.code(),
+    }
+}
+
+// Copies the set at this place of those that the activation would violate.
+fn activation_conflict(
+    alloc: Global,
+    office: &MemoryOffice,
+    user: &[u8],
+    session: &[u8],
+    role: &[u8],
+    index: usize,
+    out: &mut [u8],
+    lengths: &mut RowLengths,
+) -> u32
+    ensures { CopiesActivation (Some office.now) user.now session.now role.now index out.new lengths.new result }
+{
+    match activation_conflicts(alloc, office.state(), user, session, role) {
+        Ok(sets) => copy_name(&sets, index, out, lengths),
+        Err(refusal) => refusal.code(),
+    }
+}
+
+// Copies the set at this place of those that the inheritance would violate, and who violates it.
+fn inheritance_conflict(
+    alloc: Global,
+    office: &MemoryOffice,
+    of_sessions: bool,
+    asc: &[u8],
+    desc: &[u8],
+    index: usize,
+    out: &mut [u8],
+    lengths: &mut RowLengths,
+) -> u32
+    ensures { CopiesInheritance (Some office.now) of_sessions asc.now desc.now index out.new lengths.new result }
+{
+    match inheritance_conflicts(alloc, office.state(), of_sessions, asc, desc) {
+        Ok(conflicts) => copy_pair(&conflicts, index, out, lengths),
+        Err(refusal) => refusal.code(),
+    }
+}
+
+// Copies the name at this place.
+fn copy_name(names: &[Name], index: usize, out: &mut [u8], lengths: &mut RowLengths) -> u32
+    ensures { CopiesFound (name_at names.now index) out.new lengths.new result }
+{
+    match name_row(names, index) {
+        Some(name) => copy_row(&name, out, lengths),
+        None => ABSENT,
+    }
+}
+
+// Copies the names of the pair at this place.
+fn copy_pair(pairs: &[(Name, Name)], index: usize, out: &mut [u8], lengths: &mut RowLengths) -> u32
+    ensures { CopiesFound (pair_at pairs.now index) out.new lengths.new result }
+{
+    match pair_row(pairs, index) {
+        Some(pair) => copy_row(&pair, out, lengths),
+        None => ABSENT,
+    }
+}
+
+// Finds the rows of the table that begin with these bytes.
+fn find_range(
+    office: &MemoryOffice,
+    table: u32,
+    first: &[u8],
+    start: &mut usize,
+    end: &mut usize,
+) -> u32
+    ensures { FindsRange (Some office.now) table first.now start.new end.new result }
+{
+    let Some(table) = table_numbered(table) else {
+        *start = 0;
+        *end = 0;
+        return ABSENT;
+    };
+    let found = range(office.state(), table, first);
+    *start = found.0;
+    *end = found.1;
+    DONE
 }
 
 // Copies the row at this place of the table.

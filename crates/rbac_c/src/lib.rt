@@ -4,6 +4,9 @@
 #![tactic(auto)]
 
 pub mod calls;
+mod conflicts;
 mod copying;
 mod detached;
+pub mod explaining;
 mod handle;
+mod range;

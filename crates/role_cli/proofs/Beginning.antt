@@ -77,19 +77,19 @@ none_begins none shown _ old office refusal opens other refuses begins = none (c
 -- what was done over an office in a file was done
 pub of_file : (in_memory : Ghosts MemoryFile) {F : Type 0} (g : Ghosts F) (image : Image) (chosen : Choice) (from to : Environment) (became : StoreAfter F g) → is_memory_replay chosen ≡ false
     → DoesOverSomeState (state (over_files {g = g})) chosen from to → DoesOnStore g image chosen from to became → IsDone in_memory g image chosen from to became
-of_file in_memory g image chosen from to became is_not over done = subst (λ b. IsDoneIn b in_memory g image chosen from to became) (sym is_not) (over, done)
+of_file in_memory g image chosen from to became is_not over done = subst (λ b. IsDoneIn in_memory g b image chosen from to became) (sym is_not) (over, done)
 
 -- and what was done in memory
 pub of_memory : (in_memory : Ghosts MemoryFile) {F : Type 0} (g : Ghosts F) (image : Image) (chosen : Choice) (from to : Environment) (became : StoreAfter F g) → is_memory_replay chosen ≡ true
     → became ≡ after.Untouched → ReplaysInMemory in_memory from.remaining to.remaining from.written to.written → IsDone in_memory g image chosen from to became
-of_memory in_memory g image chosen from to became is none done = subst (λ b. IsDoneIn b in_memory g image chosen from to became) (sym is) (done, none)
+of_memory in_memory g image chosen from to became is none done = subst (λ b. IsDoneIn in_memory g b image chosen from to became) (sym is) (done, none)
 
 -- what failed over an office in a file, failed
 pub fails_in_file : (in_memory : Ghosts MemoryFile) {F : Type 0} (g : Ghosts F) (image : Image) (chosen : Choice) (failure : Failure) (untouched : Type 0) (cannot : List ℕ → Type 0) (from to : Environment) (became : StoreAfter F g)
     (path at : List ℕ) → is_memory_replay chosen ≡ false → path ≡ at → FailsOrFindsNoOffice (state (over_files {g = g})) chosen failure untouched from to
     → FailsOnStore g image chosen failure untouched (cannot path) from to became → FailsBy in_memory g image chosen failure untouched (cannot at) from to became
 fails_in_file in_memory g image chosen failure untouched cannot from to became path at is_not same over fails =
-    subst (λ b. FailsIn b in_memory g image chosen failure untouched (cannot at) from to became) (sym is_not)
+    subst (λ b. FailsIn in_memory g b image chosen failure untouched (cannot at) from to became) (sym is_not)
     (over, subst (λ p. FailsOnStore g image chosen failure untouched (cannot p) from to became) same fails)
 
 less_in_memory : (in_memory : Ghosts MemoryFile) (failure : Failure) (kept untouched : Type 0) (from to : Environment) → (kept → untouched)
@@ -102,7 +102,7 @@ pub fails_in_memory : (in_memory : Ghosts MemoryFile) {F : Type 0} (g : Ghosts F
     → is_memory_replay chosen ≡ true → became ≡ after.Untouched → (kept → untouched) → FailsInMemory in_memory failure kept from.remaining to.remaining from.written to.written
     → IsCaused failure (WriteFailed from to) (ReadFailed from to) → FailsBy in_memory g image chosen failure untouched cannot from to became
 fails_in_memory in_memory g image chosen failure kept untouched cannot from to became is none keeps fails caused =
-    subst (λ b. FailsIn b in_memory g image chosen failure untouched cannot from to became) (sym is) (less_in_memory in_memory failure kept untouched from to keeps fails, caused, none)
+    subst (λ b. FailsIn in_memory g b image chosen failure untouched cannot from to became) (sym is) (less_in_memory in_memory failure kept untouched from to keeps fails, caused, none)
 
 -- ---- who touched nothing touched less
 
@@ -137,7 +137,7 @@ less_on_store g image chosen failure kept untouched cannot never from to (after.
     (let (conn, works, left) = fails clean in (conn, less_on_files g image chosen failure kept untouched from to conn keeps works, left))
 
 less_in : (b : Bool) (in_memory : Ghosts MemoryFile) {F : Type 0} (g : Ghosts F) (image : Image) (chosen : Choice) (failure : Failure) (kept untouched cannot never : Type 0) (from to : Environment) (became : StoreAfter F g)
-    → (kept → untouched) → (cannot → never) → FailsIn b in_memory g image chosen failure kept cannot from to became → FailsIn b in_memory g image chosen failure untouched never from to became
+    → (kept → untouched) → (cannot → never) → FailsIn in_memory g b image chosen failure kept cannot from to became → FailsIn in_memory g b image chosen failure untouched never from to became
 less_in true in_memory g image chosen failure kept untouched cannot never from to became keeps step (fails, caused, none) = (less_in_memory in_memory failure kept untouched from to keeps fails, caused, none)
 less_in false in_memory g image chosen failure kept untouched cannot never from to became keeps step (over, fails) =
     (less_somewhere (state over_files) chosen failure kept untouched from to keeps over, less_on_store g image chosen failure kept untouched cannot never from to became keeps step fails)

@@ -2,7 +2,8 @@
 use Rattle.std.proofs.Common.{inl, inr, sym, subst}
 use Rattle.clap.specs.Words.{HasKind, IsAmong, Kinds, kind_of}
 use Rattle.clap.specs.declared.error.Error.{Error}
-use Rattle.role_cli.specs.ArgumentChoice.{IsFaultBy, IsOfKind}
+use Rattle.role_cli.specs.ArgumentChoice.{IsFaultBy}
+use Rattle.role_cli.specs.private.GivenArguments.{IsOfKind}
 use Rattle.role_cli.specs.declared.choice.Unchosen.{Unchosen}
 use Rattle.role_cli.specs.declared.choice.Unchosen.TheVariants as unchosen
 

@@ -24,13 +24,14 @@ use Rattle.role_tables.specs.Office.{OfficeModel}
 use Rattle.role_tables.specs.Runs.{IsInRun}
 use Rattle.role_tables.specs.StoredState.{HoldsState}
 use Rattle.role_cli.specs.Environment.{Environment}
-use Rattle.role_cli.specs.FileWork.{ClosesConnection, ClosesOver, FailsOnStore, HoldsCommit, MigrationIsStored, NewOfficeIsStored, RefusedOpeningIsStored, StoresAlone, StoresState, WorkIsStored, WorksOnFiles, WorksOnStore}
+use Rattle.role_cli.specs.FileWork.{ClosesOver, FailsOnStore, HoldsCommit, MigrationIsStored, NewOfficeIsStored, RefusedOpeningIsStored, StoresAlone, StoresState, WorkIsStored, WorksOnFiles, WorksOnStore}
 use Rattle.role_cli.specs.Work.{BeginsRun, FailsOnConnection, IsUnopened, makes}
 use Rattle.role_cli.specs.declared.choice.Choice.{Choice}
 use Rattle.role_cli.specs.declared.choice.Choice.TheVariants as choice
 use Rattle.role_cli.specs.declared.failure.Failure.{Failure}
 use Rattle.role_cli.specs.declared.store_after.StoreAfter.{StoreAfter}
 use Rattle.role_cli.specs.declared.store_after.StoreAfter.TheVariants as after
+use Rattle.role_cli.specs.private.ClosedConnection.{ClosesConnection}
 
 pub stands_in : {D : Type 0} {g : Ghosts D} (image : Image) (opened : Held (FileStore D g)) → IsOpened opened → FindsIn image (file_state opened) → HoldsWhatWasLeft (file_state opened)
     → (S : RbacState) → StoresState image S → IsDurable (file_state opened) S

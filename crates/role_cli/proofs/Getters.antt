@@ -7,7 +7,7 @@ use Rattle.clap.specs.declared.builder.ValueParser.{ValueParser}
 use Rattle.clap.specs.declared.builder.ValueParser.TheVariants as parser
 use Rattle.clap.specs.declared.error.Error.{Error}
 use Rattle.clap.proofs.CallerReads.{signed_reads}
-use Rattle.role_cli.specs.ArgumentChoice.{IsGiven}
+use Rattle.role_cli.specs.private.GivenArguments.{IsGiven}
 use Rattle.role_cli.specs.ArgumentChoice.{IsWordOf}
 
 pub none_at_ok : {T : Type 0} (kinds : Kinds) (r : Result T Error) → FailsBy kinds r → IfOk r (λ _. kinds ≡ [])

@@ -25,7 +25,7 @@ use Rattle.clap.proofs.WalkLemmas.{both}
 use Rattle.clap.proofs.ValueTestLemmas.{accepts-Accepts}
 use Rattle.clap.specs.Values.{Accepts}
 use Rattle.clap.specs.Walk.{rows_after}
-use Rattle.role_cli.specs.ArgumentChoice.{IsGiven}
+use Rattle.role_cli.specs.private.GivenArguments.{IsGiven}
 
 abbrev pub Each : {X : Type 0} → (X → Type 0) → List X → Type 0
 Each P [] = ⊤

@@ -22,8 +22,9 @@ use Rattle.role_wire.proofs.Performed.{same_run}
 use Rattle.role_wire.proofs.Replayed.{runs_then}
 use Rattle.role_cli.specs.Environment.{HasFailed}
 use Rattle.role_cli.specs.Hosts.{clients_in_memory, known_clients, sent_in_memory}
-use Rattle.role_cli.specs.ServedConnections.{AreServed, Clients, HasFailedWrite, IsNextServed, IsServed, IsServedOver, IsServedSomehow, SentReply, ServedAreAccepted, ServesConnections, TakesNext, bytes_of, is_closing, nothing_of}
+use Rattle.role_cli.specs.ServedConnections.{AreServed, Clients, HasFailedWrite, IsNextServed, IsServed, IsServedOver, SentReply, ServedAreAccepted, ServesConnections, TakesNext, bytes_of, is_closing, nothing_of}
 use Rattle.role_cli.specs.declared.memory_host.MemoryHost.{MemoryHost}
+use Rattle.role_cli.specs.private.SomeConnection.{IsServedSomehow}
 
 -- a connection that closes the office was answered with status 500
 pub closing : (status : Option ℕ) → is_closing status ≡ true → status ≡ Some 500

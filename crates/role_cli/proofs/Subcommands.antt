@@ -4,8 +4,8 @@ use Rattle.std.specs.Str.{bytes_eq}
 use Rattle.clap.specs.Walk.{Row, Text}
 use Rattle.clap.specs.Simple.{built, subcommand_of}
 use Rattle.clap.specs.Faults.{fault_of}
-use Rattle.role_cli.specs.CommandLine.{limit_parser, port_parser, program, text_parser}
-use Rattle.role_cli.specs.ArgumentChoice.{IsEntered, IsWhole, requires_file}
+use Rattle.role_cli.specs.CommandLine.{limit_parser, port_parser, program}
+use Rattle.role_cli.specs.private.GivenArguments.{IsEntered, IsWhole, requires_file, text_parser}
 use Rattle.role_cli.proofs.GivenValues.{Each, Enters, Fits, enters, entered_gives, entered_named}
 
 top_fits : Each (Fits (built program).top.rules) (built program).top.rules

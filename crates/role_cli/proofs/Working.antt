@@ -10,7 +10,6 @@ use Rattle.role_json.specs.RequestContent.{Change}
 use Rattle.role_tables.specs.Office.{OfficeModel}
 use Rattle.role_wire.specs.Continuation.{Continues}
 use Rattle.role_wire.specs.OfficeRequest.{RefusesRequest, DoesRequest}
-use Rattle.role_wire.specs.declared.lines.Cause.TheVariants as cause
 use Rattle.role_cli.specs.ServedConnections.{AllServed, Clients, EndsBy}
 use Rattle.role_cli.specs.Work.{FailsToImport, FailsToServe, Imports, ServesAll}
 use Rattle.role_cli.specs.declared.failure.Failure.{Failure}

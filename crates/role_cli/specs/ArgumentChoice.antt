@@ -1,12 +1,9 @@
 -- What the arguments of a command line choose.
-use Rattle.std.specs.Prelude.{⊤, ◌≡◌, ◌≢◌, ◌≤◌, ◌||◌, ◌⊎◌, ℕ, Bool, List, true, false, codes, Option, Some, None, IsSome, String, string_bytes}
-use Rattle.std.specs.Str.{bytes_eq}
+use Rattle.std.specs.Prelude.{⊤, ◌≡◌, ◌≤◌, ◌⊎◌, ℕ, List, false, codes, Option, Some, None, IsSome, String, string_bytes}
 use Rattle.std.specs.Str.Parse.{digits_value, without_leading_plus}
-use Rattle.clap.specs.Words.{Accepts, App, IsAmong, Kinds, Row, Text, fault_of, first_of, kind_of, one_of, read_as, reading_of, takes}
-use Rattle.clap.specs.declared.builder.ValueParser.{ValueParser}
+use Rattle.clap.specs.Words.{App, IsAmong, Kinds, Row, Text, fault_of, first_of, kind_of, one_of, takes}
 use Rattle.clap.specs.declared.error.kind.ErrorKind.{ErrorKind}
 use Rattle.clap.specs.declared.error.kind.ErrorKind.TheVariants as kind
-use Rattle.role_cli.specs.CommandLine.{limit_parser, port_parser, text_parser}
 use Rattle.role_cli.specs.declared.choice.Choice.{Choice}
 use Rattle.role_cli.specs.declared.choice.Choice.TheVariants.{Init, Replay, Serve, Import, Export, Report, Check, Migrate}
 use Rattle.role_cli.specs.declared.choice.Place.TheVariants.{File, Memory}
@@ -60,11 +57,6 @@ IsFault (unchosen.Fault e) = ⊤
 IsFault unchosen.Either = ⊥
 IsFault unchosen.Memory = ⊥
 
--- a fault has an error of this kind, which is not that of a failed allocation
-abbrev pub IsOfKind : ErrorKind → Unchosen → Type 0
-IsOfKind k (unchosen.Fault e) = (kind_of e ≡ k) × (k ≢ kind.OutOfMemory)
-IsOfKind k _ = ⊤
-
 -- a fault has an error of one of these kinds
 abbrev pub IsFaultBy : Kinds → Unchosen → Type 0
 IsFaultBy kinds (unchosen.Fault e) = IsAmong (kind_of e) kinds
@@ -77,32 +69,3 @@ IsHelp k = (k ≡ kind.DisplayHelp) ⊎ (k ≡ kind.DisplayVersion)
 -- `clap` does not promise to accept the arguments, and may answer them with help or the version
 abbrev pub AsksHelp : App → List Text → Type 0
 AsksHelp app words = (takes app words ≡ false) × ((k : ErrorKind) × IsHelp k × IsAmong k (fault_of app words))
-
--- ---- what each subcommand has if the arguments are accepted
-
--- the argument has a first value, which its parser accepts and reads
-abbrev pub IsGiven : ValueParser → Text → List Row → Type 0
-IsGiven p id rows =
-    (t : Text) × (first_of id rows ≡ Some t) × (one_of id rows ≡ Some (read_as (reading_of p) t)) × Accepts false p t
-
--- the subcommands that require FILE alone
-abbrev pub is_of_file : Text → Bool
-is_of_file name = bytes_eq name (codes "init") || (bytes_eq name (codes "export") || (bytes_eq name (codes "report")
-    || (bytes_eq name (codes "check") || bytes_eq name (codes "migrate"))))
-
--- the subcommands that require FILE
-abbrev pub requires_file : Text → Bool
-requires_file name = is_of_file name || (bytes_eq name (codes "serve") || bytes_eq name (codes "import"))
-
--- the subcommand is one of the program's, and has what it requires
-pub record IsWhole (name : Text) (rows : List Row) : Type 0 where
-  pub known : (requires_file name || bytes_eq name (codes "replay")) ≡ true
-  pub file : requires_file name ≡ true → IsGiven text_parser (codes "FILE") rows
-  pub csv : bytes_eq name (codes "import") ≡ true → IsGiven text_parser (codes "CSV") rows
-  pub port : bytes_eq name (codes "serve") ≡ true → IsGiven port_parser (codes "port") rows
-  pub limit : bytes_eq name (codes "serve") ≡ true → IsGiven limit_parser (codes "limit") rows
-
--- there is a subcommand, and it has what it requires
-abbrev pub IsEntered : Option (Text × List Row) → Type 0
-IsEntered None = ⊥
-IsEntered (Some m) = IsWhole m.0 m.1

@@ -23,7 +23,8 @@ environment_of input output source out csv_at failed_csv clients = record {
 
 -- the input, the output, the CSV files and the clients, as they are now
 abbrev pub around : {R W H : Type 0} → source.Ghosts R → sink.Ghosts W → csv_files.Ghosts H → accept.Ghosts H → R → W → H → Environment
-around input output files clients source out host = environment_of input output source out (files.csv_at host) (files.failed_csv host) (clients.clients host)
+around input output files clients source out host =
+    environment_of input output source out (files.csv_at host) (files.failed_csv host) (clients.clients host)
 
 -- nothing of it was touched
 abbrev pub IsUntouched : {R W H : Type 0} → (source now_source : R) (out now_out : W) (host now_host : H) → Type 0

@@ -22,10 +22,6 @@ csv = record (new_rule (codes "CSV")) { required = true; action = Some Set }
 abbrev pub in_memory : Rule
 in_memory = record (new_rule (codes "memory")) { long = Some (codes "memory"); action = Some SetTrue }
 
--- accepts any text
-abbrev pub text_parser : ValueParser
-text_parser = parser.String
-
 -- accepts a port
 abbrev pub port_parser : ValueParser
 port_parser = parser.Signed (pos 1) (pos 65535)

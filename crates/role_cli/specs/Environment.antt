@@ -1,22 +1,22 @@
 -- What the work of a subcommand reads and writes besides its office: the standard input, the output, CSV files and clients.
-use Rattle.std.specs.Prelude.{⊤, ◌≡◌, ◌⊎◌, ◌+◌, ℕ, List, Option, Some, None, take}
+use Rattle.std.specs.Prelude.{⊤, ◌≡◌, ◌⊎◌, ◌+◌, ℕ, List, Some, None, take}
 use Rattle.rbac_sets.specs.Stream.{HasRisen}
 use Rattle.role_csv.specs.Assignments.{assignments, most_bytes}
 use Rattle.role_wire.specs.Replay.{IsAtBound}
-use Rattle.role_cli.specs.ServedConnections.{Clients}
+use Rattle.role_cli.specs.ServedConnections.{Clients, Known}
 
 -- the text of the CSV file at a path, if it is known
 abbrev pub CsvTexts : Type 0
-CsvTexts = List ℕ → Option (List ℕ)
+CsvTexts = List ℕ → Known
 
 -- What is known of it at one moment: the bytes that the input has left, the number of its reads and of those that failed; the bytes
 -- that were written to the output, the number of its writes that failed and of those that accepted no byte; the CSV files, and how
 -- often one could not be opened or read; the clients. The counts saturate.
 pub record Environment : Type 0 where
-  pub remaining : Option (List ℕ)
+  pub remaining : Known
   pub reads : ℕ
   pub failed_reads : ℕ
-  pub written : Option (List ℕ)
+  pub written : Known
   pub failed_writes : ℕ
   pub idle_writes : ℕ
   pub csv_at : CsvTexts
@@ -41,7 +41,7 @@ CsvFailed before now = HasRisen before.failed_csv now.failed_csv
 
 -- These bytes were read of a CSV file: all of them, or one more than a text may have. A text that is longer is refused for any of its
 -- first bytes that many (law `a_start_decides`).
-abbrev pub IsReadOf : Option (List ℕ) → List ℕ → Type 0
+abbrev pub IsReadOf : Known → List ℕ → Type 0
 IsReadOf None bytes = ⊤
 IsReadOf (Some text) bytes = bytes ≡ take (most_bytes + 1) text
 

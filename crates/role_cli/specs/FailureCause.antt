@@ -1,5 +1,5 @@
 -- Why the program failed: what may be the cause of which failure.
-use Rattle.std.specs.Prelude.{◌≡◌, ◌⊎◌, IsTrue}
+use Rattle.std.specs.Prelude.{⊤, ◌≡◌, ◌⊎◌, IsTrue}
 use Rattle.rbac_sets.specs.declared.refusal.Refusal.{Refusal}
 use Rattle.rbac_sets.specs.declared.refusal.Refusal.TheVariants.{Memory, Store}
 use Rattle.role_tables.specs.OpeningChecks.{is_opening_refusal}
@@ -9,19 +9,10 @@ use Rattle.role_cli.specs.declared.choice.Choice.TheVariants.{Init}
 use Rattle.role_cli.specs.declared.failure.Failure.{Failure}
 use Rattle.role_cli.specs.declared.failure.Failure.TheVariants.{Refused, Stopped}
 
--- a write was the cause of the stop
-abbrev pub IsWriteFault : Failure → Type 0
-IsWriteFault (Stopped stop) = stop.cause ≡ Write
-IsWriteFault _ = ⊥
-
--- a read was the cause of the stop
-abbrev pub IsReadFault : Failure → Type 0
-IsReadFault (Stopped stop) = stop.cause ≡ Read
-IsReadFault _ = ⊥
-
--- the cause is a write only if a write failed, and a read only if a read failed
+-- a replay stopped by a write only if a write failed, and by a read only if a read failed
 abbrev pub IsCaused : Failure → (write_failed read_failed : Type 0) → Type 0
-IsCaused failure write_failed read_failed = (IsWriteFault failure → write_failed) × (IsReadFault failure → read_failed)
+IsCaused (Stopped stop) write_failed read_failed = (stop.cause ≡ Write → write_failed) × (stop.cause ≡ Read → read_failed)
+IsCaused _ write_failed read_failed = ⊤
 
 -- a text was not written whole, because an allocation or the output failed
 abbrev pub IsUnwritten : Failure → (write_failed : Type 0) → Type 0

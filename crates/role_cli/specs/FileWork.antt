@@ -35,89 +35,90 @@ use Rattle.role_cli.specs.declared.store_after.StoreAfter.TheVariants as after
 abbrev pub StoresState : Image → RbacState → Type 0
 StoresState image S = (trees : Trees) × HoldsDatabase image trees × LeavesState S trees
 
--- The files were opened: whatever state they stored is stored in the connection, and the work was over that connection.
-pub record WorksOnFiles {D : Type 0} (g : Ghosts D) (image : Image) (Work : State → Type 0) : Type 0 where
-  pub opened : Held (FileStore D g)
-  pub is_open : IsOpened opened
-  pub found : FindsIn image (file_state opened)
-  pub durable : (S : RbacState) → StoresState image S → IsDurable (file_state opened) S
-  pub work : Work (file_state opened)
-
 -- outside a transaction an open connection holds what was committed
 abbrev pub HoldsCommit : State → Type 0
 HoldsCommit s = s.in_transaction ≡ false → IsTrue s.is_open → s.now ≡ s.committed
 
--- The state is in the database file, with the log and without it, as the two files read now and after a crash.
-pub record StoresAlone {D : Type 0} (g : Ghosts D) (files : Files D) (S : RbacState) : Type 0 where
-  pub trees : Trees
-  pub stores : LeavesState S trees
-  pub now : HoldsAlone (image_of g files) trees
-  pub left : (image : Image) → outcomes g files.log files.db image → HoldsAlone image trees
+module _ {D : Type 0} (g : Ghosts D) where
+  -- The files were opened: whatever state they stored is stored in the connection, and the work was over that connection.
+  pub record WorksOnFiles (image : Image) (Work : State → Type 0) : Type 0 where
+    pub opened : Held (FileStore D g)
+    pub is_open : IsOpened opened
+    pub found : FindsIn image (file_state opened)
+    pub durable : (S : RbacState) → StoresState image S → IsDurable (file_state opened) S
+    pub work : Work (file_state opened)
 
--- The connection was closed: its last commit was copied into the database file. Outside a transaction this is what it held.
-pub record ClosesOver {D : Type 0} (g : Ghosts D) (files : Files D) (conn : Held (FileStore D g)) : Type 0 where
-  pub copied : IsCopied conn files
-  pub settled : HoldsCommit (file_state conn)
+  -- The state is in the database file, with the log and without it, as the two files read now and after a crash.
+  pub record StoresAlone (files : Files D) (S : RbacState) : Type 0 where
+    pub trees : Trees
+    pub stores : LeavesState S trees
+    pub now : HoldsAlone (image_of g files) trees
+    pub left : (image : Image) → outcomes g files.log files.db image → HoldsAlone image trees
 
--- the files were opened, the work was over the connection, and they were closed
-abbrev pub WorksAndCloses : {D : Type 0} (g : Ghosts D) (image : Image) (files : Files D) → (State → Held (FileStore D g) → Type 0) → Type 0
-WorksAndCloses {D} g image files Work = (conn : Held (FileStore D g)) × WorksOnFiles g image (λ before. Work before conn) × ClosesOver g files conn
+  -- The connection was closed: its last commit was copied into the database file. Outside a transaction this is what it held.
+  pub record ClosesOver (files : Files D) (conn : Held (FileStore D g)) : Type 0 where
+    pub copied : IsCopied conn files
+    pub settled : HoldsCommit (file_state conn)
 
--- The connection was closed, but its log could not be copied into the database file: why, and a crash of the store that is handed back
--- leaves nothing that one of the connection would not have left.
-pub record LeavesLog {D : Type 0} (g : Ghosts D) (store : FileStore D g) (conn : Held (FileStore D g)) : Type 0 where
-  pub closed : IsClosed conn store
-  pub cause : IsClean (view store) → (error : Error) × FailsToClose conn store error
+  -- the files were opened, the work was over the connection, and they were closed
+  abbrev pub WorksAndCloses : (image : Image) (files : Files D) → (State → Held (FileStore D g) → Type 0) → Type 0
+  WorksAndCloses image files Work = (conn : Held (FileStore D g)) × WorksOnFiles image (λ before. Work before conn) × ClosesOver files conn
 
--- what a close made of a connection: the files, into which the log was copied, or the store, which keeps it
-abbrev pub ClosesConnection : {D : Type 0} (g : Ghosts D) → Held (FileStore D g) → StoreAfter D g → Type 0
-ClosesConnection g conn (after.Closed files) = AreClean g files.log files.db → IsCopied conn files
-ClosesConnection g conn (after.Left store) = LeavesLog g store conn
-ClosesConnection g conn _ = ⊥
+  -- The connection was closed, but its log could not be copied into the database file: why, and a crash of the store that is handed back
+  -- leaves nothing that one of the connection would not have left.
+  pub record LeavesLog (store : FileStore D g) (conn : Held (FileStore D g)) : Type 0 where
+    pub closed : IsClosed conn store
+    pub cause : IsClean (view store) → (error : Error) × FailsToClose conn store error
 
--- while the disk returned what was written: the files were opened, the work was over the connection, and it was closed
-abbrev pub WorksOnStore : {D : Type 0} (g : Ghosts D) (image : Image) → (State → Held (FileStore D g) → Type 0) → StoreAfter D g → Type 0
-WorksOnStore g image Work (after.Closed files) = AreClean g files.log files.db → WorksAndCloses g image files Work
-WorksOnStore {D} g image Work (after.Left store) =
-    IsClean (view store) → (conn : Held (FileStore D g)) × WorksOnFiles g image (λ before. Work before conn) × LeavesLog g store conn
-WorksOnStore g image Work _ = ⊥
+  -- while the disk returned what was written: the files were opened, the work was over the connection, and it was closed
+  abbrev pub WorksOnStore : (image : Image) → (State → Held (FileStore D g) → Type 0) → StoreAfter D g → Type 0
+  WorksOnStore image Work (after.Closed files) = AreClean g files.log files.db → WorksAndCloses image files Work
+  WorksOnStore image Work (after.Left store) =
+      IsClean (view store) → (conn : Held (FileStore D g)) × WorksOnFiles image (λ before. Work before conn) × LeavesLog store conn
+  WorksOnStore image Work _ = ⊥
 
--- what a subcommand does was done over the files
-abbrev pub DoesOnStore : {D : Type 0} (g : Ghosts D) (image : Image) → Choice → Environment → Environment → StoreAfter D g → Type 0
-DoesOnStore g image chosen from to became = WorksOnStore g image (λ before conn. DoesOnConnection (state over_files) chosen before from to conn) became
+  -- what a subcommand does was done over the files
+  abbrev pub DoesOnStore : (image : Image) → Choice → Environment → Environment → StoreAfter D g → Type 0
+  DoesOnStore image chosen from to = WorksOnStore image (λ before conn. DoesOnConnection (state over_files) chosen before from to conn)
 
--- it failed over the files, or it never began, and nothing was touched
-abbrev pub FailsOnStore : {D : Type 0} (g : Ghosts D) (image : Image) → Choice → Failure → (untouched never_begins : Type 0) → Environment → Environment → StoreAfter D g → Type 0
-FailsOnStore g image chosen failure untouched never_begins from to after.Untouched = untouched × never_begins
-FailsOnStore g image chosen failure untouched never_begins from to (after.Unopened opened) = untouched × never_begins
-FailsOnStore g image chosen failure untouched never_begins from to became =
-    WorksOnStore g image (λ before conn. FailsOnConnection (state over_files) chosen before failure untouched from to conn) became
+  -- it failed over the files, or it never began, and nothing was touched
+  abbrev pub FailsOnStore : (image : Image) → Choice → Failure → (untouched never_begins : Type 0)
+      → Environment → Environment → StoreAfter D g → Type 0
+  FailsOnStore image chosen failure untouched never_begins from to after.Untouched = untouched × never_begins
+  FailsOnStore image chosen failure untouched never_begins from to (after.Unopened opened) = untouched × never_begins
+  FailsOnStore image chosen failure untouched never_begins from to became =
+      WorksOnStore image (λ before conn. FailsOnConnection (state over_files) chosen before failure untouched from to conn) became
 
--- ---- laws, over files that stored a good state whose texts are valid names
+  -- ---- laws, over files that stored a good state whose texts are valid names
 
--- The work was over an office that began with this state, and the database file alone stores the state that it ended with.
-abbrev pub EndsStored : {D : Type 0} (g : Ghosts D) (files : Files D) → RbacState → (OfficeModel (FileStore D g) → OfficeModel (FileStore D g) → Type 0) → Type 0
-EndsStored {D} g files S Work = (first last : OfficeModel (FileStore D g)) × (first.facts ≡ S) × Work first last × StoresAlone g files last.facts
+  -- The work was over an office that began with this state, and the database file alone stores the state that it ended with.
+  abbrev pub EndsStored : Files D → RbacState → (OfficeModel (FileStore D g) → OfficeModel (FileStore D g) → Type 0) → Type 0
+  EndsStored files S Work =
+      (first last : OfficeModel (FileStore D g)) × (first.facts ≡ S) × Work first last × StoresAlone files last.facts
 
--- The work of a subcommand that neither creates nor migrates an office was over the state that was stored, and the closed database file
--- stores what it led to.
-abbrev pub WorkIsStored : {D : Type 0} (g : Ghosts D) → (Choice → Environment → Environment → OfficeModel (FileStore D g) → OfficeModel (FileStore D g) → Type 0) → Type 0
-WorkIsStored {D} g Work = (chosen : Choice) (image : Image) (files : Files D) (from to : Environment) (S : RbacState) → makes chosen ≡ false → IsGood S → AreNamed S → StoresState image S
-    → WorksAndCloses g image files (λ before conn. WorksOnConnection (state over_files) chosen before (Work chosen from to) conn) → EndsStored g files S (Work chosen from to)
+  -- The work of a subcommand that neither creates nor migrates an office was over the state that was stored, and the closed database
+  -- file stores what it led to.
+  abbrev pub WorkIsStored : (Choice → Environment → Environment → OfficeModel (FileStore D g) → OfficeModel (FileStore D g) → Type 0) → Type 0
+  WorkIsStored Work = (chosen : Choice) (image : Image) (files : Files D) (from to : Environment) (S : RbacState)
+      → makes chosen ≡ false → IsGood S → AreNamed S → StoresState image S
+      → WorksAndCloses image files (λ before conn. WorksOnConnection (state over_files) chosen before (Work chosen from to) conn)
+      → EndsStored files S (Work chosen from to)
 
--- If no office was created, migrated or opened, the state that was stored still is.
-abbrev pub RefusedOpeningIsStored : {D : Type 0} → Ghosts D → Type 0
-RefusedOpeningIsStored {D} g = (chosen : Choice) (image : Image) (files : Files D) (refusal : Refusal) (S : RbacState) → IsGood S → AreNamed S → StoresState image S
-    → WorksAndCloses g image files (λ before conn. IsUnopened chosen before refusal (file_state conn)) → StoresAlone g files S
+  -- If no office was created, migrated or opened, the state that was stored still is.
+  abbrev pub RefusedOpeningIsStored : Type 0
+  RefusedOpeningIsStored = (chosen : Choice) (image : Image) (files : Files D) (refusal : Refusal) (S : RbacState)
+      → IsGood S → AreNamed S → StoresState image S
+      → WorksAndCloses image files (λ before conn. IsUnopened chosen before refusal (file_state conn)) → StoresAlone files S
 
--- What a migration made of a state is stored.
-abbrev pub MigrationIsStored : {D : Type 0} → Ghosts D → Type 0
-MigrationIsStored {D} g = (path : String Global) (image : Image) (files : Files D) (from to : Environment) (S : RbacState) → IsGood S → AreNamed S → StoresState image S
-    → WorksAndCloses g image files (λ before conn. DoesOnConnection (state over_files) (Migrate path) before from to conn)
-    → (S.version ≡ 1) × StoresAlone g files (migrated_to_version_2 S)
+  -- What a migration made of a state is stored.
+  abbrev pub MigrationIsStored : Type 0
+  MigrationIsStored = (path : String Global) (image : Image) (files : Files D) (from to : Environment) (S : RbacState)
+      → IsGood S → AreNamed S → StoresState image S
+      → WorksAndCloses image files (λ before conn. DoesOnConnection (state over_files) (Migrate path) before from to conn)
+      → (S.version ≡ 1) × StoresAlone files (migrated_to_version_2 S)
 
--- A new office is stored, empty.
-abbrev pub NewOfficeIsStored : {D : Type 0} → Ghosts D → Type 0
-NewOfficeIsStored {D} g = (path : String Global) (image : Image) (files : Files D) (from to : Environment)
-    → WorksAndCloses g image files (λ before conn. DoesOnConnection (state over_files) (Init path) before from to conn)
-    → StoresAlone g files (empty_state 2)
+  -- A new office is stored, empty.
+  abbrev pub NewOfficeIsStored : Type 0
+  NewOfficeIsStored = (path : String Global) (image : Image) (files : Files D) (from to : Environment)
+      → WorksAndCloses image files (λ before conn. DoesOnConnection (state over_files) (Init path) before from to conn)
+      → StoresAlone files (empty_state 2)

@@ -8,7 +8,6 @@ use Rattle.rbac_sets.specs.declared.source.Source as source
 use Rattle.role_cli.specs.Around.{environment_of}
 use Rattle.role_cli.specs.Environment.{CsvTexts, Environment}
 use Rattle.role_cli.specs.ServedConnections.{Clients, SentReply}
-use Rattle.role_cli.specs.declared.folder.MachineFolder.{MachineFolder}
 use Rattle.role_cli.specs.declared.machine.Machine.{Machine}
 use Rattle.role_cli.specs.declared.memory_host.MemoryHost.{MemoryHost}
 
@@ -20,14 +19,6 @@ known_clients port accepted failed = record { listening = port; accepted = accep
 abbrev pub clients_on_machine : Machine → Clients
 clients_on_machine machine = known_clients machine.port machine.accepted machine.failed
 
--- how often it could not open or read a CSV file
-abbrev pub failed_on_machine : Machine → ℕ
-failed_on_machine machine = machine.failed_csv
-
--- how often a call of the machine's folders failed
-abbrev pub failed_in_folder : MachineFolder → ℕ
-failed_in_folder folder = folder.failed
-
 -- there is a text at this path, and none elsewhere
 abbrev pub text_at : List ℕ → List ℕ → CsvTexts
 text_at path text other = if bytes_eq other path then Some text else None
@@ -35,10 +26,6 @@ text_at path text other = if bytes_eq other path then Some text else None
 -- the CSV file of a host in memory
 abbrev pub csv_in_memory : MemoryHost → CsvTexts
 csv_in_memory host = text_at host.path.now host.text.now
-
--- how often another file was to be read
-abbrev pub failed_in_memory : MemoryHost → ℕ
-failed_in_memory host = host.failed_csv
 
 -- what a client was sent through a sink in memory
 abbrev pub sent_in_memory : MemorySink → SentReply
@@ -59,7 +46,8 @@ abbrev pub unknown_csv : CsvTexts
 unknown_csv path = None
 
 -- This holds of what the program met on its machine, where it had listened on no port and read nothing before.
-abbrev pub OnMachine : {R W : Type 0} → source.Ghosts R → sink.Ghosts W → (Environment → Environment → Type 0) → (source : R) (out : W) (now_source : R) (now_out : W) → Type 0
+abbrev pub OnMachine : {R W : Type 0} → source.Ghosts R → sink.Ghosts W → (Environment → Environment → Type 0)
+    → (source : R) (out : W) (now_source : R) (now_out : W) → Type 0
 OnMachine input output Holds source out now_source now_out = (machine : Machine)
     × Holds (environment_of input output source out unknown_csv 0 (known_clients None 0 0))
-    (environment_of input output now_source now_out unknown_csv (failed_on_machine machine) (clients_on_machine machine))
+    (environment_of input output now_source now_out unknown_csv machine.failed_csv (clients_on_machine machine))

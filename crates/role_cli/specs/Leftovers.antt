@@ -64,6 +64,10 @@ abbrev pub NeverBegins : {F : Type 0} {g : Ghosts F} → Choice → List ℕ →
 NeverBegins chosen path failure paths call_failed (after.Unopened opened) = (failure ≡ Refused Store) × call_failed
 NeverBegins chosen path failure paths call_failed _ = CannotBegin chosen path failure paths call_failed
 
+-- no file of an office was opened, and the folder was not even asked
+abbrev pub OpensNoFile : {F D : Type 0} {g : Ghosts D} → (folder now_folder : F) → StoreAfter D g → Type 0
+OpensNoFile folder now_folder became = (now_folder ≡ folder) × (became ≡ after.Untouched)
+
 -- ---- after the work
 
 -- the sizes of the header of a log, of the header of each page in it, and of the smallest page of a database
@@ -134,7 +138,8 @@ LeavesUnopened before path None call_failed paths now = RemovesEmpty before path
 
 -- What is at the paths after the files of a connection were closed: a leftover is removed, and so are the log and its index once the log
 -- was copied into the file. Only then.
-abbrev pub LeavesClosed : {F : Type 0} {g : Ghosts F} → PathState → List ℕ → StoreAfter F g → (call_failed : Type 0) → Option Paths → Option Paths → Type 0
+abbrev pub LeavesClosed : {F : Type 0} {g : Ghosts F}
+    → PathState → List ℕ → StoreAfter F g → (call_failed : Type 0) → Option Paths → Option Paths → Type 0
 LeavesClosed before path (after.Closed files) call_failed paths now =
     (between : Option Paths) × Restores before path call_failed paths between × RemovesSiblings path call_failed between now
 LeavesClosed before path (after.Left store) call_failed paths now = Restores before path call_failed paths now
@@ -143,10 +148,12 @@ LeavesClosed before path _ call_failed paths now = ⊥
 -- What is at the paths after the work, by how many calls of the folder had failed before and after it: nothing changed if nothing was
 -- opened. What an opening that failed had begun is removed, unless another call failed too. If the work was done, the file is an office's:
 -- it is removed only if the work failed where nothing was.
-abbrev pub LeavesPaths : {F : Type 0} {g : Ghosts F} → Choice → List ℕ → (has_failed : Bool) → StoreAfter F g → (failed now_failed : ℕ) → Option Paths → Option Paths → Type 0
+abbrev pub LeavesPaths : {F : Type 0} {g : Ghosts F}
+    → Choice → List ℕ → (has_failed : Bool) → StoreAfter F g → (failed now_failed : ℕ) → Option Paths → Option Paths → Type 0
 LeavesPaths chosen path has_failed after.Untouched failed now_failed paths now = now ≡ paths
 LeavesPaths chosen path has_failed (after.Unopened opened) failed now_failed paths now =
-    (before : PathState) × IfSome paths (IsBefore chosen path before) × LeavesUnopened before path opened (HasRisen (one_more failed) now_failed) paths now
+    (before : PathState) × IfSome paths (IsBefore chosen path before)
+    × LeavesUnopened before path opened (HasRisen (one_more failed) now_failed) paths now
 LeavesPaths chosen path has_failed became failed now_failed paths now =
     (before : PathState) × IfSome paths (IsBefore chosen path before)
     × LeavesClosed (if has_failed then before else Bytes) path became (HasRisen failed now_failed) paths now

@@ -12,3 +12,4 @@ pub mod Paths
 pub mod ProgramOutcome
 pub mod ServedConnections
 pub mod Work
+pub mod private

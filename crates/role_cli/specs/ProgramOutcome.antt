@@ -34,34 +34,40 @@ path_of (choice.Report path) = string_bytes path
 path_of (choice.Check path) = string_bytes path
 path_of (choice.Migrate path) = string_bytes path
 
--- It was done: a replay in memory over a new office; anything else in files of type F, which held this image when they were opened,
--- over the office that they stored or, whatever the disk returned, over one of some good state.
-abbrev pub IsDoneIn : (is_in_memory : Bool) → Ghosts MemoryFile → {F : Type 0} (g : Ghosts F) (image : Image) → Choice → Environment → Environment → StoreAfter F g → Type 0
-IsDoneIn true in_memory g image chosen from to became = ReplaysInMemory in_memory from.remaining to.remaining from.written to.written × (became ≡ after.Untouched)
-IsDoneIn false in_memory g image chosen from to became = DoesOverSomeState (state (over_files {g = g})) chosen from to × DoesOnStore g image chosen from to became
+module _ (in_memory : Ghosts MemoryFile) {F : Type 0} (g : Ghosts F) where
+  -- It was done: a replay in memory over a new office; anything else in files of type F, which held this image when they were opened,
+  -- over the office that they stored or, whatever the disk returned, over one of some good state.
+  abbrev pub IsDoneIn : (is_in_memory : Bool) (image : Image) → Choice → Environment → Environment → StoreAfter F g → Type 0
+  IsDoneIn true image chosen from to became =
+      ReplaysInMemory in_memory from.remaining to.remaining from.written to.written × (became ≡ after.Untouched)
+  IsDoneIn false image chosen from to became =
+      DoesOverSomeState (state (over_files {g = g})) chosen from to × DoesOnStore g image chosen from to became
 
--- It failed by this failure: a replay in memory over a new office; anything else in files, over the office that they stored or one of some
--- good state; or it never began, and nothing was touched.
-abbrev pub FailsIn : (is_in_memory : Bool) → Ghosts MemoryFile → {F : Type 0} (g : Ghosts F) (image : Image) → Choice → Failure → (untouched never_begins : Type 0)
-    → Environment → Environment → StoreAfter F g → Type 0
-FailsIn true in_memory g image chosen failure untouched never_begins from to became =
-    FailsInMemory in_memory failure untouched from.remaining to.remaining from.written to.written × IsCaused failure (WriteFailed from to) (ReadFailed from to) × (became ≡ after.Untouched)
-FailsIn false in_memory g image chosen failure untouched never_begins from to became =
-    FailsOrFindsNoOffice (state (over_files {g = g})) chosen failure untouched from to × FailsOnStore g image chosen failure untouched never_begins from to became
+  -- It failed by this failure: a replay in memory over a new office; anything else in files, over the office that they stored or one of
+  -- some good state; or it never began, and nothing was touched.
+  abbrev pub FailsIn : (is_in_memory : Bool) (image : Image) → Choice → Failure → (untouched never_begins : Type 0)
+      → Environment → Environment → StoreAfter F g → Type 0
+  FailsIn true image chosen failure untouched never_begins from to became =
+      FailsInMemory in_memory failure untouched from.remaining to.remaining from.written to.written
+      × IsCaused failure (WriteFailed from to) (ReadFailed from to) × (became ≡ after.Untouched)
+  FailsIn false image chosen failure untouched never_begins from to became =
+      FailsOrFindsNoOffice (state (over_files {g = g})) chosen failure untouched from to
+      × FailsOnStore g image chosen failure untouched never_begins from to became
 
--- the choice was done
-abbrev pub IsDone : Ghosts MemoryFile → {F : Type 0} (g : Ghosts F) (image : Image) → Choice → Environment → Environment → StoreAfter F g → Type 0
-IsDone in_memory g image chosen from to became = IsDoneIn (is_memory_replay chosen) in_memory g image chosen from to became
+  -- the choice was done
+  abbrev pub IsDone : (image : Image) → Choice → Environment → Environment → StoreAfter F g → Type 0
+  IsDone image chosen = IsDoneIn (is_memory_replay chosen) image chosen
 
--- the choice failed by this failure
-abbrev pub FailsBy : Ghosts MemoryFile → {F : Type 0} (g : Ghosts F) (image : Image) → Choice → Failure → (untouched never_begins : Type 0) → Environment → Environment → StoreAfter F g → Type 0
-FailsBy in_memory g image chosen failure untouched never_begins from to became =
-    FailsIn (is_memory_replay chosen) in_memory g image chosen failure untouched never_begins from to became
+  -- the choice failed by this failure
+  abbrev pub FailsBy : (image : Image) → Choice → Failure → (untouched never_begins : Type 0)
+      → Environment → Environment → StoreAfter F g → Type 0
+  FailsBy image chosen = FailsIn (is_memory_replay chosen) image chosen
 
--- the same, of files of which nothing is known: over some image of them
-abbrev pub IsDoneSomehow : Ghosts MemoryFile → {F : Type 0} → Ghosts F → Choice → Environment → Environment → Type 0
-IsDoneSomehow in_memory {F} g chosen from to = (image : Image) × (became : StoreAfter F g) × IsDone in_memory g image chosen from to became
+  -- the same, of files of which nothing is known: over some image of them
+  abbrev pub IsDoneSomehow : Choice → Environment → Environment → Type 0
+  IsDoneSomehow chosen from to = (image : Image) × (became : StoreAfter F g) × IsDone image chosen from to became
 
-abbrev pub FailsSomehow : Ghosts MemoryFile → {F : Type 0} (g : Ghosts F) → Choice → Failure → (untouched : Type 0) (never_begins : StoreAfter F g → Type 0) → Environment → Environment → Type 0
-FailsSomehow in_memory {F} g chosen failure untouched never_begins from to =
-    (image : Image) × (became : StoreAfter F g) × FailsBy in_memory g image chosen failure untouched (never_begins became) from to became
+  abbrev pub FailsSomehow : Choice → Failure → (untouched : Type 0) (never_begins : StoreAfter F g → Type 0)
+      → Environment → Environment → Type 0
+  FailsSomehow chosen failure untouched never_begins from to =
+      (image : Image) × (became : StoreAfter F g) × FailsBy image chosen failure untouched (never_begins became) from to became

@@ -13,6 +13,10 @@ use Rattle.role_wire.specs.declared.lines.Cause.TheVariants.{Read, Write}
 use Rattle.role_cli.specs.declared.failure.Failure.{Failure}
 use Rattle.role_cli.specs.declared.failure.Failure.TheVariants.{Refused, Stopped, NotListening, NotAccepting, Closed}
 
+-- the bytes of a stream, if they are known
+abbrev pub Known : Type 0
+Known = Option (List ℕ)
+
 -- the status of what was answered, if anything was
 abbrev pub status_in : Option Answered → Option ℕ
 status_in answered = option_map (λ (it : Answered). it.status) answered
@@ -63,7 +67,7 @@ EndsBy limit NotListening statuses last now = ⊥
 EndsBy limit (Stopped stop) statuses last now = ⊥
 
 -- the next client, and what it sends, if that is known; none is left if all are known and were served
-abbrev pub TakesNext : Option (List (List ℕ)) → Option (List ℕ) → Option (List (List ℕ)) → Type 0
+abbrev pub TakesNext : Option (List (List ℕ)) → Known → Option (List (List ℕ)) → Type 0
 TakesNext None sent now = now ≡ None
 TakesNext (Some []) sent now = ⊥
 TakesNext (Some (bytes ∷ rest)) sent now = (sent ≡ Some bytes) × (now ≡ Some rest)
@@ -74,7 +78,7 @@ AddsReply None reply now = now ≡ None
 AddsReply (Some replies) reply now = (sent : SentReply) × (reply ≡ Some sent) × (now ≡ Some (replies ++ sent ∷ []))
 
 -- the bytes that a client was sent, if they are known
-abbrev pub bytes_of : Option SentReply → Option (List ℕ)
+abbrev pub bytes_of : Option SentReply → Known
 bytes_of reply = option_map (λ (it : SentReply). it.bytes) reply
 
 -- a write to a client failed, if it is known what it was sent
@@ -83,31 +87,27 @@ HasFailedWrite (Some reply) = 1 ≤ reply.failed_writes
 HasFailedWrite None = ⊤
 
 -- nothing was written yet, if what is written is known
-abbrev pub nothing_of : Option (List ℕ) → Option (List ℕ)
+abbrev pub nothing_of : Known → Known
 nothing_of (Some bytes) = Some []
 nothing_of None = None
 
 module _ {S : Type 0} (shown : Held S → State) where
   -- One connection, on which a client sent these bytes, of which these are left, and was sent this reply: the one request in it was
   -- answered with this status. Or it stopped: by a read only if a read may have failed, and by a write only if a write may have.
-  abbrev pub IsServedOver : (read_failed write_failed : Type 0) → (sent left written now_written : Option (List ℕ)) → OfficeModel S → Option ℕ → OfficeModel S → Type 0
-  IsServedOver read_failed write_failed sent left written now_written old (Some status) new = ServesRequest shown old new sent left written now_written status
-  IsServedOver read_failed write_failed sent left written now_written old None new =
-      (why : Cause) × StopsRequest shown why old new sent left written now_written × (why ≡ Read → read_failed) × (why ≡ Write → write_failed)
+  abbrev pub IsServedOver : (read_failed write_failed : Type 0) → (sent left written now : Known) → OfficeModel S → Option ℕ → OfficeModel S → Type 0
+  IsServedOver read_failed write_failed sent left written now old (Some status) new = ServesRequest shown old new sent left written now status
+  IsServedOver read_failed write_failed sent left written now old None new =
+      (why : Cause) × StopsRequest shown why old new sent left written now × (why ≡ Read → read_failed) × (why ≡ Write → write_failed)
 
   -- the same, on a connection on which nothing was written before
-  abbrev pub IsServed : (read_failed : Type 0) → (sent left : Option (List ℕ)) → Option SentReply → OfficeModel S → Option ℕ → OfficeModel S → Type 0
-  IsServed read_failed sent left reply old status new = IsServedOver read_failed (HasFailedWrite reply) sent left (nothing_of (bytes_of reply)) (bytes_of reply) old status new
-
-  -- the same, whatever the client sent and was sent
-  abbrev pub IsServedSomehow : OfficeModel S → Option ℕ → OfficeModel S → Type 0
-  IsServedSomehow old (Some status) new = (left now_left written now_written : Option (List ℕ)) × ServesRequest shown old new left now_left written now_written status
-  IsServedSomehow old None new = (why : Cause) × (left now_left written now_written : Option (List ℕ)) × StopsRequest shown why old new left now_left written now_written
+  abbrev pub IsServed : (read_failed : Type 0) → (sent left : Known) → Option SentReply → OfficeModel S → Option ℕ → OfficeModel S → Type 0
+  IsServed read_failed sent left reply old status new =
+      IsServedOver read_failed (HasFailedWrite reply) sent left (nothing_of (bytes_of reply)) (bytes_of reply) old status new
 
   -- the next client was accepted and served. No read fails if it is known what the clients send
   pub record IsNextServed (before now : Clients) (old : OfficeModel S) (status : Option ℕ) (new : OfficeModel S) : Type 0 where
-    pub sent : Option (List ℕ)
-    pub left : Option (List ℕ)
+    pub sent : Known
+    pub left : Known
     pub reply : Option SentReply
     pub port : now.listening ≡ before.listening
     pub counted : now.accepted ≡ one_more before.accepted
@@ -120,7 +120,8 @@ module _ {S : Type 0} (shown : Held S → State) where
   -- it left
   abbrev pub AreServed : Clients → Clients → OfficeModel S → List (Option ℕ) → OfficeModel S → Type 0
   AreServed before now old [] new = (now ≡ before) × (new ≡ old)
-  AreServed before now old (status ∷ rest) new = (between : Clients) × (next : OfficeModel S) × IsNextServed before between old status next × AreServed between now next rest new
+  AreServed before now old (status ∷ rest) new =
+      (between : Clients) × (next : OfficeModel S) × IsNextServed before between old status next × AreServed between now next rest new
 
   -- each connection that was served was accepted, until the count saturates
   abbrev pub ServedAreAccepted : Type 0
@@ -129,4 +130,5 @@ module _ {S : Type 0} (shown : Held S → State) where
 
   -- connections were served, one after another, and then the server ended so
   abbrev pub ServesConnections : (List (Option ℕ) → Clients → Clients → Type 0) → Clients → Clients → OfficeModel S → OfficeModel S → Type 0
-  ServesConnections Ends before now old new = (statuses : List (Option ℕ)) × (last : Clients) × AreServed before last old statuses new × Ends statuses last now
+  ServesConnections Ends before now old new =
+      (statuses : List (Option ℕ)) × (last : Clients) × AreServed before last old statuses new × Ends statuses last now

@@ -1,5 +1,5 @@
 -- The work of a subcommand over the office of an open connection: what it reads and writes, and the office after it.
-use Rattle.std.specs.Prelude.{⊤, ◌≡◌, ◌≢◌, ◌⊎◌, ◌≤◌, ◌++◌, ℕ, Bool, true, false, List, [], ◌∷◌, length, Option, Ok, Err, codes, string_bytes}
+use Rattle.std.specs.Prelude.{⊤, ◌≡◌, ◌≢◌, ◌⊎◌, ◌≤◌, ◌++◌, ℕ, Bool, true, false, List, [], ◌∷◌, length, Ok, Err, codes, string_bytes}
 use Rattle.std.specs.Fmt.{decimal}
 use Rattle.std.specs.Io.KnownBytes.{Appends, Consumes, IsAtEnd}
 use Rattle.sqlite.specs.Held.{Held}
@@ -31,7 +31,7 @@ use Rattle.role_wire.specs.OfficeReplay.{IsAnswered, IsHalted}
 use Rattle.role_wire.specs.declared.lines.Cause.TheVariants.{Read}
 use Rattle.role_cli.specs.Environment.{CsvFailed, Environment, IsReadOf, ReadFailed, WriteFailed}
 use Rattle.role_cli.specs.FailureCause.{IsCaused, IsOpeningFailure, IsUnwritten}
-use Rattle.role_cli.specs.ServedConnections.{AllServed, CallFails, Clients, EndsBy, Listens, ServesConnections}
+use Rattle.role_cli.specs.ServedConnections.{AllServed, CallFails, Clients, EndsBy, Known, Listens, ServesConnections}
 use Rattle.role_cli.specs.declared.choice.Choice.{Choice}
 use Rattle.role_cli.specs.declared.choice.Choice.TheVariants as choice
 use Rattle.role_cli.specs.declared.failure.Failure.{Failure}
@@ -64,7 +64,7 @@ abbrev pub listening_line : ℕ → List ℕ
 listening_line port = codes "listening on 127.0.0.1:" ++ (decimal port ++ codes "\n")
 
 -- a part of the text was written, and not the whole
-abbrev pub WritesPart : List ℕ → Option (List ℕ) → Option (List ℕ) → Type 0
+abbrev pub WritesPart : List ℕ → Known → Known → Type 0
 WritesPart text written now_written = (part rest : List ℕ) × (text ≡ part ++ rest) × (1 ≤ length rest) × Appends written now_written part
 
 -- why a file to be imported was not read: an allocation failed, or the file could not be opened or read
@@ -83,9 +83,11 @@ StartsWell _ S = ⊤
 
 -- No office was created, migrated or opened: why, what the connection holds now, and what a crash would leave.
 abbrev pub IsUnopened : Choice → State → Refusal → State → Type 0
-IsUnopened (choice.Init _) before refusal after = (refusal ≡ Store) × HoldsAsBefore before after × LeavesBeforeOr before after (empty_state 2) × StaysOutside before after
+IsUnopened (choice.Init _) before refusal after =
+    (refusal ≡ Store) × HoldsAsBefore before after × LeavesBeforeOr before after (empty_state 2) × StaysOutside before after
 IsUnopened (choice.Migrate _) before refusal after =
-    RefusesMigration (contents_of before.now) refusal × StaysRefused before after refusal × LeavesEitherVersion before after × StaysOutside before after
+    RefusesMigration (contents_of before.now) refusal × StaysRefused before after refusal
+    × LeavesEitherVersion before after × StaysOutside before after
 IsUnopened _ before refusal after =
     ((refusal ≡ Store) ⊎ RefusesContents (contents_of before.now) refusal) × HoldsAsBefore before after
     × WhateverIsDurable before (λ S. IsMemoryOrStore refusal × LeavesOnly after S) × StaysOutside before after
@@ -94,33 +96,39 @@ module _ {C : Type 0} (shown : Held C → State) where
   -- ---- a replay
 
   -- the lines of an input, read to its end, were answered, and the office has the state after their commands
-  abbrev pub AnswersInput : OfficeModel C → (remaining now_remaining written now_written : Option (List ℕ)) → OfficeModel C → Type 0
+  abbrev pub AnswersInput : OfficeModel C → (remaining now_remaining written now_written : Known) → OfficeModel C → Type 0
   AnswersInput old remaining now_remaining written now_written new =
       (input : List ℕ) × Consumes remaining now_remaining input × IsAtEnd now_remaining
-      × ((answered : ℕ) × IsAnswered old.facts input written now_written answered) × ReachesState shown old (after_lines old.facts (asking_lines input)) new
+      × ((answered : ℕ) × IsAnswered old.facts input written now_written answered)
+      × ReachesState shown old (after_lines old.facts (asking_lines input)) new
 
   -- ---- an import
 
   -- the pairs of the text of a file were imported, and the answer was written as a line
-  abbrev pub Imports : (file : Option (List ℕ)) → OfficeModel C → Option (List ℕ) → Option (List ℕ) → OfficeModel C → Type 0
-  Imports file old written now_written new = (text : List ℕ) × (pairs : List Pair) × (line : List ℕ)
-      × IsReadOf file text × (assignments text ≡ Ok pairs) × DoesRequest shown old (Change (Import pairs)) line new × Appends written now_written (line ++ line_feed ∷ [])
+  abbrev pub Imports : (file : Known) → OfficeModel C → Known → Known → OfficeModel C → Type 0
+  Imports file old written now_written new = (text : List ℕ) × (pairs : List Pair) × (line : List ℕ) × IsReadOf file text
+      × (assignments text ≡ Ok pairs) × DoesRequest shown old (Change (Import pairs)) line new × Appends written now_written (line ++ line_feed ∷ [])
 
   -- the file was not read or its text was refused, which changes nothing; or the office refused to import its pairs; or it
   -- imported them, and the answer line was not written whole, because an allocation or the output failed
-  abbrev pub FailsToImport : (file : Option (List ℕ)) → OfficeModel C → Failure → (write_failed csv_failed : Type 0) → Option (List ℕ) → Option (List ℕ) → OfficeModel C → Type 0
+  abbrev pub FailsToImport : (file : Known) → OfficeModel C → Failure → (write_failed csv_failed : Type 0) → Known → Known → OfficeModel C → Type 0
   FailsToImport file old failure write_failed csv_failed written now_written new =
-      ((IsUnread csv_failed failure ⊎ ((text : List ℕ) × (refusal : Refusal) × IsReadOf file text × (failure ≡ Refused refusal) × RefusesText text refusal)) × (new ≡ old) × (now_written ≡ written))
-      ⊎ ((text : List ℕ) × (pairs : List Pair) × (refusal : Refusal) × IsReadOf file text × (assignments text ≡ Ok pairs) × (failure ≡ Refused refusal)
+      ((IsUnread csv_failed failure
+      ⊎ ((text : List ℕ) × (refusal : Refusal) × IsReadOf file text × (failure ≡ Refused refusal) × RefusesText text refusal))
+      × (new ≡ old) × (now_written ≡ written))
+      ⊎ ((text : List ℕ) × (pairs : List Pair) × (refusal : Refusal)
+      × IsReadOf file text × (assignments text ≡ Ok pairs) × (failure ≡ Refused refusal)
       × ((RefusesRequest shown old (Change (Import pairs)) refusal new × (now_written ≡ written))
       ⊎ ((refusal ≡ Memory) × (now_written ≡ written) × ((line : List ℕ) × DoesRequest shown old (Change (Import pairs)) line new))
-      ⊎ ((refusal ≡ Store) × write_failed × ((line : List ℕ) × DoesRequest shown old (Change (Import pairs)) line new × WritesPart (line ++ line_feed ∷ []) written now_written))))
+      ⊎ ((refusal ≡ Store) × write_failed
+      × ((line : List ℕ) × DoesRequest shown old (Change (Import pairs)) line new × WritesPart (line ++ line_feed ∷ []) written now_written))))
 
   -- ---- a server
 
   -- The server could not listen, which changes nothing. Or it listens, and the line that says so could not be allocated or written
   -- whole, which changes nothing else; or the line was written, and this failure ended it before all connections were served.
-  abbrev pub FailsToServe : (port limit : ℕ) → Clients → Clients → OfficeModel C → Failure → (write_failed : Type 0) → Option (List ℕ) → Option (List ℕ) → OfficeModel C → Type 0
+  abbrev pub FailsToServe : (port limit : ℕ) → Clients → Clients → OfficeModel C → Failure
+      → (write_failed : Type 0) → Known → Known → OfficeModel C → Type 0
   FailsToServe port limit clients now_clients old failure write_failed written now_written new =
       ((failure ≡ NotListening) × CallFails clients now_clients × (new ≡ old) × (now_written ≡ written))
       ⊎ ((ready : Clients) × Listens port clients ready
@@ -129,9 +137,10 @@ module _ {C : Type 0} (shown : Held C → State) where
       ⊎ (Appends written now_written (listening_line port) × ServesConnections shown (EndsBy limit failure) ready now_clients old new))))
 
   -- It listens on its port, wrote the line that says so, and served all connections.
-  abbrev pub ServesAll : (port limit : ℕ) → Clients → Clients → OfficeModel C → Option (List ℕ) → Option (List ℕ) → OfficeModel C → Type 0
+  abbrev pub ServesAll : (port limit : ℕ) → Clients → Clients → OfficeModel C → Known → Known → OfficeModel C → Type 0
   ServesAll port limit clients now_clients old written now_written new =
-      (ready : Clients) × Listens port clients ready × Appends written now_written (listening_line port) × ServesConnections shown (AllServed limit) ready now_clients old new
+      (ready : Clients) × Listens port clients ready × Appends written now_written (listening_line port)
+      × ServesConnections shown (AllServed limit) ready now_clients old new
 
   -- ---- any subcommand
 
@@ -151,14 +160,20 @@ module _ {C : Type 0} (shown : Held C → State) where
   FailsSubcommand (choice.Init _) failure old from to new = ⊥
   FailsSubcommand (choice.Migrate _) failure old from to new = ⊥
   FailsSubcommand (choice.Replay _) (Stopped stop) old from to new =
-      (taken : List ℕ) × Consumes from.remaining to.remaining taken × IsHalted shown old new taken (IsAtEnd to.remaining) from.written to.written stop.cause stop.answered
+      (taken : List ℕ) × Consumes from.remaining to.remaining taken
+      × IsHalted shown old new taken (IsAtEnd to.remaining) from.written to.written stop.cause stop.answered
       × IsCaused (Stopped stop) (WriteFailed from to) (ReadFailed from to)
   FailsSubcommand (choice.Replay _) failure old from to new = ⊥
-  FailsSubcommand (choice.Serve _ port limit) failure old from to new = FailsToServe port limit from.clients to.clients old failure (WriteFailed from to) from.written to.written new
-  FailsSubcommand (choice.Import _ path) failure old from to new = FailsToImport (from.csv_at (string_bytes path)) old failure (WriteFailed from to) (CsvFailed from to) from.written to.written new
-  FailsSubcommand (choice.Export _) failure old from to new = IsUnwritten failure (WriteFailed from to) × WritesPart (exported old.facts) from.written to.written × (new ≡ old)
-  FailsSubcommand (choice.Report _) failure old from to new = IsUnwritten failure (WriteFailed from to) × WritesPart (report old.facts) from.written to.written × (new ≡ old)
-  FailsSubcommand (choice.Check _) failure old from to new = (failure ≡ Refused Store) × WriteFailed from to × WritesPart (codes "good\n") from.written to.written × (new ≡ old)
+  FailsSubcommand (choice.Serve _ port limit) failure old from to new =
+      FailsToServe port limit from.clients to.clients old failure (WriteFailed from to) from.written to.written new
+  FailsSubcommand (choice.Import _ path) failure old from to new =
+      FailsToImport (from.csv_at (string_bytes path)) old failure (WriteFailed from to) (CsvFailed from to) from.written to.written new
+  FailsSubcommand (choice.Export _) failure old from to new =
+      IsUnwritten failure (WriteFailed from to) × WritesPart (exported old.facts) from.written to.written × (new ≡ old)
+  FailsSubcommand (choice.Report _) failure old from to new =
+      IsUnwritten failure (WriteFailed from to) × WritesPart (report old.facts) from.written to.written × (new ≡ old)
+  FailsSubcommand (choice.Check _) failure old from to new =
+      (failure ≡ Refused Store) × WriteFailed from to × WritesPart (codes "good\n") from.written to.written × (new ≡ old)
 
   -- ---- over a connection
 
@@ -166,7 +181,8 @@ module _ {C : Type 0} (shown : Held C → State) where
   -- from the rows that were stored there, migrated if that was asked for. What was read is the state that was durable, if one was.
   abbrev pub BeginsRun : Choice → State → OfficeModel C → Type 0
   BeginsRun (choice.Init _) before office = MayCreate 2 before × IsInRun shown (empty_state 2) [] office
-  BeginsRun (choice.Migrate _) before office = IsMigratedFrom before.now office.facts × WhateverIsDurable before (λ S. (S.version ≡ 1) × IsInRun shown (migrated_to_version_2 S) [] office)
+  BeginsRun (choice.Migrate _) before office = IsMigratedFrom before.now office.facts
+      × WhateverIsDurable before (λ S. (S.version ≡ 1) × IsInRun shown (migrated_to_version_2 S) [] office)
   BeginsRun _ before office = ReadsState before (shown office.conn) office.facts × WhateverIsDurable before (λ S. IsInRun shown S [] office)
 
   -- if an opening is refused because of what a connection holds, no office begins a run over it, unless it is a new one
@@ -176,15 +192,15 @@ module _ {C : Type 0} (shown : Held C → State) where
 
   -- Work that led from the first office to the last: the first began a run over what the connection held, the last continues it,
   -- and its connection was handed back, outside a transaction.
-  pub record WorksOnConnection (chosen : Choice) (before : State) (Work : OfficeModel C → OfficeModel C → Type 0) (handed_back : Held C) : Type 0 where
+  pub record WorksOnConnection (chosen : Choice) (before : State) (Work : OfficeModel C → OfficeModel C → Type 0) (back : Held C) : Type 0 where
     pub first : OfficeModel C
     pub last : OfficeModel C
     pub is_open : first.is_closed ≡ false
     pub begins : BeginsRun chosen before first
     pub work : Work first last
     pub continues : Continues shown first last
-    pub is_last : handed_back ≡ last.conn
-    pub is_outside : handed_back.in_transaction ≡ false
+    pub is_last : back ≡ last.conn
+    pub is_outside : back.in_transaction ≡ false
 
   -- the work was done over the office of the connection
   abbrev pub DoesOnConnection : Choice → State → Environment → Environment → Held C → Type 0
@@ -196,16 +212,16 @@ module _ {C : Type 0} (shown : Held C → State) where
       WorksOnConnection chosen before (λ first last. FailsSubcommand chosen failure first from to last) after
       ⊎ ((refusal : Refusal) × (failure ≡ Refused refusal) × untouched × IsUnopened chosen before refusal (shown after))
 
-  -- the work was done over an office of some good state, whatever the disk returned
+  -- the work was over an office of some good state
+  abbrev pub OverSomeState : Choice → (OfficeModel C → OfficeModel C → Type 0) → Type 0
+  OverSomeState chosen Work = (first last : OfficeModel C) × (first.is_closed ≡ false)
+      × IsGood first.facts × AreNamed first.facts × StartsWell chosen first.facts × Work first last
+
+  -- it was done, whatever the disk returned
   abbrev pub DoesOverSomeState : Choice → Environment → Environment → Type 0
-  DoesOverSomeState chosen from to = (first last : OfficeModel C) × (first.is_closed ≡ false)
-      × IsGood first.facts × AreNamed first.facts × StartsWell chosen first.facts × DoesSubcommand chosen first from to last
+  DoesOverSomeState chosen from to = OverSomeState chosen (λ first last. DoesSubcommand chosen first from to last)
 
-  -- the work failed over an office of some good state, whatever the disk returned
-  abbrev pub FailsOverSomeState : Choice → Failure → Environment → Environment → Type 0
-  FailsOverSomeState chosen failure from to = (first last : OfficeModel C) × (first.is_closed ≡ false)
-      × IsGood first.facts × AreNamed first.facts × StartsWell chosen first.facts × FailsSubcommand chosen failure first from to last
-
-  -- it failed so, or there was no office to work on, and nothing was read or written
+  -- it failed so, whatever the disk returned, or there was no office to work on, and nothing was read or written
   abbrev pub FailsOrFindsNoOffice : Choice → Failure → (untouched : Type 0) → Environment → Environment → Type 0
-  FailsOrFindsNoOffice chosen failure untouched from to = FailsOverSomeState chosen failure from to ⊎ (IsOpeningFailure chosen failure × untouched)
+  FailsOrFindsNoOffice chosen failure untouched from to =
+      OverSomeState chosen (λ first last. FailsSubcommand chosen failure first from to last) ⊎ (IsOpeningFailure chosen failure × untouched)

@@ -1,8 +1,9 @@
 //! The work that the arguments choose.
 ghost use Rattle.std.specs.Prelude.{◌≡◌, ◌≢◌, ◌⊎◌, ◌↔◌, ◌≤◌, [], IsTrue, true, false, IfOk, IfErr, Some, None, map, codes, option_map};
 ghost use Rattle.clap.specs.Words.{HasMatchesOf, first_of, found_of, one_of, rows_of, subcommand_rows_of, kind_of, subcommand_of, takes, fault_of, HasKind};
-ghost use Rattle.role_cli.specs.ArgumentChoice.{Chooses, ChoosesOf, HasBothOrNeither, IsEntered, IsFault, IsFaultBy, IsGiven, IsInMemory, IsOfKind, IsValueOf, IsWhole, IsWordOf, ReplaysBothOrNeither};
-ghost use Rattle.role_cli.specs.CommandLine.{limit_parser, port_parser, program, text_parser};
+ghost use Rattle.role_cli.specs.ArgumentChoice.{Chooses, ChoosesOf, HasBothOrNeither, IsFault, IsFaultBy, IsInMemory, IsValueOf, IsWordOf, ReplaysBothOrNeither};
+ghost use Rattle.role_cli.specs.CommandLine.{limit_parser, port_parser, program};
+ghost use Rattle.role_cli.specs.private.GivenArguments.{IsEntered, IsGiven, IsOfKind, IsWhole, text_parser};
 
 use crate::command_line::program_command;
 use clap::error::ErrorKind;

@@ -8,9 +8,10 @@ ghost use Rattle.sqlite.specs.WalFiles.{image_at};
 ghost use Rattle.rbac_sets.specs.Stream.{HasRisen, one_more};
 ghost use Rattle.role_wire.specs.Replay.{most_reads};
 ghost use Rattle.role_cli.specs.Around.{IsUntouched, around};
-ghost use Rattle.role_cli.specs.FileWork.{ClosesConnection, DoesOnStore, FailsOnStore, HoldsCommit, WorksOnFiles};
+ghost use Rattle.role_cli.specs.FileWork.{DoesOnStore, FailsOnStore, HoldsCommit, WorksOnFiles};
 ghost use Rattle.role_cli.specs.Leftovers.{LeavesClosed, LeavesPaths, LeavesUnopened, NeverBegins};
 ghost use Rattle.role_cli.specs.Work.{DoesOnConnection, DoesOverSomeState, FailsOnConnection, FailsOrFindsNoOffice, asks_host, reads_input};
+ghost use Rattle.role_cli.specs.private.ClosedConnection.{ClosesConnection};
 
 use crate::choice::Choice;
 use crate::failure::Failure;
@@ -71,8 +72,8 @@ pub fn run_on_path<D: Start, F: Folder, H: Accept + CsvFiles, R: Source, W: Sink
     ensures unopened { OnErr result ((IsUntouched source.old source.new out.old out.new host.old host.new)
         × HasRisen (F.failed_calls folder.old) (F.failed_calls folder.new)) }
     ensures kept { OnOk result (F.paths folder.new ≡ F.paths folder.old) }
-    ensures restored { IfErr result (λ opened. LeavesUnopened before path.now opened (HasRisen (one_more (F.failed_calls folder.old)) (F.failed_calls folder.new))
-        (F.paths folder.old) (F.paths folder.new)) }
+    ensures restored { IfErr result (λ opened. LeavesUnopened before path.now opened
+        (HasRisen (one_more (F.failed_calls folder.old)) (F.failed_calls folder.new)) (F.paths folder.old) (F.paths folder.new)) }
     ensures count { F.failed_calls folder.old ≤ F.failed_calls folder.new }
     ensures unread { reads_input choice.now ≡ false → source.new ≡ source.old }
     ensures unasked { asks_host choice.now ≡ false → host.new ≡ host.old }
@@ -180,8 +181,8 @@ fn connect<D: Start, F: Folder>(
     ensures found { IfOk result (λ conn. HasCleanDisk (file_state conn) → FindsIn (image_at D.Start) (file_state conn)) }
     ensures kept { OnOk result (F.paths folder.new ≡ F.paths folder.old) }
     ensures failed { OnErr result (HasRisen (F.failed_calls folder.old) (F.failed_calls folder.new)) }
-    ensures restored { IfErr result (λ opened. LeavesUnopened before path.now opened (HasRisen (one_more (F.failed_calls folder.old)) (F.failed_calls folder.new))
-        (F.paths folder.old) (F.paths folder.new)) }
+    ensures restored { IfErr result (λ opened. LeavesUnopened before path.now opened
+        (HasRisen (one_more (F.failed_calls folder.old)) (F.failed_calls folder.new)) (F.paths folder.old) (F.paths folder.new)) }
     ensures count { F.failed_calls folder.old ≤ F.failed_calls folder.new }
 {
     match folder.open(path, start) {

@@ -89,11 +89,9 @@ pub struct MachineFolder<'a> {
 }
 
 impl<'a> MachineFolder<'a> {
-    ghost use Rattle.role_cli.specs.Hosts.{failed_in_folder};
-
     /// The folders of this runtime. No call has failed.
     pub fn new(rt: &'a HostRuntime) -> MachineFolder<'a>
-        ensures { failed_in_folder result ≡ 0 }
+        ensures { result.failed ≡ 0 }
     {
         MachineFolder { rt, failed: 0 }
     }
@@ -108,11 +106,10 @@ impl<'a> MachineFolder<'a> {
 
 impl Folder for MachineFolder<'_> {
     ghost use Rattle.std.specs.Prelude.{None};
-    ghost use Rattle.role_cli.specs.Hosts.{failed_in_folder};
 
     ghost paths = { λ _. None };
 
-    ghost failed_calls = { failed_in_folder };
+    ghost failed_calls = { λ folder. folder.failed };
 
     fn entry_at(&self, path: &str) -> Entry {
         match fs::metadata(self.rt, path) {

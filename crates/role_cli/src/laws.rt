@@ -26,7 +26,8 @@ pub fn refused_work<S: Alter>(_conn: &Connection<S>)
 /// opened, it stores the state that was there.
 pub fn work_is_stored<D: Disk>(_disk: &D)
     ensures done { WorkIsStored D.Disk (λ chosen from to first last. DoesSubcommand (state over_files) chosen first from to last) }
-    ensures failed { (failure : Failure) → WorkIsStored D.Disk (λ chosen from to first last. FailsSubcommand (state over_files) chosen failure first from to last) }
+    ensures failed { (failure : Failure) → WorkIsStored D.Disk
+        (λ chosen from to first last. FailsSubcommand (state over_files) chosen failure first from to last) }
     ensures unopened { RefusedOpeningIsStored D.Disk }
     ensures created { NewOfficeIsStored D.Disk }
     ensures migrated { MigrationIsStored D.Disk }

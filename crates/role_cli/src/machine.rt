@@ -3,7 +3,8 @@ ghost use Rattle.std.specs.Prelude.{◌≡◌, ◌+◌, ◌==◌, IfErr, IfSome}
 ghost use Rattle.role_csv.specs.Assignments.{most_bytes};
 ghost use Rattle.sqlite.specs.Held.{state};
 ghost use Rattle.rbac_sets.specs.Stream.{HasRisen, one_more};
-ghost use Rattle.role_cli.specs.ServedConnections.{CallFails, IsServedSomehow, status_in};
+ghost use Rattle.role_cli.specs.ServedConnections.{CallFails, status_in};
+ghost use Rattle.role_cli.specs.private.SomeConnection.{IsServedSomehow};
 
 use crate::host::{Accept, CsvFiles};
 use crate::serving::answered;
@@ -40,12 +41,12 @@ pub struct Machine<'a> {
 
 impl<'a> Machine<'a> {
     ghost use Rattle.std.specs.Prelude.{None};
-    ghost use Rattle.role_cli.specs.Hosts.{clients_on_machine, failed_on_machine, known_clients};
+    ghost use Rattle.role_cli.specs.Hosts.{clients_on_machine, known_clients};
 
     /// The machine of this runtime. It listens on no port.
     pub fn new(rt: &'a HostRuntime) -> Machine<'a>
         ensures clients { clients_on_machine result ≡ known_clients None 0 0 }
-        ensures failed { failed_on_machine result ≡ 0 }
+        ensures failed { result.failed_csv ≡ 0 }
     {
         Machine {
             rt,
@@ -60,7 +61,7 @@ impl<'a> Machine<'a> {
     /// The machine of this runtime. It listens already, by this listener, on a port that isn't known.
     pub fn listening(rt: &'a HostRuntime, listener: TcpListener) -> Machine<'a>
         ensures clients { clients_on_machine result ≡ known_clients None 0 0 }
-        ensures failed { failed_on_machine result ≡ 0 }
+        ensures failed { result.failed_csv ≡ 0 }
     {
         Machine {
             rt,
@@ -82,11 +83,11 @@ impl<'a> Machine<'a> {
 }
 
 impl CsvFiles for Machine<'_> {
-    ghost use Rattle.role_cli.specs.Hosts.{failed_on_machine, unknown_csv};
+    ghost use Rattle.role_cli.specs.Hosts.{unknown_csv};
 
     ghost csv_at = { λ _. unknown_csv };
 
-    ghost failed_csv = { failed_on_machine };
+    ghost failed_csv = { λ machine. machine.failed_csv };
 
     fn read_csv(&mut self, alloc: Global, path: &str) -> Result<Vec<u8>, ReadError> {
         let read = match File::open(self.rt, path) {

@@ -78,11 +78,11 @@ impl<'a> MemoryHost<'a> {
 }
 
 impl CsvFiles for MemoryHost<'_> {
-    ghost use Rattle.role_cli.specs.Hosts.{csv_in_memory, failed_in_memory};
+    ghost use Rattle.role_cli.specs.Hosts.{csv_in_memory};
 
     ghost csv_at = { csv_in_memory };
 
-    ghost failed_csv = { failed_in_memory };
+    ghost failed_csv = { λ host. host.failed_csv };
 
     fn read_csv(&mut self, alloc: Global, path: &str) -> Result<Vec<u8>, ReadError> {
         if path != self.path {

@@ -8,7 +8,7 @@ ghost use Rattle.role_cli.specs.Around.{IsUntouched, around};
 ghost use Rattle.role_cli.specs.CommandLine.{program};
 ghost use Rattle.role_cli.specs.Environment.{HasFailed};
 ghost use Rattle.role_cli.specs.Hosts.{OnMachine};
-ghost use Rattle.role_cli.specs.Leftovers.{LeavesPaths, NeverBegins};
+ghost use Rattle.role_cli.specs.Leftovers.{LeavesPaths, NeverBegins, OpensNoFile};
 ghost use Rattle.role_cli.specs.ProgramOutcome.{FailsBy, FailsSomehow, IsDone, IsDoneSomehow, is_memory_replay, path_of};
 ghost use Rattle.role_cli.specs.ErrorOutput.{IsLineOf, Says, SaysSome, both_or_neither_line, no_memory_line};
 ghost use Rattle.role_cli.specs.Work.{asks_host, reads_input};
@@ -75,7 +75,8 @@ pub fn run<R: Source, W: Sink, E: Sink>(
         × (reads_input choice ≡ false → source.new ≡ source.old)
         × OnMachine R.Source W.Sink
         (FailsSomehow ⟦<MemoryFile as Disk>⟧ ⟦<File as Disk>⟧ choice failure ((source.new ≡ source.old) × (out.new ≡ out.old))
-        (λ became. (calls : ℕ) × NeverBegins choice (path_of choice) failure None (HasRisen 0 calls) became)) source.old out.old source.new out.new)) }
+        (λ became. (calls : ℕ) × NeverBegins choice (path_of choice) failure None (HasRisen 0 calls) became))
+        source.old out.old source.new out.new)) }
     ensures silent { result ≡ 0 → err.new ≡ err.old }
     ensures reads { R.reads source.new ≤ R.reads source.old + most_reads }
 {
@@ -113,7 +114,8 @@ pub fn run_with<D: Start, F: Folder, H: Accept + CsvFiles, R: Source, W: Sink, E
     ensures status { (result.0 ≡ 0) ⊎ ((result.0 ≡ 1) ⊎ (result.0 ≡ 2)) }
 
     // Status 0: help was asked for, or the choice in the arguments was done.
-    ensures done { result.0 ≡ 0 → (AsksHelp program (map (λ s. s.now) words.entry.now) × (source.new ≡ source.old) × (host.new ≡ host.old))
+    ensures done { result.0 ≡ 0 → (AsksHelp program (map (λ s. s.now) words.entry.now) × (source.new ≡ source.old) × (host.new ≡ host.old)
+        × OpensNoFile folder.old folder.new result.1)
         ⊎ ((choice : Choice) × Chooses (subcommand_of program (map (λ s. s.now) words.entry.now)) choice
         × (reads_input choice ≡ false → source.new ≡ source.old) × (asks_host choice ≡ false → host.new ≡ host.old)
         × IsDone ⟦<MemoryFile as Disk>⟧ ⟦<FileFrom<D> as Disk>⟧ (image_at D.Start) choice
@@ -121,7 +123,8 @@ pub fn run_with<D: Start, F: Folder, H: Accept + CsvFiles, R: Source, W: Sink, E
         (around R.Source W.Sink H.CsvFiles H.Accept source.new out.new host.new) result.1) }
 
     // Status 2: the arguments are no command line of the program, and nothing was read or written but to `err`.
-    ensures refused { result.0 ≡ 2 → (IsUntouched source.old source.new out.old out.new host.old host.new) × (folder.new ≡ folder.old) }
+    ensures refused { result.0 ≡ 2 → (IsUntouched source.old source.new out.old out.new host.old host.new)
+        × OpensNoFile folder.old folder.new result.1 }
     ensures unchosen { result.0 ≡ 2 → (takes program (map (λ s. s.now) words.entry.now) ≡ false)
         ⊎ (ReplaysBothOrNeither (subcommand_of program (map (λ s. s.now) words.entry.now))
         × Says both_or_neither_line (E.written err.old) (E.written err.new)
@@ -130,7 +133,8 @@ pub fn run_with<D: Start, F: Folder, H: Accept + CsvFiles, R: Source, W: Sink, E
     // Status 1: an allocation failed before anything was chosen, or the choice failed; one line says why.
     ensures stopped { result.0 ≡ 1 → (failure : Failure) × SaysSome (IsLineOf failure)
         (E.written err.old) (E.written err.new) (HasFailed (E.failed err.old) (E.failed err.new) (E.idle err.old) (E.idle err.new))
-        × (((failure ≡ Failure.Refused Refusal.Memory) × (IsUntouched source.old source.new out.old out.new host.old host.new))
+        × (((failure ≡ Failure.Refused Refusal.Memory) × (IsUntouched source.old source.new out.old out.new host.old host.new)
+        × OpensNoFile folder.old folder.new result.1)
         ⊎ ((choice : Choice) × Chooses (subcommand_of program (map (λ s. s.now) words.entry.now)) choice
         × (reads_input choice ≡ false → source.new ≡ source.old) × (asks_host choice ≡ false → host.new ≡ host.old)
         × FailsBy ⟦<MemoryFile as Disk>⟧ ⟦<FileFrom<D> as Disk>⟧ (image_at D.Start) choice failure
@@ -140,7 +144,8 @@ pub fn run_with<D: Start, F: Folder, H: Accept + CsvFiles, R: Source, W: Sink, E
         (around R.Source W.Sink H.CsvFiles H.Accept source.new out.new host.new) result.1)) }
 
     // What is at the paths then: what the work made, and nothing is removed but leftovers and a log that was copied.
-    ensures left { ((result.1 ≡ StoreAfter.Untouched) × (F.paths folder.new ≡ F.paths folder.old)) ⊎ ((choice : Choice) × Chooses (subcommand_of program (map (λ s. s.now) words.entry.now)) choice
+    ensures left { OpensNoFile folder.old folder.new result.1
+        ⊎ ((choice : Choice) × Chooses (subcommand_of program (map (λ s. s.now) words.entry.now)) choice
         × LeavesPaths choice (path_of choice) (result.0 == 1) result.1 (F.failed_calls folder.old) (F.failed_calls folder.new)
         (F.paths folder.old) (F.paths folder.new)) }
     ensures silent { result.0 ≡ 0 → err.new ≡ err.old }
@@ -179,7 +184,8 @@ fn run_choice<D: Start, F: Folder, H: Accept + CsvFiles, R: Source, W: Sink>(
     ensures failed { IfErr result.0
         (λ failure. FailsBy ⟦<MemoryFile as Disk>⟧ ⟦<FileFrom<D> as Disk>⟧ (image_at D.Start) choice.now failure
         (IsUntouched source.old source.new out.old out.new host.old host.new)
-        (NeverBegins choice.now (path_of choice.now) failure (F.paths folder.old) (HasRisen (F.failed_calls folder.old) (F.failed_calls folder.new)) result.1)
+        (NeverBegins choice.now (path_of choice.now) failure (F.paths folder.old)
+        (HasRisen (F.failed_calls folder.old) (F.failed_calls folder.new)) result.1)
         (around R.Source W.Sink H.CsvFiles H.Accept source.old out.old host.old)
         (around R.Source W.Sink H.CsvFiles H.Accept source.new out.new host.new) result.1) }
     ensures left { LeavesPaths choice.now (path_of choice.now) (is_err result.0) result.1 (F.failed_calls folder.old) (F.failed_calls folder.new)

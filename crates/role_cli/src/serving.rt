@@ -4,10 +4,11 @@ ghost use Rattle.std.specs.Io.KnownBytes.{Appends};
 ghost use Rattle.sqlite.specs.Held.{state};
 ghost use Rattle.rbac_sets.specs.Stream.{HasRisen};
 ghost use Rattle.role_cli.specs.Environment.{HasFailed};
-ghost use Rattle.role_cli.specs.ServedConnections.{AllServed, EndsBy, IsServedOver, IsServedSomehow, ServesConnections, is_closing, status_in};
+ghost use Rattle.role_cli.specs.ServedConnections.{AllServed, EndsBy, IsServedOver, ServesConnections, is_closing, status_in};
 ghost use Rattle.role_cli.specs.ErrorOutput.{IsLineOf, SaysSome};
 ghost use Rattle.role_cli.specs.Work.{FailsToServe, ServesAll, WritesPart, listening_line};
 ghost use Rattle.role_cli.specs.declared.failure.Failure.{Failure};
+ghost use Rattle.role_cli.specs.private.SomeConnection.{IsServedSomehow};
 
 use crate::failure::Failure;
 use crate::host::Accept;

@@ -8,7 +8,8 @@ ghost use Rattle.role_lines.specs.LineAnswer.{AnswersLine, AnswersRequest, Refus
 ghost use Rattle.role_lines.specs.Outcome.{accepted_text};
 ghost use Rattle.role_lines.specs.Revision.{next_revision};
 
-use admin_mgr::{Report, State};
+use crate::indexed::IndexedState;
+use admin_mgr::Report;
 use rbac_sets::{Command, Refusal};
 use review_mgr::{Query, ask};
 use role_json::{Request, Verdict, read_request};
@@ -20,7 +21,7 @@ pub const LAST_REVISION: u64 = 18_446_744_073_709_551_615;
 // The verdict on a line. What it asks for was done then.
 pub(crate) fn line_verdict(
     alloc: Global,
-    state: &mut State,
+    state: &mut IndexedState,
     revision: &mut u64,
     line: &[u8],
 ) -> Result<Verdict, Refusal>
@@ -36,7 +37,7 @@ pub(crate) fn line_verdict(
 // The verdict on a request.
 fn request_verdict(
     alloc: Global,
-    state: &mut State,
+    state: &mut IndexedState,
     revision: &mut u64,
     request: &Request,
 ) -> Result<Verdict, Refusal>
@@ -63,7 +64,7 @@ fn refusal_verdict(refusal: Refusal) -> Result<Verdict, Refusal>
 // Does the command of a request, or answers its question.
 fn perform(
     alloc: Global,
-    state: &mut State,
+    state: &mut IndexedState,
     revision: &mut u64,
     request: &Request,
 ) -> Result<Verdict, Refusal>
@@ -77,18 +78,23 @@ fn perform(
 }
 
 // Answers a question.
-fn question(alloc: Global, state: &State, revision: &u64, query: &Query) -> Result<Verdict, Refusal>
+fn question(
+    alloc: Global,
+    state: &IndexedState,
+    revision: &u64,
+    query: &Query,
+) -> Result<Verdict, Refusal>
     ensures done { IfOk result (λ verdict. DoesRequest state.now.facts revision.now (Ask query.now) (text_of verdict) state.now.facts revision.now) }
     ensures declined { IfErr result (λ refusal. RefusesRequest state.now.facts revision.now (Ask query.now) refusal state.now.facts revision.now) }
 {
-    let answer = ask(alloc, state, query)?;
+    let answer = ask(alloc, state.state(), query)?;
     Ok(Verdict::Answered(answer))
 }
 
 // Does a command, and counts it.
 fn change(
     alloc: Global,
-    state: &mut State,
+    state: &mut IndexedState,
     revision: &mut u64,
     command: &Command,
 ) -> Result<Verdict, Refusal>
@@ -97,7 +103,7 @@ fn change(
 {
     let plan = state.plan(alloc, command)?;
     state.make_room(&plan)?;
-    let report = state.commit(plan);
+    let report = state.commit(alloc, plan);
     *revision = next_revision(*revision);
     Ok(verdict_on(command, report))
 }

@@ -5,12 +5,13 @@
 //! # Example
 //!
 //! ```
+//! use bit_tables::Seed;
 //! use role_lines::MemoryOffice;
 //! use std::test::Fail;
 //!
 //! fn a_line_is_answered(rt: HostRuntime) -> Result<(), Fail> {
 //!     let alloc = rt.alloc();
-//!     let mut office = MemoryOffice::empty(alloc);
+//!     let mut office = MemoryOffice::empty(alloc, Seed::new(1, 2));
 //!     office.answer(alloc, br#"{"fn":"addUser","user":"ann"}"#)?;
 //!     assert!(rt; office.kept_answer() == br#"{"ok":true}"#.as_slice());
 //!     assert_eq!(rt; office.revision(), 1);
@@ -25,5 +26,6 @@ pub use rows::{RowParts, row_at, row_of, table_numbered};
 
 mod answering;
 pub mod deciding;
+pub mod indexed;
 pub mod office;
 pub mod rows;

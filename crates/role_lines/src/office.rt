@@ -1,12 +1,15 @@
 //! An office in memory.
-ghost use Rattle.std.specs.Prelude.{◌≡◌, IfErr, OnOk};
+ghost use Rattle.std.specs.Prelude.{◌≡◌, IfOk, IfErr, OnOk};
 ghost use Rattle.admin_mgr.specs.RbacState.{empty_state};
 ghost use Rattle.admin_mgr.specs.RowChecks.{IsStateOf, RefusesRows};
+ghost use Rattle.role_lines.specs.Decision.{Decides, Refuses};
 ghost use Rattle.role_lines.specs.LineAnswer.{StopsAt};
 ghost use Rattle.role_lines.specs.OfficeInMemory.{after, starting, with_row, without_rows};
 
 use crate::answering::line_verdict;
+use crate::indexed::IndexedState;
 use admin_mgr::State;
+use bit_tables::Seed;
 use rbac_sets::{Refusal, Row};
 use role_json::answer_text;
 use std::alloc::Global;
@@ -16,7 +19,8 @@ use std::mem::replace;
 /// An office in memory: its state, how many commands it has accepted, its last answer, and rows for the next load.
 #[derive(Drop)]
 pub struct MemoryOffice {
-    state: State,
+    state: IndexedState,
+    seed: Seed,
     revision: u64,
     kept: String,
     rows: Vec<Row>,
@@ -35,11 +39,14 @@ impl Model for MemoryOffice {
 
 impl MemoryOffice {
     /// A new and empty office of version 2. It doesn't allocate.
-    pub fn empty(alloc: Global) -> MemoryOffice
+    ///
+    /// The seed should be random: names are hashed by it for decisions.
+    pub fn empty(alloc: Global, seed: Seed) -> MemoryOffice
         ensures { result ≡ starting (empty_state 2) 0 }
     {
         MemoryOffice {
-            state: State::empty(alloc),
+            state: IndexedState::empty(alloc, seed),
+            seed,
             revision: 0,
             kept: String::new(alloc),
             rows: Vec::new(alloc),
@@ -50,7 +57,21 @@ impl MemoryOffice {
     pub fn state(&self) -> &State
         ensures { result.now.facts ≡ self.now.facts }
     {
-        &self.state
+        self.state.state()
+    }
+
+    /// CheckAccess: whether the session may do the operation on the object. The three may be any bytes.
+    ///
+    /// It doesn't allocate.
+    ///
+    /// # Errors
+    ///
+    /// Those of `decide`.
+    pub fn decide(&self, session: &[u8], operation: &[u8], object: &[u8]) -> Result<bool, Refusal>
+        ensures decided { IfOk result (λ access. Decides self.now.facts session.now operation.now object.now access) }
+        ensures refused { IfErr result (λ refusal. Refuses self.now.facts session.now operation.now object.now refusal) }
+    {
+        self.state.decide(session, operation, object)
     }
 
     /// How many commands the office has accepted.
@@ -109,7 +130,7 @@ impl MemoryOffice {
         ensures err { IfErr result (λ refusal. (self.new ≡ without_rows self.old) × RefusesRows 2 self.old.rows refusal) }
     {
         let rows = replace(&mut self.rows, Vec::new(alloc));
-        let state = State::of_rows(alloc, 2, rows)?;
+        let state = IndexedState::of_rows(alloc, self.seed, 2, rows)?;
         self.state = state;
         self.revision = revision;
         self.kept = String::new(alloc);

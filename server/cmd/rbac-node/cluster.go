@@ -12,6 +12,7 @@ import (
 	"syscall"
 	"time"
 
+	"github.com/prometheus/client_golang/prometheus"
 	"go.etcd.io/etcd/clientv3"
 	"go.etcd.io/etcd/etcdserver/etcdserverpb"
 	"go.uber.org/zap"
@@ -197,8 +198,7 @@ func (s *clusterSettings) serveNode(ctx context.Context, shared *ledger.Ledger, 
 	if s.common.refused == "" {
 		s.common.refused = filepath.Join(s.Data, "refused")
 	}
-	registry := &metrics.Registry{}
-	registry.AddProcess(version, sources, proved)
+	registry := metrics.New(version, sources, proved)
 	f, err := front.New(ctx, s.common.frontOptions(addresses, events, registry))
 	if err != nil {
 		return err
@@ -220,7 +220,7 @@ func (s *clusterSettings) serveNode(ctx context.Context, shared *ledger.Ledger, 
 }
 
 // answer answers clients and other nodes until the context ends or something fails.
-func (s *clusterSettings) answer(ctx context.Context, f *front.Front, n *node.Node, events *logs.Logger, all *metrics.Registry) error {
+func (s *clusterSettings) answer(ctx context.Context, f *front.Front, n *node.Node, events *logs.Logger, all *prometheus.Registry) error {
 	listener, err := web.Listen(s.peer, s.peerTLS)
 	if err != nil {
 		return err
@@ -236,10 +236,10 @@ func (s *clusterSettings) answer(ctx context.Context, f *front.Front, n *node.No
 }
 
 // peerHandler serves other nodes and monitoring.
-func peerHandler(n *node.Node, registry *metrics.Registry) http.Handler {
+func peerHandler(n *node.Node, registry *prometheus.Registry) http.Handler {
 	mux := http.NewServeMux()
 	mux.Handle("/snapshot", n.Snapshots())
 	mux.HandleFunc("/healthz", n.ServeHealth)
-	mux.Handle("/metrics", registry)
+	mux.Handle("/metrics", metrics.Handler(registry))
 	return mux
 }

@@ -5,6 +5,7 @@ import (
 	"errors"
 	"os"
 
+	"rbac-node/internal/feed"
 	"rbac-node/internal/front"
 	"rbac-node/internal/logs"
 	"rbac-node/internal/metrics"
@@ -30,8 +31,7 @@ func (s *settings) serveOne(ctx context.Context) error {
 	if s.refused == "" {
 		s.refused = s.office + ".refused"
 	}
-	log, registry := logs.New(os.Stderr), &metrics.Registry{}
-	registry.AddProcess(version, sources, proved)
+	log, registry := logs.New(os.Stderr), metrics.New(version, sources, proved)
 	options := s.frontOptions(addresses, log, registry)
 	options.IsHostChecked, options.HasMetrics = true, true
 	f, err := front.New(ctx, options)
@@ -41,7 +41,7 @@ func (s *settings) serveOne(ctx context.Context) error {
 	defer f.Close()
 	one := single.Options{
 		File: s.office, Program: s.program, AnswerTimeout: s.answerTimeout, HangTimeout: s.hangTimeout, Reads: single.MostReads,
-		Log: log, Figures: options.Callers.Figures, IsOpen: options.IsOpen(),
+		Log: log, Figures: feed.NewFigures(registry), IsOpen: options.IsOpen(),
 		SessionAge: s.sessionAge, SessionIdle: s.sessionIdle,
 	}
 	failed := make(chan error, 1)
@@ -60,11 +60,6 @@ func (s *settings) serveOne(ctx context.Context) error {
 	if err != nil {
 		return err
 	}
-	registry.Gauge("rbac_node_ready", "1 if the office answers.", func() float64 {
-		if office.IsReady() {
-			return 1
-		}
-		return 0
-	})
+	metrics.Flag(registry, "rbac_node_ready", "1 if the office answers.", office.IsReady)
 	return answer(ctx, f, office, failed, log, func(context.Context) {})
 }

@@ -7,8 +7,9 @@ import (
 	"path/filepath"
 	"time"
 
+	"github.com/prometheus/client_golang/prometheus"
+
 	"rbac-node/internal/logs"
-	"rbac-node/internal/metrics"
 	"rbac-node/internal/record"
 	"rbac-node/internal/recorded"
 	"rbac-node/internal/single"
@@ -22,7 +23,7 @@ type recordSettings struct {
 }
 
 // addRecord makes an office keep a record, unless the command line says that it shouldn't.
-func (s *settings) addRecord(office *single.Options, registry *metrics.Registry) error {
+func (s *settings) addRecord(office *single.Options, registry prometheus.Registerer) error {
 	if s.record.isOff {
 		folder := s.office + ".record"
 		if _, err := os.Stat(filepath.Join(folder, "record.db")); err == nil {
@@ -50,7 +51,7 @@ func (s *settings) addRecord(office *single.Options, registry *metrics.Registry)
 }
 
 // followRecord returns the record of a node, with its folder, the office in use and the entries of a part.
-func (s *settings) followRecord(data, office string, partEntries int64, log *logs.Logger, registry *metrics.Registry) recorded.Follower {
+func (s *settings) followRecord(data, office string, partEntries int64, log *logs.Logger, registry prometheus.Registerer) recorded.Follower {
 	return record.NewFollower(record.Options{
 		Office: office, Program: s.program, Dir: record.DirIn(data), HangTimeout: s.hangTimeout, PartEntries: partEntries, Log: log,
 		Metrics: registry,

@@ -54,7 +54,7 @@ func (c *restoreCommand) restore(ctx context.Context) error {
 	}
 	c.Prepare = func(ctx context.Context, office string) (string, error) {
 		t := record.Tool{Office: office, Program: c.program, HangTimeout: toolHangTimeout, Out: io.Discard, Err: os.Stderr, Log: logs.New(os.Stderr)}
-		return t.Restore(ctx, c.by, reason, !c.isUnrecorded)
+		return t.Restore(ctx, filepath.Base(c.Backup), c.by, reason, !c.isUnrecorded)
 	}
 	if c.unit == "" {
 		return restoring.Run(ctx, c.Options)

@@ -10,12 +10,11 @@ import (
 	"strings"
 	"time"
 
+	"github.com/prometheus/client_golang/prometheus"
+
 	"rbac-node/internal/callers"
-	"rbac-node/internal/feed"
 	"rbac-node/internal/front"
 	"rbac-node/internal/logs"
-	"rbac-node/internal/metrics"
-	"rbac-node/internal/single"
 	"rbac-node/internal/web"
 )
 
@@ -123,16 +122,13 @@ func (s *settings) listenOr(other string) ([]front.Address, error) {
 }
 
 // frontOptions returns the options of the front.
-func (s *settings) frontOptions(addresses []front.Address, log *logs.Logger, registry *metrics.Registry) front.Options {
+func (s *settings) frontOptions(addresses []front.Address, log *logs.Logger, registry *prometheus.Registry) front.Options {
 	options := front.Options{
 		Addresses: addresses, TLS: s.tls, Connections: s.connections, CallerRequests: s.callerRequests, AnswerTimeout: s.answerTimeout, Refused: s.refused,
 		PublicURL:      strings.TrimSuffix(s.publicURL, "/"),
 		DecisionsShare: s.decisionsShare, DecisionsFile: s.decisionsFile,
 		Log: log, Metrics: registry, Hangups: s.hangups,
-		Callers: callers.Options{
-			Files: s.callers, Program: s.program, AnswerTimeout: s.answerTimeout, HangTimeout: s.hangTimeout, Reads: single.MostReads,
-			Log: log, Figures: feed.NewFigures(registry),
-		},
+		Callers: callers.Options{Files: s.callers, Log: log},
 	}
 	options.Callers.Authority = s.tls.CA
 	if s.origins != "" {
@@ -143,12 +139,12 @@ func (s *settings) frontOptions(addresses []front.Address, log *logs.Logger, reg
 
 // checkCallers checks the files of the callers, and those of TLS.
 func (s *settings) checkCallers(ctx context.Context) error {
-	return front.Check(ctx, s.frontOptions(nil, logs.New(os.Stderr), &metrics.Registry{}))
+	return front.Check(ctx, s.frontOptions(nil, logs.New(os.Stderr), prometheus.NewRegistry()))
 }
 
 // printGrants prints who may do what by a file of callers.
 func (s *settings) printGrants(ctx context.Context) error {
-	return front.Grants(ctx, s.frontOptions(nil, logs.New(os.Stderr), &metrics.Registry{}).Callers)
+	return front.Grants(ctx, s.frontOptions(nil, logs.New(os.Stderr), prometheus.NewRegistry()).Callers)
 }
 
 // socketOf returns where the front of an office listens if nothing else is said: in the folder that systemd has made for it, or

@@ -13,8 +13,10 @@ import (
 	"strings"
 	"time"
 
+	"github.com/prometheus/client_golang/prometheus"
+	"github.com/prometheus/client_golang/prometheus/promauto"
+
 	"rbac-node/internal/boottime"
-	"rbac-node/internal/metrics"
 )
 
 // A Kind is how a request is answered.
@@ -98,9 +100,7 @@ var (
 	// ForeignHost means that the request was sent to a name that isn't one of this machine.
 	ForeignHost = Refusal{Status: http.StatusMisdirectedRequest, Code: 66, Name: "ForeignHost"}
 	// Outdated means that the policy has changed since the revision that the request names.
-	Outdated = Refusal{Status: http.StatusPreconditionFailed, Code: 67, Name: "Outdated"}
-	// Upgrading means that a node has an earlier program, which can't judge this: it can be done when all nodes have a later one.
-	Upgrading       = Refusal{Status: http.StatusServiceUnavailable, Code: 68, Name: "Upgrading"}
+	Outdated        = Refusal{Status: http.StatusPreconditionFailed, Code: 67, Name: "Outdated"}
 	unknownFunction = Refusal{Status: http.StatusNotFound, Code: 35, Name: "UnknownFunction"}
 )
 
@@ -134,35 +134,42 @@ const MaxBodyBytes, maxFields = 65_536, 64
 type Handler struct {
 	ctx     context.Context
 	office  Office
-	answers *metrics.Counter
-	seconds *metrics.Histogram
-	// decisions counts what was denied and what was allowed.
-	decisions *metrics.Tally
+	answers *prometheus.CounterVec
+	seconds *prometheus.HistogramVec
+	denied  prometheus.Counter
+	allowed prometheus.Counter
 	// LogDecision may be nil.
 	LogDecision func(d Decision)
 }
 
 // NewHandler returns a handler. It answers until the context ends, also if the client has ended its side of the connection, as
 // `rbac serve` does: so requests have the context of the handler.
-func NewHandler(ctx context.Context, office Office, registry *metrics.Registry) *Handler {
-	bounds := make([]float64, 15)
-	for i := range bounds {
-		bounds[i] = 0.0005 * float64(int(1)<<i)
-	}
-	return &Handler{
+func NewHandler(ctx context.Context, office Office, registry prometheus.Registerer) *Handler {
+	make := promauto.With(registry)
+	decisions := make.NewCounterVec(prometheus.CounterOpts{Name: "rbac_node_decisions_total", Help: "Decisions about access."}, []string{"decision"})
+	h := &Handler{
 		ctx: ctx, office: office,
-		answers:   registry.Counter("rbac_node_answers_total", "Requests that were answered.", "kind", "status"),
-		seconds:   registry.Histogram("rbac_node_answer_seconds", "How long requests took.", "kind", bounds),
-		decisions: registry.Tally("rbac_node_decisions_total", "Decisions about access.", "decision", "denied", "allowed"),
+		answers: make.NewCounterVec(prometheus.CounterOpts{
+			Name: "rbac_node_answers_total", Help: "Requests that were answered.",
+		}, []string{"kind", "status"}),
+		seconds: make.NewHistogramVec(prometheus.HistogramOpts{
+			Name: "rbac_node_answer_seconds", Help: "How long requests took.", Buckets: prometheus.ExponentialBuckets(0.0005, 2, 15),
+		}, []string{"kind"}),
+		denied: decisions.WithLabelValues("denied"), allowed: decisions.WithLabelValues("allowed"),
 	}
+	for _, kind := range []Kind{Command, Question} { // They are reported from the start.
+		h.answers.WithLabelValues(string(kind), strconv.Itoa(http.StatusOK))
+		h.seconds.WithLabelValues(string(kind))
+	}
+	return h
 }
 
 // A Judge decides what may be done. An error refuses it.
 type Judge interface {
 	// MayAny refuses a request for a function, before a body that isn't small is read, if no call of the function may be done.
-	MayAny(ctx context.Context, function string) error
+	MayAny(function string) error
 	// May refuses a call.
-	May(ctx context.Context, call *Call) error
+	May(call *Call) error
 	// Caller returns who asks.
 	Caller() string
 }
@@ -171,9 +178,9 @@ type Judge interface {
 // request, before the client gets the answer.
 func (h *Handler) Serve(w http.ResponseWriter, r *http.Request, judge Judge, done func()) {
 	start := time.Now()
-	kind, call, err := read(r, func(function string) error { return judge.MayAny(h.ctx, function) })
+	kind, call, err := read(r, judge.MayAny)
 	if err == nil {
-		err = judge.May(h.ctx, call)
+		err = judge.May(call)
 	}
 	var answers Answers
 	var rule Rule
@@ -188,8 +195,7 @@ func (h *Handler) Serve(w http.ResponseWriter, r *http.Request, judge Judge, don
 	if err == nil && call.Function == checkAccess {
 		h.Decided(decisionOf(call, judge.Caller(), answers.Texts[0]))
 	}
-	h.answers.Add(string(kind), strconv.Itoa(status))
-	h.seconds.Observe(string(kind), time.Since(start).Seconds())
+	h.Note(kind, status, start)
 }
 
 // checkAccess is the function that decides, and Allowed what it answers if it allows something.

@@ -11,8 +11,9 @@ import (
 	"testing"
 	"time"
 
+	"github.com/prometheus/client_golang/prometheus"
+
 	"rbac-node/internal/boottime"
-	"rbac-node/internal/metrics"
 	"rbac-node/internal/office"
 )
 
@@ -31,7 +32,7 @@ func (f *fakeOffice) ServeHealth(http.ResponseWriter, *http.Request) {}
 
 // said returns all that a server answers to some bytes until it closes the connection.
 func said(t *testing.T, office Office, text string) string {
-	handler := NewHandler(context.Background(), office, &metrics.Registry{})
+	handler := NewHandler(context.Background(), office, prometheus.NewRegistry())
 	server := httptest.NewServer(http.HandlerFunc(func(w http.ResponseWriter, r *http.Request) {
 		handler.Serve(w, r, everybody{}, func() {})
 	}))
@@ -133,9 +134,9 @@ func TestRead(t *testing.T) {
 // An everybody lets all through.
 type everybody struct{}
 
-func (everybody) MayAny(context.Context, string) error { return nil }
-func (everybody) May(context.Context, *Call) error     { return nil }
-func (everybody) Caller() string                       { return "" }
+func (everybody) MayAny(string) error { return nil }
+func (everybody) May(*Call) error     { return nil }
+func (everybody) Caller() string      { return "" }
 
 // A body that isn't small isn't read if no call of the function may be done.
 func TestUnread(t *testing.T) {

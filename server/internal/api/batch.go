@@ -47,7 +47,7 @@ func parseBatchLine(line []byte) (*Call, error) {
 	if err != nil {
 		return nil, err
 	}
-	name, err := textAt(found, "fn")
+	name, err := TextAt(found, "fn")
 	if err != nil {
 		return nil, err
 	}
@@ -55,12 +55,7 @@ func parseBatchLine(line []byte) (*Call, error) {
 		return newCall(name, found)
 	}
 	call := NewOther(name)
-	for _, key := range others[name] {
-		if call.Texts[key], err = textAt(found, key); err != nil {
-			return nil, err
-		}
-	}
-	return call, nil
+	return call, call.read(others[name], found)
 }
 
 // ParseBatch reads the lines of a batch. Each has to be a request; lines without text are none.

@@ -12,7 +12,7 @@ type Decision struct {
 
 // decisionOf returns the decision that the answer to checkAccess is.
 func decisionOf(call *Call, caller string, answer []byte) Decision {
-	return DecisionOf(Decision{Caller: caller, Session: call.Texts["session"], Operation: call.Texts["operation"], Object: call.Texts["object"]}, answer)
+	return DecisionOf(Decision{Caller: caller, Session: call.Session, Operation: call.Operation, Object: call.Object}, answer)
 }
 
 // DecisionOf returns a decision with what the office has answered.
@@ -24,11 +24,11 @@ func DecisionOf(d Decision, answer []byte) Decision {
 
 // Decided counts a decision, and passes it on if decisions are logged.
 func (h *Handler) Decided(d Decision) {
-	place := 0
 	if d.IsAllowed {
-		place = 1
+		h.allowed.Inc()
+	} else {
+		h.denied.Inc()
 	}
-	h.decisions.Add(place, 1)
 	if h.LogDecision != nil {
 		h.LogDecision(d)
 	}

@@ -31,6 +31,9 @@ var others = map[string][]string{
 	Reports: nil,
 }
 
+// Placeholder is a question that costs the program little.
+const Placeholder = `{"fn":"sessionRoles","session":"-"}`
+
 // IsOther reports whether an operation is one of these.
 func IsOther(name string) bool {
 	_, is := others[name]
@@ -54,12 +57,11 @@ func Keys(name string) []string {
 	return others[name]
 }
 
-// NewOther makes a call of such an operation, for those who judge it. It has no line.
+// NewOther makes a call of such an operation, for those who judge it and for the office in this process. The program knows none: it gets
+// a question that costs it little, so that the call has its place among the commands.
 func NewOther(name string, pairs ...string) *Call {
-	call := &Call{Function: name, Kind: Question, Texts: map[string]string{}}
-	for i := 0; i+1 < len(pairs); i += 2 {
-		call.Texts[pairs[i]] = pairs[i+1]
-	}
+	call := &Call{Function: name, Kind: Question, Line: []byte(Placeholder)}
+	call.setTexts(pairs)
 	return call
 }
 
@@ -81,11 +83,9 @@ func NewCall(name string, pairs ...string) (*Call, error) {
 	if !known {
 		return nil, unknownFunction
 	}
-	call := &Call{Function: name, Kind: called.kind, Texts: make(map[string]string, len(called.keys))}
-	for i := 0; i+1 < len(pairs); i += 2 {
-		call.Texts[pairs[i]] = pairs[i+1]
-	}
-	return call, call.write(nil)
+	call := &Call{Function: name, Kind: called.kind}
+	call.setTexts(pairs)
+	return call, call.write()
 }
 
 // AppendQuoted appends a text as JSON.

@@ -43,21 +43,6 @@ func ReadBody(r *http.Request, most int64) ([]byte, error) {
 	return body, nil
 }
 
-// Fields reads an object of JSON as the office does.
-func Fields(text []byte) (map[string]json.RawMessage, error) { return fieldsOf(text) }
-
-// Text returns the text that is written as JSON.
-func Text(value json.RawMessage) (string, error) { return textOf(value) }
-
-// TextAt returns the text at a key, or a refusal that names the key.
-func TextAt(found map[string]json.RawMessage, key string) (string, error) { return textAt(found, key) }
-
-// Texts returns the texts of a list that is written as JSON.
-func Texts(value json.RawMessage) ([]string, error) { return textsOf(value) }
-
-// Items returns the values of a list that is written as JSON.
-func Items(value json.RawMessage) ([]json.RawMessage, error) { return itemsOf(value) }
-
 // RefusalText returns a refusal as the office writes it.
 func RefusalText(code int, name string) []byte {
 	return []byte(fmt.Sprintf(`{"code":%d,"error":"%s"}`, code, name))
@@ -87,18 +72,27 @@ func ValueOf(answer []byte, value any) error {
 
 // PairsOf reads the value of an answer that is a list of pairs of names, which may have thousands.
 func PairsOf(answer []byte) (pairs [][2]string, err error) {
-	const begin, end = `{"ok":true,"value":`, `}`
-	if bytes.HasPrefix(answer, []byte(begin)) && bytes.HasSuffix(answer, []byte(end)) {
-		if found, isPlain := plainPairs(answer[len(begin) : len(answer)-len(end)]); isPlain {
-			return found, nil
-		}
+	found, err := FieldsOf(answer)
+	if err != nil {
+		return nil, err
 	}
-	err = ValueOf(answer, &pairs)
-	return pairs, err
+	items, err := Items(found.At("value"))
+	if err != nil {
+		return nil, err
+	}
+	pairs = make([][2]string, len(items))
+	for i, item := range items {
+		pair, err := Texts(item)
+		if err != nil || len(pair) != 2 {
+			return nil, badRequestSince(http.StatusBadRequest, "the value is no list of pairs")
+		}
+		copy(pairs[i][:], pair)
+	}
+	return pairs, nil
 }
 
-// Note counts a request that something else has answered, and how long that took.
+// Note counts a request that was answered, and how long that took.
 func (h *Handler) Note(kind Kind, status int, start time.Time) {
-	h.answers.Add(string(kind), strconv.Itoa(status))
-	h.seconds.Observe(string(kind), time.Since(start).Seconds())
+	h.answers.WithLabelValues(string(kind), strconv.Itoa(status)).Inc()
+	h.seconds.WithLabelValues(string(kind)).Observe(time.Since(start).Seconds())
 }

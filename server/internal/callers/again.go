@@ -1,7 +1,6 @@
 package callers
 
 import (
-	"context"
 	"net/http"
 
 	"rbac-node/internal/api"
@@ -9,7 +8,7 @@ import (
 
 // Again does something while the caller of a request that is still being answered may do an operation, by the callers that are in
 // force now. A caller who is no longer known, or is another one, is refused.
-func (v *Visit) Again(ctx context.Context, r *http.Request, operation string, do func()) error {
+func (v *Visit) Again(r *http.Request, operation string, do func()) error {
 	v.guard.mutex.Lock()
 	set := v.guard.set
 	set.using++
@@ -19,7 +18,7 @@ func (v *Visit) Again(ctx context.Context, r *http.Request, operation string, do
 	if err != nil || caller != v.Caller {
 		return api.Unauthorized
 	}
-	if err := set.MayRead(ctx, caller, operation); err != nil {
+	if err := set.MayRead(caller, operation); err != nil {
 		return err
 	}
 	do()

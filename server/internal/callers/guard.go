@@ -54,19 +54,24 @@ func (g *Guard) Enter(r *http.Request) (visit *Visit, why, refused error) {
 	return &Visit{Caller: caller, guard: g, set: set}, nil, nil
 }
 
-// May reports whether the caller may do all of some calls.
-func (v *Visit) May(ctx context.Context, calls ...*api.Call) error {
-	return v.set.May(ctx, v.Caller, calls...)
-}
+// Name returns the name of the caller.
+func (v *Visit) Name() string { return v.Caller }
+
+// May refuses the caller if it may not do all of some calls.
+func (v *Visit) May(calls ...*api.Call) error { return v.set.May(v.Caller, calls...) }
 
 // MayAny refuses the caller if it has none of some operations, in no scope.
-func (v *Visit) MayAny(ctx context.Context, operations ...string) error {
-	return v.set.MayAny(ctx, v.Caller, operations...)
-}
+func (v *Visit) MayAny(operations ...string) error { return v.set.MayAny(v.Caller, operations...) }
 
-// MayRead reports whether the caller may do an operation that isn't a function of the office.
-func (v *Visit) MayRead(ctx context.Context, operation string) error {
-	return v.set.MayRead(ctx, v.Caller, operation)
+// MayRead refuses the caller if it may not do an operation that isn't a function of the office.
+func (v *Visit) MayRead(operation string) error { return v.set.MayRead(v.Caller, operation) }
+
+// Rights returns what the caller may do, a grant for each scope.
+func (v *Visit) Rights() ([]Grant, error) {
+	if !v.set.names[v.Caller] {
+		return nil, nil
+	}
+	return v.set.grantsOf(v.Caller)
 }
 
 // Done says that the office has nothing more to do for the request. Other callers may then come into force.
@@ -140,13 +145,6 @@ func (g *Guard) Knows(r *http.Request) bool {
 	defer g.leave(set)
 	_, err := set.identify(r)
 	return err == nil
-}
-
-// Why returns why the office of the callers gives no answer now, or an empty text.
-func (g *Guard) Why() string {
-	g.mutex.Lock()
-	defer g.mutex.Unlock()
-	return g.set.feed.Why()
 }
 
 // Authority returns the authority of the certificates of callers.

@@ -10,6 +10,8 @@ import (
 	"testing"
 	"time"
 
+	"rbac/clients/go/rbacoffice"
+
 	"rbac-node/internal/api"
 )
 
@@ -59,12 +61,12 @@ func TestReplace(t *testing.T) {
 		if err != nil {
 			t.Fatal(err)
 		}
-		if err := visit.May(context.Background(), call); err != want {
+		if err := visit.May(call); err != want {
 			t.Errorf("%s, by the new callers: %v", token, err)
 		}
 		visit.Leave()
 	}
-	if err := old.May(context.Background(), call); err != nil {
+	if err := old.May(call); err != nil {
 		t.Errorf("a visit of the old callers: %v", err)
 	}
 	note("left")
@@ -106,7 +108,14 @@ func TestReplaceThatTakesTooLong(t *testing.T) {
 		t.Error(err)
 	}
 	visit.Leave()
-	<-sets[0].ended
+	for end := time.Now().Add(20 * time.Second); ; time.Sleep(time.Millisecond) {
+		if _, err := sets[0].office.Revision(); errors.Is(err, rbacoffice.ErrClosed) {
+			return
+		}
+		if time.Now().After(end) {
+			t.Fatal("the office of the earlier callers isn't freed")
+		}
+	}
 }
 
 func TestAtOnce(t *testing.T) {
@@ -169,7 +178,7 @@ func TestManyReplaces(t *testing.T) {
 				}
 				visit, _, err := g.Enter(requestOf("a"))
 				if err == nil {
-					err = visit.May(context.Background(), call)
+					err = visit.May(call)
 					visit.Leave()
 				}
 				if err != nil {

@@ -103,7 +103,7 @@ func kindOfKey(key string) string {
 func groupsOf(call *api.Call) (groups [][]string) {
 	user := ""
 	for _, key := range api.Keys(call.Function) {
-		name := call.Texts[key]
+		name := call.Text(key)
 		switch {
 		case key == "roles" && len(call.Roles) == 0:
 			return nil // Nothing says to which roles such a call is confined.

@@ -6,7 +6,6 @@ import (
 	"crypto/sha256"
 	"crypto/x509"
 	"encoding/json"
-	"errors"
 	"fmt"
 	"os"
 	"sort"
@@ -14,19 +13,15 @@ import (
 	"sync"
 	"time"
 
+	"rbac/clients/go/rbacoffice"
+
 	"rbac-node/internal/api"
-	"rbac-node/internal/feed"
 	"rbac-node/internal/logs"
-	replays "rbac-node/internal/office"
 	"rbac-node/internal/web"
 )
 
-const (
-	// mostCallers is how many callers there may be: the office has no more sessions.
-	mostCallers = 1000
-	// opening is how long the office of the callers may take to open.
-	opening = time.Minute
-)
+// mostCallers is how many callers there may be: the office has no more sessions.
+const mostCallers = 1000
 
 // Files are the files that are read together, and what is wanted of a JWT.
 type Files struct {
@@ -37,50 +32,33 @@ type Files struct {
 // Options are what a set of callers needs beside its files.
 type Options struct {
 	Files
-	Program string
-	// AnswerTimeout is how long a request waits for the office of the callers, and HangTimeout how long that may answer nothing.
-	AnswerTimeout, HangTimeout time.Duration
-	Reads                      int64
-	Log                        *logs.Logger
-	Figures                    *feed.Figures
+	Log *logs.Logger
 }
 
 // A Set is what was read together: the office of the callers, and how they show who they are.
 type Set struct {
-	feed *feed.Feed
-	kept kept
+	office *rbacoffice.Office
 	// operations has those that callers have in some scope: they never change while the set is in force.
 	operations sync.Map
-	// names has the callers, and rights the operations and scopes that the office has. It would refuse to answer for others.
+	// names has the callers.
 	names     map[string]bool
-	rights    map[right]bool
 	tokens    map[[sha256.Size]byte]string
 	authority *x509.CertPool
 	verifier  verifier
-	stop      context.CancelFunc
-	ended     chan struct{}
-
-	answerTimeout time.Duration
 
 	// using is how many requests use the set, and idle is closed when a set that is no longer in force has none. See Guard.
 	using int
 	idle  chan struct{}
 }
 
-// A right is an operation in a scope.
-type right struct{ operation, scope string }
-
 // A verifier names the caller that a JWT is about.
 type verifier interface {
 	caller(token string, now time.Time) (string, error)
 }
 
-// Load reads all files. The set has a child process until it is closed.
+// Load reads all files. The set has to be closed.
 func Load(ctx context.Context, options Options) (*Set, error) {
-	s := &Set{
-		answerTimeout: options.AnswerTimeout, names: map[string]bool{}, rights: map[right]bool{},
-		ended: make(chan struct{}), idle: make(chan struct{}), kept: kept{most: mostKept, answers: map[question]bool{}},
-	}
+	s := &Set{names: map[string]bool{}, idle: make(chan struct{})}
 	var err error
 	if s.tokens, err = readTokens(options.Tokens); err != nil {
 		return nil, err
@@ -95,7 +73,7 @@ func Load(ctx context.Context, options Options) (*Set, error) {
 	if err != nil {
 		return nil, err
 	}
-	if err := s.open(ctx, options, lines); err != nil {
+	if err := s.open(ctx, options.Callers, lines); err != nil {
 		return nil, err
 	}
 	return s, nil
@@ -134,7 +112,7 @@ func (s *Set) readLines(path string) (lines []line, err error) {
 
 // read notes what a line says, or reports why it has no place in a file of callers.
 func (s *Set) read(call *api.Call) error {
-	text := func(key string) string { return call.Texts[key] }
+	text := func(key string) string { return call.Text(key) }
 	switch name := call.Function; {
 	case call.Kind != api.Command, name == api.Importer, strings.Contains(name, "Session"), strings.Contains(name, "Dsd"),
 		strings.HasSuffix(name, "ActiveRole"):
@@ -147,52 +125,49 @@ func (s *Set) read(call *api.Call) error {
 	case name == "addPermObj":
 		return checkScope(text("object"))
 	case name == "addPermission":
-		s.rights[right{text("operation"), text("object")}] = true
 		return checkRight(text("operation"), text("object"))
 	}
 	return nil
 }
 
-// open starts the office of the callers, and makes a session for each of them.
-func (s *Set) open(ctx context.Context, options Options, lines []line) error {
-	// There is always a first line, and it comes back when the office is open.
-	first := [][]byte{[]byte(`{"fn":"ssdRoleSets"}`)}
-	for _, one := range lines {
-		first = append(first, one.text)
-	}
-	opened, err := feed.Open(ctx, feed.Options{
-		Name: "callers", First: first, Reads: options.Reads, Log: options.Log, Figures: options.Figures,
-		Start: func() (*replays.Replay, error) {
-			return replays.Start(options.Program, "--memory", options.HangTimeout)
-		},
-	})
-	refused := (*feed.RefusedError)(nil)
-	if errors.As(err, &refused) && refused.Index > 0 {
-		return fmt.Errorf("%s:%d: %s", options.Callers, lines[refused.Index-1].number, refused.Answer)
-	}
-	if err != nil {
+// open makes the office of the callers, with a session for each of them.
+func (s *Set) open(ctx context.Context, path string, lines []line) (err error) {
+	if s.office, err = rbacoffice.Open(); err != nil {
 		return fmt.Errorf("callers: %w", err)
 	}
-	life, stop := context.WithCancel(context.Background())
-	s.feed, s.stop = opened, stop
-	go func() {
-		defer close(s.ended)
-		_ = opened.Run(life) // It ends when the set is closed.
-	}()
-	within, cancel := context.WithTimeout(ctx, opening)
-	defer cancel()
-	if err := s.makeSessions(within, options.Callers); err != nil {
+	if err = s.fill(ctx, path, lines); err == nil {
+		err = s.makeSessions(ctx, path)
+	}
+	if err != nil {
 		s.Close()
-		return err
+	}
+	return err
+}
+
+// fill does the lines of the file of callers.
+func (s *Set) fill(ctx context.Context, path string, lines []line) error {
+	for _, one := range lines {
+		answer, err := s.answer(ctx, one.text)
+		if err != nil {
+			return fmt.Errorf("callers: %w", err)
+		}
+		if !api.IsAccepted(answer) {
+			return fmt.Errorf("%s:%d: %s", path, one.number, answer)
+		}
 	}
 	return nil
 }
 
-// Close ends the child process.
-func (s *Set) Close() {
-	s.stop()
-	<-s.ended
+// answer returns the answer of the office of the callers to a line, unless the context has ended.
+func (s *Set) answer(ctx context.Context, line []byte) ([]byte, error) {
+	if ctx.Err() != nil {
+		return nil, ctx.Err()
+	}
+	return s.office.Answer(line)
 }
+
+// Close frees the office of the callers.
+func (s *Set) Close() { s.office.Close() }
 
 // Count returns how many callers there are.
 func (s *Set) Count() int { return len(s.names) }
@@ -209,21 +184,18 @@ func (s *Set) callerNames() (names []string) {
 // makeSessions gives each caller a session of all its roles. A locked caller gets none, and so may do nothing.
 func (s *Set) makeSessions(ctx context.Context, path string) error {
 	for _, name := range s.callerNames() {
-		roles, err := s.feed.Ask(ctx, lineOf("assignedRoles", "user", name))
+		roles, err := s.answer(ctx, lineOf("assignedRoles", "user", name))
 		if err != nil {
 			return fmt.Errorf("%s: the roles of %s: %w", path, name, err)
 		}
-		session := fmt.Sprintf(`{"fn":"createSession","user":%s,"session":%s,"roles":%s}`, quote(name), quote(name), valueOf(roles[0]))
-		answers, err := s.feed.Ask(ctx, []byte(session))
+		session := fmt.Sprintf(`{"fn":"createSession","user":%s,"session":%s,"roles":%s}`, quote(name), quote(name), valueOf(roles))
+		answer, err := s.answer(ctx, []byte(session))
 		if err != nil {
 			return fmt.Errorf("%s: the session of %s: %w", path, name, err)
 		}
 		const locked = 37
-		switch {
-		case feed.IsAccepted(answers[0]):
-			s.feed.AlsoFirst([]byte(session))
-		case codeOf(answers[0]) != locked:
-			return fmt.Errorf("%s: the session of %s: %s", path, name, answers[0])
+		if code, _ := api.CodeOf(answer); code != 0 && code != locked {
+			return fmt.Errorf("%s: the session of %s: %s", path, name, answer)
 		}
 	}
 	return nil
@@ -249,12 +221,6 @@ func valueOf(answer []byte) json.RawMessage {
 	return found.Value
 }
 
-func codeOf(answer []byte) int {
-	var found struct{ Code int }
-	_ = json.Unmarshal(answer, &found)
-	return found.Code
-}
-
 // A Grant is what a caller may do in a scope.
 type Grant struct {
 	Caller, Scope string
@@ -263,16 +229,4 @@ type Grant struct {
 
 func (g Grant) String() string {
 	return g.Caller + "\t" + g.Scope + "\t" + strings.Join(g.Functions, " ")
-}
-
-// Grants returns who may do what, by the office of the callers.
-func (s *Set) Grants(ctx context.Context) (grants []Grant, err error) {
-	for _, name := range s.callerNames() {
-		own, err := s.grantsOf(ctx, name)
-		if err != nil {
-			return nil, err
-		}
-		grants = append(grants, own...)
-	}
-	return grants, nil
 }

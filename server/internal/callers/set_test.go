@@ -6,23 +6,23 @@ import (
 	"fmt"
 	"math/rand"
 	"os"
+	"os/exec"
 	"path/filepath"
 	"strings"
 	"testing"
 	"time"
 
+	"rbac/clients/go/rbacoffice"
+
 	"rbac-node/internal/api"
-	"rbac-node/internal/feed"
 	"rbac-node/internal/logs"
-	"rbac-node/internal/metrics"
 	"rbac-node/internal/programtest"
 )
 
 // optionsOf returns the options of a file of callers with these lines.
 func optionsOf(t *testing.T, lines ...string) Options {
 	return Options{
-		Files: Files{Callers: write(t, "callers.jsonl", strings.Join(lines, "\n")+"\n")}, Program: programtest.Path(t), AnswerTimeout: time.Minute,
-		HangTimeout: time.Minute, Reads: 1 << 40, Log: logs.New(&bytes.Buffer{}), Figures: feed.NewFigures(&metrics.Registry{}),
+		Files: Files{Callers: write(t, "callers.jsonl", strings.Join(lines, "\n")+"\n")}, Log: logs.New(&bytes.Buffer{}),
 	}
 }
 
@@ -44,6 +44,9 @@ func load(t *testing.T, options Options) *Set {
 	t.Cleanup(s.Close)
 	return s
 }
+
+// A right is an operation in a scope.
+type right struct{ operation, scope string }
 
 // lineFor returns a request line of texts.
 func lineFor(function string, pairs ...string) string { return string(lineOf(function, pairs...)) }
@@ -138,13 +141,13 @@ func TestMay(t *testing.T) {
 			for _, line := range test.lines {
 				calls = append(calls, callOf(t, line))
 			}
-			err := s.May(context.Background(), test.caller, calls...)
+			err := s.May(test.caller, calls...)
 			if test.allowed && err != nil || !test.allowed && err != error(api.Forbidden) {
 				t.Errorf("%v", err)
 			}
 		})
 	}
-	if s.MayRead(context.Background(), "token:admin", Metrics) != nil || s.MayRead(context.Background(), "token:desk", Metrics) == nil {
+	if s.MayRead("token:admin", Metrics) != nil || s.MayRead("token:desk", Metrics) == nil {
 		t.Error("metrics")
 	}
 }
@@ -201,28 +204,11 @@ func TestLoad(t *testing.T) {
 	}
 }
 
-// TestReplayOfCallers kills the office of the callers, and starts it anew again and again.
-func TestReplayOfCallers(t *testing.T) {
-	options := optionsOf(t, policy(map[string][]right{"token:a": {{"addUser", "user ann"}}})...)
-	options.Reads = 60
-	s := load(t, options)
-	s.kept.most = 0
-	yes, no := callOf(t, `{"fn":"addUser","user":"ann"}`), callOf(t, `{"fn":"addUser","user":"bob"}`)
-	for i := 0; i < 300; i++ {
-		if err := s.May(context.Background(), "token:a", yes); err != nil {
-			t.Fatal(err)
-		}
-		if err := s.May(context.Background(), "token:a", no); err != error(api.Forbidden) {
-			t.Fatal(err)
-		}
-	}
-}
-
 func TestGrants(t *testing.T) {
 	s := load(t, optionsOf(t, append(policy(map[string][]right{
 		"token:a": {{"addUser", "user ann"}, {"deleteUser", "user ann"}, {"addRole", "office"}}, "cert:b": {},
 	}), `{"fn":"addUser","user":"unix:0"}`, `{"fn":"lockUserAccount","user":"unix:0"}`)...))
-	grants, err := s.Grants(context.Background())
+	grants, err := s.Grants()
 	if given := fmt.Sprint(grants); err != nil ||
 		given != "[cert:b\t-\t token:a\toffice\taddRole token:a\tuser ann\taddUser deleteUser unix:0\t-\t]" {
 		t.Errorf("%v, %v", given, err)
@@ -359,11 +345,10 @@ func TestRandomOffices(t *testing.T) {
 	for i := 0; i < offices; i++ {
 		m, lines := randomModel(rng)
 		s := load(t, optionsOf(t, lines...))
-		s.kept.most = 100 * (i % 2) // Of every other office no answer is kept, and of the others only some.
 		for k := 0; k < admissions; k++ {
 			caller, function := fmt.Sprint("token:", rng.Intn(13)), pick(rng, functions)
 			user, roles, objects, isEmptyList, line := randomCall(rng, function)
-			err := s.May(context.Background(), caller, callOf(t, line))
+			err := s.May(caller, callOf(t, line))
 			want := m.allows(caller, function, user, roles, objects, isEmptyList)
 			if want && err != nil || !want && err != error(api.Forbidden) {
 				t.Fatalf("%s, %s: %v and not %v", caller, line, err, want)
@@ -375,6 +360,43 @@ func TestRandomOffices(t *testing.T) {
 	}
 	if t.Logf("%d of %d are allowed", allowed, offices*admissions); allowed < offices*admissions/100 {
 		t.Error("too few are allowed")
+	}
+}
+
+// TestProgramAnswersAlike compares the answers of the office in this process with those of the program, to the lines of random offices and to
+// random calls, most of which are refused.
+func TestProgramAnswersAlike(t *testing.T) {
+	const offices, calls = 10, 500
+	seed := time.Now().UnixNano()
+	t.Logf("seed %d", seed)
+	rng := rand.New(rand.NewSource(seed))
+	functions := api.Functions()
+	for i := 0; i < offices; i++ {
+		_, lines := randomModel(rng)
+		for k := 0; k < calls; k++ {
+			_, _, _, _, line := randomCall(rng, pick(rng, functions))
+			lines = append(lines, line)
+		}
+		command := exec.Command(programtest.Path(t), "replay", "--memory")
+		command.Stdin = strings.NewReader(strings.Join(lines, "\n") + "\n")
+		said, err := command.Output()
+		if err != nil {
+			t.Fatal(err)
+		}
+		wanted := strings.Split(strings.TrimSuffix(string(said), "\n"), "\n")
+		if len(wanted) != len(lines) {
+			t.Fatalf("%d answers to %d lines", len(wanted), len(lines))
+		}
+		office, err := rbacoffice.Open()
+		if err != nil {
+			t.Fatal(err)
+		}
+		for k, line := range lines {
+			if answer, err := office.Answer([]byte(line)); err != nil || string(answer) != wanted[k] {
+				t.Fatalf("%s: %s, %v and not %s", line, answer, err, wanted[k])
+			}
+		}
+		office.Close()
 	}
 }
 

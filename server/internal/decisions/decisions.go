@@ -9,9 +9,11 @@ import (
 	"syscall"
 	"time"
 
+	"github.com/prometheus/client_golang/prometheus"
+	"github.com/prometheus/client_golang/prometheus/promauto"
+
 	"rbac-node/internal/api"
 	"rbac-node/internal/logs"
-	"rbac-node/internal/metrics"
 	"rbac-node/internal/state"
 )
 
@@ -23,7 +25,7 @@ type Log struct {
 	share   float64
 	out     *logs.Logger
 	waiting chan entry
-	lost    *metrics.Counter
+	lost    prometheus.Counter
 	ends    chan struct{}
 	ended   chan struct{}
 }
@@ -35,7 +37,7 @@ type entry struct {
 }
 
 // New returns a log of a share of all decisions, from 0 to 1: in a file, or among the lines of another log if none is named.
-func New(share float64, file string, other *logs.Logger, registry *metrics.Registry) (*Log, error) {
+func New(share float64, file string, other *logs.Logger, registry prometheus.Registerer) (*Log, error) {
 	l := &Log{share: share, out: other, waiting: make(chan entry, mostWaiting), ends: make(chan struct{}), ended: make(chan struct{})}
 	if file != "" {
 		opened := &reopened{path: file}
@@ -44,7 +46,9 @@ func New(share float64, file string, other *logs.Logger, registry *metrics.Regis
 		}
 		l.out = logs.New(opened)
 	}
-	l.lost = registry.Counter("rbac_node_decisions_unlogged_total", "Decisions that were to be logged, and were too many at once.")
+	l.lost = promauto.With(registry).NewCounter(prometheus.CounterOpts{
+		Name: "rbac_node_decisions_unlogged_total", Help: "Decisions that were to be logged, and were too many at once.",
+	})
 	go l.run()
 	return l, nil
 }
@@ -57,7 +61,7 @@ func (l *Log) Note(d api.Decision) {
 	select {
 	case l.waiting <- entry{d, time.Now()}:
 	default:
-		l.lost.Add()
+		l.lost.Inc()
 	}
 }
 

@@ -12,15 +12,16 @@ import (
 	"testing"
 	"time"
 
+	"github.com/prometheus/client_golang/prometheus"
+
 	"rbac-node/internal/api"
 	"rbac-node/internal/logs"
-	"rbac-node/internal/metrics"
 	"rbac-node/internal/state"
 )
 
 func open(t testing.TB, share float64, file string, out io.Writer) *Log {
 	t.Helper()
-	l, err := New(share, file, logs.New(out), &metrics.Registry{})
+	l, err := New(share, file, logs.New(out), prometheus.NewRegistry())
 	if err != nil {
 		t.Fatal(err)
 	}
@@ -143,7 +144,7 @@ func TestMoved(t *testing.T) {
 	if err := os.Symlink(path, filepath.Join(dir, "link")); err != nil {
 		t.Fatal(err)
 	}
-	if _, err := New(1, filepath.Join(dir, "link"), nil, &metrics.Registry{}); err == nil {
+	if _, err := New(1, filepath.Join(dir, "link"), nil, prometheus.NewRegistry()); err == nil {
 		t.Error("a link is followed")
 	}
 }

@@ -37,7 +37,7 @@ func (e *Endpoints) evaluation(r *request) (int, error) {
 }
 
 // evaluateOne answers the evaluation that the fields of a body are.
-func (e *Endpoints) evaluateOne(r *request, fields map[string]json.RawMessage) (int, error) {
+func (e *Endpoints) evaluateOne(r *request, fields api.Fields) (int, error) {
 	asked, err := readEvaluation(fields, evaluation{})
 	if err != nil {
 		return 0, err
@@ -58,9 +58,9 @@ func (e *Endpoints) evaluateOne(r *request, fields map[string]json.RawMessage) (
 
 // evaluations answers several evaluations at one place in the order. A body without any is one evaluation.
 func (e *Endpoints) evaluations(r *request) (int, error) {
-	var fields map[string]json.RawMessage
+	var fields api.Fields
 	leave, err := e.readLarge(r, func(body []byte) (err error) {
-		fields, err = api.Fields(body)
+		fields, err = api.FieldsOf(body)
 		return err
 	})
 	defer leave()
@@ -68,7 +68,7 @@ func (e *Endpoints) evaluations(r *request) (int, error) {
 		return 0, err
 	}
 	var list []json.RawMessage
-	if value, has := fields["evaluations"]; has {
+	if value := fields.At("evaluations"); value != nil {
 		if list, err = api.Items(value); err != nil {
 			return 0, notRead("evaluations has to be a list of objects")
 		}
@@ -79,7 +79,7 @@ func (e *Endpoints) evaluations(r *request) (int, error) {
 	if len(list) > api.MaxBatchLines {
 		return 0, api.BadRequestSince(http.StatusRequestEntityTooLarge, "evaluations has at most %d of them", api.MaxBatchLines)
 	}
-	wanted, err := readSemantic(fields["options"])
+	wanted, err := readSemantic(fields.At("options"))
 	if err != nil {
 		return 0, err
 	}
@@ -147,12 +147,12 @@ func (d decision) appendTo(text []byte) []byte {
 }
 
 // readObject reads the body of a request about one thing, which is an object of JSON.
-func readObject(r *request) (map[string]json.RawMessage, error) {
+func readObject(r *request) (api.Fields, error) {
 	body, err := api.ReadBody(r.Request, api.MaxBodyBytes)
 	if err != nil {
 		return nil, err
 	}
-	return api.Fields(body)
+	return api.FieldsOf(body)
 }
 
 // readSemantic reads the options of evaluations.
@@ -164,7 +164,7 @@ func readSemantic(options json.RawMessage) (wanted semantic, err error) {
 	if err != nil {
 		return wanted, err
 	}
-	if _, has := fields["evaluations_semantic"]; !has {
+	if !fields.Has("evaluations_semantic") {
 		return wanted, nil
 	}
 	name, err := api.TextAt(fields, "evaluations_semantic")
@@ -179,14 +179,14 @@ func readSemantic(options json.RawMessage) (wanted semantic, err error) {
 }
 
 // readEvaluations reads the evaluations of a list. What one of them leaves out is taken from the body.
-func readEvaluations(fields map[string]json.RawMessage, list []json.RawMessage) ([]evaluation, error) {
+func readEvaluations(fields api.Fields, list []json.RawMessage) ([]evaluation, error) {
 	general, err := readEvaluation(fields, evaluation{})
 	if err != nil {
 		return nil, err
 	}
 	evaluations := make([]evaluation, len(list))
 	for i, one := range list {
-		fields, err := api.Fields(one)
+		fields, err := api.FieldsOf(one)
 		if err != nil {
 			return nil, err
 		}
@@ -201,20 +201,19 @@ func readEvaluations(fields map[string]json.RawMessage, list []json.RawMessage) 
 }
 
 // readEvaluation reads an evaluation. What it leaves out is taken from another one.
-func readEvaluation(fields map[string]json.RawMessage, other evaluation) (read evaluation, err error) {
+func readEvaluation(fields api.Fields, other evaluation) (read evaluation, err error) {
 	read = other
 	for name, one := range map[string]*entity{"subject": &read.subject, "resource": &read.resource} {
-		if value, has := fields[name]; has {
+		if value := fields.At(name); value != nil {
 			if *one, err = readEntity(name, value); err != nil {
 				return read, err
 			}
 		}
 	}
-	value, has := fields["action"]
-	if !has {
+	if !fields.Has("action") {
 		return read, nil
 	}
-	named, err := fieldsAt("action", value)
+	named, err := fieldsAt("action", fields.At("action"))
 	if err != nil {
 		return read, err
 	}
@@ -236,8 +235,8 @@ func readEntity(name string, value json.RawMessage) (read entity, err error) {
 }
 
 // fieldsAt returns the object at a key.
-func fieldsAt(key string, value json.RawMessage) (map[string]json.RawMessage, error) {
-	fields, err := api.Fields(value)
+func fieldsAt(key string, value json.RawMessage) (api.Fields, error) {
+	fields, err := api.FieldsOf(value)
 	if err != nil {
 		return nil, notRead("%s has to be an object", key)
 	}
@@ -245,8 +244,8 @@ func fieldsAt(key string, value json.RawMessage) (map[string]json.RawMessage, er
 }
 
 // textAt returns the text at a key of an object that is at another key.
-func textAt(above string, fields map[string]json.RawMessage, key string) (string, error) {
-	text, err := api.Text(fields[key])
+func textAt(above string, fields api.Fields, key string) (string, error) {
+	text, err := api.Text(fields.At(key))
 	if err != nil {
 		return "", notRead("%s.%s has to be a text", above, key)
 	}

@@ -50,47 +50,22 @@ func (e *Endpoints) do(r *request, rule api.Rule, lines []*api.Call) ([][]byte, 
 	if len(lines) == 0 {
 		return nil, nil
 	}
-	var queries []*query // nil for a line that the office itself answers
-	var asked []*api.Call
-	views, hasQuery := make([]view, len(lines)), false
-	for i, line := range lines {
-		queries = append(queries, nil)
-		if line.Function != api.DecideByUser {
-			asked = append(asked, line)
-			continue
+	for _, line := range lines {
+		if line.Function == api.DecideByUser && rule.IsStopped && api.NewBatch(r.kind, lines...).Kind == api.Command {
+			// Several machines don't log whether such a line is refused.
+			return nil, notRead("with stop=first a batch of commands has no %s", api.DecideByUser)
 		}
-		q := queryOf(line)
-		questions, err := e.questionsAbout(&q, &views[i])
-		if err != nil {
-			return nil, err
-		}
-		queries[i], hasQuery = &q, true
-		asked = append(asked, questions...)
 	}
-	if hasQuery && rule.IsStopped && api.NewBatch(r.kind, lines...).Kind == api.Command {
-		// The office doesn't know whether such a line is refused.
-		return nil, notRead("with stop=first a batch of commands has no %s", api.DecideByUser)
-	}
-	found, err := e.ask(r, rule, asked...)
+	answers, err := e.ask(r, rule, lines...)
 	if err != nil {
 		return nil, err
 	}
-	var answers [][]byte
-	for i := 0; len(found) > 0; i++ {
-		if queries[i] == nil {
-			answers, found = append(answers, found[0]), found[1:]
-		} else {
-			decided, err := queries[i].find(found[:askedOfUser], views[i])
-			if err != nil {
-				return nil, err
-			}
-			answers, found = append(answers, decided.text()), found[askedOfUser:]
+	for i, answer := range answers {
+		if lines[i].Function == checkAccess || lines[i].Function == api.DecideByUser {
+			e.decided(r, queryOf(lines[i]), decisionOf(answer))
 		}
-		if lines[i].Function == checkAccess || queries[i] != nil {
-			e.decided(r, queryOf(lines[i]), decisionOf(answers[i]))
-		}
-		if rule.IsStopped && !api.IsAccepted(answers[i]) {
-			break
+		if rule.IsStopped && !api.IsAccepted(answer) {
+			return answers[:i+1], nil
 		}
 	}
 	return answers, nil
@@ -98,7 +73,7 @@ func (e *Endpoints) do(r *request, rule api.Rule, lines []*api.Call) ([][]byte, 
 
 // queryOf returns what a line asks to be decided.
 func queryOf(line *api.Call) query {
-	return query{session: line.Texts["session"], user: line.Texts["user"], operation: line.Texts["operation"], object: line.Texts["object"]}
+	return query{session: line.Session, user: line.User, operation: line.Operation, object: line.Object}
 }
 
 // readStop reads from the target of a request whether a batch ends after the first line that is refused.

@@ -21,7 +21,7 @@ func (e *Endpoints) caller(r *request) (int, error) {
 	}{Open: r.visitor == nil, Rights: []right{}}
 	if r.visitor != nil {
 		value.Caller = r.visitor.Name()
-		grants, err := r.visitor.Rights(r.ctx)
+		grants, err := r.visitor.Rights()
 		if err != nil {
 			return 0, err
 		}

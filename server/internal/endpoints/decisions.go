@@ -1,7 +1,6 @@
 package endpoints
 
 import (
-	"encoding/json"
 	"net/http"
 	"strings"
 
@@ -31,11 +30,11 @@ func (q query) call() (*api.Call, error) {
 }
 
 // readQuery reads a query about what is at one of some keys, of which one has to be there.
-func readQuery(fields map[string]json.RawMessage, keys ...string) (q query, err error) {
+func readQuery(fields api.Fields, keys ...string) (q query, err error) {
 	texts := map[string]*string{"session": &q.session, "user": &q.user, "operation": &q.operation, "object": &q.object}
 	count := 0
 	for key, text := range texts {
-		if _, isThere := fields[key]; !isThere {
+		if !fields.Has(key) {
 			continue
 		}
 		if *text, err = api.TextAt(fields, key); err != nil {
@@ -64,35 +63,25 @@ func (q query) check(operation, object string) error {
 
 // decideAll decides queries of a visitor at one place in the order, if the policy is as a rule says.
 func (e *Endpoints) decideAll(r *request, rule api.Rule, queries []query) ([]decision, error) {
-	calls, views := make([]*api.Call, len(queries)), make([]view, len(queries))
-	var asked []*api.Call
+	calls, decisions := make([]*api.Call, len(queries)), make([]decision, len(queries))
 	for i := range queries {
 		var err error
 		if calls[i], err = queries[i].call(); err != nil {
 			return nil, err
 		}
-		if queries[i].user == "" {
-			asked = append(asked, calls[i])
-			continue
-		}
-		questions, err := e.questionsAbout(&queries[i], &views[i])
-		if err != nil {
-			return nil, err
-		}
-		asked = append(asked, questions...)
 	}
 	if err := r.may(calls...); err != nil {
 		return nil, err
 	}
-	answers, err := e.ask(r, rule, asked...)
+	answers, err := e.ask(r, rule, calls...)
 	if err != nil {
 		return nil, err
 	}
-	decisions, err := decisionsOf(queries, answers, views)
-	for i, one := range decisions {
-		e.decided(r, queries[i], one)
+	for i, answer := range answers {
+		decisions[i] = decisionOf(answer)
+		e.decided(r, queries[i], decisions[i])
 	}
-	return decisions, err
+	return decisions, nil
 }
 
 // decided passes on the decision about a query.
@@ -102,35 +91,7 @@ func (e *Endpoints) decided(r *request, q query, d decision) {
 	})
 }
 
-// questionsAbout returns what is asked for a query about a user, and notes what is known of the office at its place.
-func (e *Endpoints) questionsAbout(q *query, seen *view) ([]*api.Call, error) {
-	s := e.office.State()
-	questions, err := q.questions()
-	if err != nil {
-		return nil, err
-	}
-	questions[len(questions)-1].Seen = func() { *seen = q.look(s) }
-	return questions, nil
-}
-
-// decisionsOf returns the decisions about queries by the answers to what was asked for them.
-func decisionsOf(queries []query, answers [][]byte, views []view) ([]decision, error) {
-	decisions := make([]decision, len(queries))
-	for i, one := range queries {
-		if one.user == "" {
-			decisions[i], answers = decisionOf(answers[0]), answers[1:]
-			continue
-		}
-		found, err := one.find(answers[:askedOfUser], views[i])
-		if err != nil {
-			return nil, err
-		}
-		decisions[i], answers = found.decision, answers[askedOfUser:]
-	}
-	return decisions, nil
-}
-
-// decisionOf returns the decision that an answer of the office to checkAccess is.
+// decisionOf returns the decision that an answer of the office is.
 func decisionOf(answer []byte) (d decision) {
 	d.allowed = string(answer) == api.Allowed
 	d.code, d.name = api.CodeOf(answer)

@@ -13,6 +13,7 @@ import (
 	"rbac-node/internal/api"
 	"rbac-node/internal/callers"
 	"rbac-node/internal/state"
+	"rbac-node/internal/trial"
 )
 
 // An Office is what the endpoints ask.
@@ -29,15 +30,15 @@ type Office interface {
 type Visitor interface {
 	// May reports whether the caller may do all of some calls. An error is a refusal. MayAny refuses a caller that has none of some
 	// operations, in no scope.
-	May(ctx context.Context, calls ...*api.Call) error
-	MayAny(ctx context.Context, operations ...string) error
+	May(calls ...*api.Call) error
+	MayAny(operations ...string) error
 	// Done says that the office has nothing more to do for the request.
 	Done()
 	// Name returns the name of the caller, and Rights what it may do.
 	Name() string
-	Rights(ctx context.Context) ([]callers.Grant, error)
+	Rights() ([]callers.Grant, error)
 	// Again does something while the caller may do an operation by the callers that are in force now.
-	Again(ctx context.Context, r *http.Request, operation string, do func()) error
+	Again(r *http.Request, operation string, do func()) error
 }
 
 // Options are what the command line sets.
@@ -65,11 +66,12 @@ type Endpoints struct {
 	tickets       *tickets
 	slots, bodies *slots
 	snapshotted   snapshotted
+	trials        trial.Turn
 }
 
 // New returns endpoints that answer until the context ends.
 func New(life context.Context, office Office, options Options) *Endpoints {
-	e := &Endpoints{Options: options, life: life, office: office, tickets: newTickets(), slots: newSlots(), bodies: newSlots()}
+	e := &Endpoints{Options: options, life: life, office: office, tickets: newTickets(), slots: newSlots(), bodies: newSlots(), trials: trial.NewTurn()}
 	e.add()
 	return e
 }
@@ -233,7 +235,7 @@ func (e *Endpoints) known(r *request) (*state.State, error) {
 	if err != nil {
 		return nil, err
 	}
-	at.SetHead(r.w.Header())
+	api.Point{Newest: at.Newest}.SetHead(r.w.Header())
 	return e.office.State(), nil
 }
 
@@ -254,7 +256,7 @@ func (r *request) mayAny(operations []string) error {
 	if r.visitor == nil || operations == nil || r.ContentLength <= api.SmallBody {
 		return nil
 	}
-	return r.visitor.MayAny(r.ctx, operations...)
+	return r.visitor.MayAny(operations...)
 }
 
 // may refuses calls unless the visitor may do all of them.
@@ -267,7 +269,7 @@ func (r *request) may(calls ...*api.Call) error {
 	if r.visitor == nil {
 		return nil
 	}
-	return r.visitor.May(r.ctx, calls...)
+	return r.visitor.May(calls...)
 }
 
 // done says that the office has nothing more to do for the request. Afterwards it may be answered.

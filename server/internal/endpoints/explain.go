@@ -40,8 +40,8 @@ func (e *Endpoints) explain(r *request) (int, error) {
 	if err != nil {
 		return 0, err
 	}
-	if command, isThere := fields["command"]; isThere {
-		return e.explainCommand(r, command)
+	if fields.Has("command") {
+		return e.explainCommand(r, fields.At("command"))
 	}
 	q, err := readQuery(fields, "session", "user")
 	if err != nil {
@@ -54,146 +54,107 @@ func (e *Endpoints) explain(r *request) (int, error) {
 	if err != nil {
 		return 0, err
 	}
-	shown, refused, err := e.explained(r, q, base)
+	at, err := e.office.Await(r.ctx, r.kind)
 	if err != nil {
 		return 0, err
 	}
-	if refused != nil {
-		return r.reply(api.StatusOf(refused), refused), nil
+	var seen facts
+	e.office.State().Touch([]*api.Call{base})
+	err = e.office.State().Look(func(v *state.View) { seen, at.Policy = factsOf(v, q, base), v.Numbers.Policy })
+	if err != nil {
+		return 0, err
 	}
-	return r.replyValue(shown)
+	at.SetHead(r.w.Header())
+	switch {
+	case !api.IsAccepted(seen.decision):
+		return r.reply(api.StatusOf(seen.decision), seen.decision), nil
+	case q.user != "":
+		return r.replyValue(r.explainedUser(q, seen))
+	}
+	return r.replyValue(r.explainedSession(q, seen))
 }
 
-// explained explains a query, or returns how the office refuses it.
-func (e *Endpoints) explained(r *request, q query, base *api.Call) (shown *explanation, refused []byte, err error) {
-	if q.user != "" {
-		return e.explainedUser(r, q)
-	}
-	return e.explainedSession(r, q, base)
+// Facts are what the office has to say about a query at one moment.
+type facts struct {
+	decision []byte
+	// granted has the roles that have the permission, own those that the user is authorized for or that the session has, and assigned
+	// those that the user is assigned to.
+	granted, own, assigned []string
+	session                state.Session
+	isLocked               bool
+	graph                  *state.Graph
 }
 
-// explainedUser explains a query about a user.
-func (e *Endpoints) explainedUser(r *request, q query) (shown *explanation, refused []byte, err error) {
-	questions, err := q.questions()
-	if err != nil {
-		return nil, nil, err
+// factsOf asks the office about a query. No role has a permission that doesn't exist.
+func factsOf(v *state.View, q query, base *api.Call) facts {
+	seen := facts{decision: v.Answer(base), graph: v.Graph()}
+	seen.granted = v.Names("permissionRoles", "object", q.object, "operation", q.operation)
+	if q.user == "" {
+		seen.session, _ = v.Session(q.session)
+		seen.own = v.Names("sessionRoles", "session", q.session)
+		q.user = seen.session.User
+	} else {
+		seen.isLocked, seen.own = v.IsLocked(q.user), v.Names("authorizedRoles", "user", q.user)
 	}
-	var seen view
-	var assigned []string
-	s := e.office.State()
-	questions[len(questions)-1].Seen = func() { seen, assigned = q.look(s), s.AssignedRoles(q.user) }
-	answers, err := e.ask(r, api.Rule{}, questions...)
-	if err != nil {
-		return nil, nil, err
-	}
-	found, err := q.find(answers, seen)
-	if err != nil || found.code != 0 {
-		return nil, found.text(), err
-	}
-	shown = &explanation{Allowed: found.allowed}
+	seen.assigned = v.AssignedRoles(q.user)
+	return seen
+}
+
+// explainedUser explains a query about a user. A session in which the user may do the operation has a role to which the permission is
+// granted directly. It also may exist with this role alone.
+func (r *request) explainedUser(q query, seen facts) *explanation {
+	shown := &explanation{Allowed: decisionOf(seen.decision).allowed}
 	if !r.mayAsk("permissionRoles", q) || !r.mayAsk("authorizedRoles", q) || !r.mayAsk("assignedRoles", q) {
-		return shown, nil, nil
+		return shown
 	}
 	// To whom a lock is shown is the one who may change it: no function answers it.
-	shown.Locked = found.isLocked && r.mayAsk("lockUserAccount", q)
-	for _, role := range found.by {
-		by := above(seen.graph, assigned, role)
-		shown.By = append(shown.By, source{Assigned: &by, Role: role})
-	}
+	shown.Locked = seen.isLocked && r.mayAsk("lockUserAccount", q)
 	hasSets := r.mayAsk("dsdRoleSetRoles", q)
-	for _, role := range found.blocked {
-		one := blocked{Role: role}
-		if hasSets {
-			one.Set, one.Members = seen.graph.Blocked(role)
+	for _, role := range seen.granted {
+		if !has(seen.own, role) {
+			continue
 		}
-		shown.Blocked = append(shown.Blocked, one)
+		set, members := seen.graph.Blocked(role)
+		switch {
+		case set == "":
+			by := above(seen.graph, seen.assigned, role)
+			shown.By = append(shown.By, source{Assigned: &by, Role: role})
+		case hasSets:
+			shown.Blocked = append(shown.Blocked, blocked{members, role, set})
+		default:
+			shown.Blocked = append(shown.Blocked, blocked{Role: role})
+		}
 	}
-	return shown, nil, nil
+	return shown
 }
 
-// explainedSession explains a query about a session.
-func (e *Endpoints) explainedSession(r *request, q query, base *api.Call) (shown *explanation, refused []byte, err error) {
-	granted, err := api.NewCall("permissionRoles", "object", q.object, "operation", q.operation)
-	if err != nil {
-		return nil, nil, err
-	}
-	roles, err := api.NewCall("sessionRoles", "session", q.session)
-	if err != nil {
-		return nil, nil, err
-	}
-	var graph *state.Graph
-	var session state.Session
-	var assigned []string
-	s := e.office.State()
-	roles.Seen = func() {
-		graph = s.Graph()
-		session, _ = s.Session(q.session)
-		assigned = s.AssignedRoles(session.User)
-	}
-	answers, err := e.ask(r, api.Rule{}, base, granted, roles)
-	if err != nil {
-		return nil, nil, err
-	}
-	if !api.IsAccepted(answers[0]) {
-		return nil, answers[0], nil
-	}
-	shown = &explanation{Allowed: decisionOf(answers[0]).allowed}
-	q.user = session.User
+// explainedSession explains a query about a session: by which roles it has a permission, and by which it might.
+func (r *request) explainedSession(q query, seen facts) *explanation {
+	shown := &explanation{Allowed: decisionOf(seen.decision).allowed}
+	q.user = seen.session.User
 	if !r.mayAsk("permissionRoles", q) || !r.mayAsk("sessionRoles", q) {
-		return shown, nil, nil
+		return shown
 	}
-	err = shown.addSources(answers[1], answers[2], sources{
-		graph: graph, activated: session.Active, assigned: assigned,
-		showsRoles: r.mayAsk("assignedRoles", q) && r.mayAsk("authorizedRoles", q),
-	})
-	return shown, nil, err
-}
-
-// Sources are the roles that a permission can come from.
-type sources struct {
-	graph               *state.Graph
-	activated, assigned []string
-	// showsRoles says that the caller may know the roles that the user is assigned to.
-	showsRoles bool
-}
-
-// addSources adds by which roles a session has a permission, and by which it might, by the answers to permissionRoles and to
-// sessionRoles. No role has a permission that doesn't exist.
-func (shown *explanation) addSources(granted, roles []byte, from sources) error {
-	var all, own []string
-	if !api.IsAccepted(granted) {
-		return nil
-	}
-	if err := api.ValueOf(granted, &all); err != nil {
-		return err
-	}
-	if err := api.ValueOf(roles, &own); err != nil {
-		return err
-	}
-	for _, role := range all {
-		assigned := above(from.graph, from.assigned, role)
-		one := source{Activated: above(from.graph, from.activated, role), Role: role}
-		if from.showsRoles {
+	showsRoles := r.mayAsk("assignedRoles", q) && r.mayAsk("authorizedRoles", q)
+	for _, role := range seen.granted {
+		assigned := above(seen.graph, seen.assigned, role)
+		one := source{Activated: above(seen.graph, seen.session.Active, role), Role: role}
+		if showsRoles {
 			one.Assigned = &assigned
 		}
 		switch {
-		case has(own, role):
+		case has(seen.own, role):
 			shown.By = append(shown.By, one)
-		case from.showsRoles && len(assigned) > 0:
+		case showsRoles && len(assigned) > 0:
 			shown.Inactive = append(shown.Inactive, one)
 		}
 	}
-	return nil
+	return shown
 }
 
 // mayAsk reports whether the visitor may ask a function about what a query names.
 func (r *request) mayAsk(function string, q query) bool {
-	pairs := []string{"session", q.session, "user", q.user, "operation", q.operation, "object", q.object}
-	call := &api.Call{Function: function, Kind: api.Question, Texts: map[string]string{}}
-	for i := 0; i < len(pairs); i += 2 {
-		call.Texts[pairs[i]] = pairs[i+1]
-	}
-	return r.may(call) == nil
+	return r.may(api.NewOther(function, "session", q.session, "user", q.user, "operation", q.operation, "object", q.object)) == nil
 }
 
 // above returns those of some roles that are a role or a senior of it, in their order.

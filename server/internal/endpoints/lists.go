@@ -127,13 +127,16 @@ func (e *Endpoints) page(r *request, s *state.State, query listQuery) (page, err
 	name := query.list
 	switch {
 	case name == "sessions":
-		sessions, numbers := s.Sessions()
-		r.isAt(numbers)
-		return pageOfSessions(sessions, query.Query), nil
+		var sessions []state.Session
+		err := s.Look(func(v *state.View) {
+			sessions = v.Sessions()
+			r.isAt(v.Numbers)
+		})
+		return pageOfSessions(sessions, query.Query), err
 	case name == "staticSets" || name == "dynamicSets":
-		sets, numbers := s.Sets(name == "staticSets")
+		sets, numbers, err := s.Sets(name == "staticSets")
 		r.isAt(numbers)
-		return pageOfSets(sets, query.Query), nil
+		return pageOfSets(sets, query.Query), err
 	case query.holder != nil:
 		rows, err := e.permissionsOf(r, query.holder)
 		if err != nil {
@@ -142,9 +145,9 @@ func (e *Endpoints) page(r *request, s *state.State, query listQuery) (page, err
 		found, hasMore := query.Select(name, rows)
 		return pageOfRows(name, found, hasMore), nil
 	}
-	rows, hasMore, numbers := s.Rows(name, query.Query)
+	rows, hasMore, numbers, err := s.Rows(name, query.Query)
 	r.isAt(numbers)
-	return pageOfRows(name, rows, hasMore), nil
+	return pageOfRows(name, rows, hasMore), err
 }
 
 // isAt says in the head of the answer which revision of the policy it is from.
@@ -205,12 +208,13 @@ func readListQueries(body []byte) (queries []listQuery, err error) {
 
 // readListLine reads what is wanted of a list. The limit is a number, and what is at the other keys a text.
 func readListLine(line []byte) (query listQuery, err error) {
-	fields, err := api.Fields(line)
+	fields, err := api.FieldsOf(line)
 	if err != nil {
 		return query, err
 	}
 	list, values := "", url.Values{}
-	for key, value := range fields {
+	for _, one := range fields {
+		key, value := string(one.Key), one.Value
 		text := string(value)
 		if key != "limit" {
 			if text, err = api.Text(value); err != nil {

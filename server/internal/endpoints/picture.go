@@ -97,17 +97,24 @@ func readPictureQuery(text string) (query pictureQuery, err error) {
 
 // part returns the part of the role graph that is to be drawn.
 func (q pictureQuery) part(s *state.State) (part state.Part, err error) {
+	hasRole := true
+	err = s.Look(func(v *state.View) {
+		switch hasRole = q.role == "" || v.HasRole(q.role); {
+		case !hasRole:
+		case q.role == "":
+			part = v.Whole()
+		case len(q.from) > 0:
+			part = v.Graph().Between(q.from, q.role)
+		default:
+			part = v.Graph().Around(q.role, mostDrawn)
+		}
+	})
 	switch {
-	case q.role == "":
-		part = s.Whole()
-	case !s.HasRole(q.role):
+	case err != nil:
+		return part, err
+	case !hasRole:
 		return part, api.Refusal{Status: http.StatusConflict, Code: 4, Name: "NoRole"}
-	case len(q.from) > 0:
-		part = s.Graph().Between(q.from, q.role)
-	default:
-		part = s.Graph().Around(q.role, mostDrawn)
-	}
-	if len(part.Roles) > mostDrawn {
+	case len(part.Roles) > mostDrawn:
 		return part, api.BadRequestSince(http.StatusRequestEntityTooLarge, "a picture has at most %d roles", mostDrawn)
 	}
 	return part, nil

@@ -52,7 +52,10 @@ func (e *Endpoints) report(r *request) (int, error) {
 	if err != nil {
 		return 0, err
 	}
-	office := e.tickets.freeze(s)
+	office, err := e.tickets.freeze(s)
+	if err != nil {
+		return 0, err
+	}
 	made, err := reports.New(query.name, office, query.Filter)
 	if err != nil {
 		return 0, err
@@ -88,14 +91,14 @@ func readReportQuery(r *request) (query reportQuery, err error) {
 	if err != nil {
 		return query, err
 	}
-	fields := map[string]json.RawMessage{}
+	fields := api.Fields{}
 	if len(body) > 0 {
-		if fields, err = api.Fields(body); err != nil {
+		if fields, err = api.FieldsOf(body); err != nil {
 			return query, err
 		}
 	}
-	for key, value := range fields {
-		if err := query.set(keys, key, value); err != nil {
+	for _, one := range fields {
+		if err := query.set(keys, string(one.Key), one.Value); err != nil {
 			return query, err
 		}
 	}
@@ -175,7 +178,7 @@ func (e *Endpoints) serveTicket(w http.ResponseWriter, r *http.Request) (int, er
 	}
 	ctx, cancel := context.WithTimeout(e.life, reportTimeout)
 	defer cancel()
-	if err := one.again(ctx); err != nil {
+	if err := one.again(); err != nil {
 		return 0, err
 	}
 	made, err := reports.New(one.query.name, one.office, one.query.Filter)
@@ -196,11 +199,11 @@ func (e *Endpoints) serveTicket(w http.ResponseWriter, r *http.Request) (int, er
 }
 
 // again reports whether the caller may still read reports, by the callers that are in force now.
-func (t *ticket) again(ctx context.Context) error {
+func (t *ticket) again() error {
 	if t.visitor == nil {
 		return nil
 	}
-	return t.visitor.Again(ctx, t.request, api.Reports, func() {})
+	return t.visitor.Again(t.request, api.Reports, func() {})
 }
 
 // head returns the head of the answer. The name of the file says which report it is, of when, and of which revision of the policy.
@@ -253,7 +256,7 @@ func (w *rightful) Write(text []byte) (int, error) {
 		return 0, err
 	}
 	if time.Since(w.judged) >= rightInterval {
-		if err := w.ticket.again(w.ctx); err != nil {
+		if err := w.ticket.again(); err != nil {
 			return 0, err
 		}
 		w.judged = time.Now()

@@ -14,8 +14,14 @@ func (e *Endpoints) room(r *request) (int, error) {
 	if err != nil {
 		return 0, err
 	}
-	rooms, numbers := s.Rooms()
-	r.isAt(numbers)
+	var rooms []state.Room
+	err = s.Look(func(v *state.View) {
+		rooms = v.Rooms()
+		r.isAt(v.Numbers)
+	})
+	if err != nil {
+		return 0, err
+	}
 	return r.replyValue(struct {
 		Room []state.Room `json:"room"`
 	}{rooms})

@@ -52,9 +52,9 @@ func (e *Endpoints) explainCommand(r *request, line json.RawMessage) (int, error
 		return 0, err
 	}
 	var found []state.Conflict
-	err = e.slots.make(r.ctx, func() error {
-		found = s.Conflicts(call)
-		return nil
+	err = e.slots.make(r.ctx, func() (err error) {
+		found, err = s.Conflicts(call)
+		return err
 	})
 	if err != nil {
 		return 0, err
@@ -100,7 +100,7 @@ func (r *request) conflictOf(one state.Conflict) conflict {
 func (r *request) mayAskAll(functions ...string) bool {
 	for _, function := range functions {
 		// A call that names nothing is allowed by the scope "office" alone.
-		if r.may(&api.Call{Function: function, Kind: api.Question}) != nil {
+		if r.may(api.NewOther(function)) != nil {
 			return false
 		}
 	}

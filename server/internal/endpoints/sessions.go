@@ -70,18 +70,17 @@ func (e *Endpoints) makeSession(r *request) (int, error) {
 }
 
 // readOpening reads the body of a request for a session.
-func readOpening(fields map[string]json.RawMessage) (*opening, error) {
+func readOpening(fields api.Fields) (*opening, error) {
 	o := &opening{made: made{Left: []left{}, Roles: []string{}}}
 	var err error
 	if o.user, err = api.TextAt(fields, "user"); err != nil {
 		return nil, err
 	}
-	value, hasList := fields["roles"]
-	if !hasList {
+	if !fields.Has("roles") {
 		return o, nil
 	}
 	o.hasList = true
-	listed, err := api.Texts(value)
+	listed, err := api.Texts(fields.At("roles"))
 	if err != nil {
 		return nil, notRead("roles has to be a list of texts")
 	}

@@ -134,12 +134,15 @@ type snapshotted struct {
 }
 
 // of returns the snapshot of an office as it is now.
-func (s *snapshotted) of(office *state.State) ([]byte, state.Numbers) {
+func (s *snapshotted) of(office *state.State) ([]byte, state.Numbers, error) {
 	s.mutex.Lock()
 	defer s.mutex.Unlock()
 	if s.text == nil || s.numbers != office.Numbers() {
-		frozen := office.Freeze()
+		frozen, err := office.Freeze()
+		if err != nil {
+			return nil, state.Numbers{}, err
+		}
 		s.text, s.numbers = frozen.Lines(), frozen.Numbers
 	}
-	return s.text, s.numbers
+	return s.text, s.numbers, nil
 }

@@ -50,13 +50,17 @@ type tickets struct {
 func newTickets() *tickets { return &tickets{byName: map[string]*ticket{}, now: time.Now} }
 
 // freeze returns what is in the office now.
-func (t *tickets) freeze(s *state.State) *state.Frozen {
+func (t *tickets) freeze(s *state.State) (*state.Frozen, error) {
 	t.mutex.Lock()
 	defer t.mutex.Unlock()
 	if t.frozen == nil || t.frozen.Numbers != s.Numbers() {
-		t.frozen = s.Freeze()
+		frozen, err := s.Freeze()
+		if err != nil {
+			return nil, err
+		}
+		t.frozen = frozen
 	}
-	return t.frozen
+	return t.frozen, nil
 }
 
 // add keeps a ticket, and returns its name. If its caller has too many, the oldest is no longer of use.

@@ -47,9 +47,9 @@ func (e *Endpoints) snapshot(r *request) (int, error) {
 	defer leave()
 	var text []byte
 	var numbers state.Numbers
-	err = e.slots.make(r.ctx, func() error {
-		text, numbers = e.snapshotted.of(s)
-		return nil
+	err = e.slots.make(r.ctx, func() (err error) {
+		text, numbers, err = e.snapshotted.of(s)
+		return err
 	})
 	if err != nil {
 		return 0, err
@@ -241,5 +241,5 @@ func (w *watch) again(do func()) error {
 		do()
 		return nil
 	}
-	return w.visitor.Again(w.ctx, w.Request, api.Watch, do)
+	return w.visitor.Again(w.Request, api.Watch, do)
 }

@@ -1,41 +1,30 @@
 package endpoints
 
 import (
-	"context"
 	"errors"
 	"net/http"
 	"strconv"
 
 	"rbac-node/internal/api"
-	"rbac-node/internal/trial"
 )
-
-// A trying office can do commands over a copy of itself.
-type trying interface {
-	// Try does commands over a copy, and returns what they would change. It calls the function when the office has been copied.
-	Try(ctx context.Context, copied func(), commands []*api.Call) (*trial.Result, error)
-}
 
 // mostTried is how many bytes the lines of commands that are tried have at most.
 const mostTried = 262_144
 
-// whatIf answers what commands would change. They are done over a copy of the office.
+// whatIf answers what commands would change. They are done over a clone of the office.
 func (e *Endpoints) whatIf(r *request) (int, error) {
 	if err := r.may(api.NewOther(api.WhatIf)); err != nil {
 		return 0, err
 	}
-	office, can := e.office.(trying)
-	if !can {
-		return 0, errNotHere
-	}
-	if _, err := e.known(r); err != nil {
+	office, err := e.known(r)
+	if err != nil {
 		return 0, err
 	}
 	commands, err := readTried(r)
 	if err != nil {
 		return 0, err
 	}
-	result, err := office.Try(r.ctx, r.done, commands)
+	result, err := e.trials.Try(r.ctx, office, r.done, commands)
 	if err != nil {
 		return 0, err
 	}

@@ -64,9 +64,10 @@ type Feed struct {
 	newest atomic.Pointer[office.Replay]
 	// reads is the most times that the replay can have read its input. Only the goroutine of Run uses it.
 	reads int64
-	mutex sync.Mutex // for First
 	// resting is locked while a replay starts or ends, both of which write the file of the office, and while that must not change.
 	resting sync.Mutex
+	// life counts the replays, except those that follow one that has answered everything.
+	life atomic.Int64
 	// starting says that a replay is being started.
 	starting atomic.Bool
 	// why says why there is no replay, or is empty.
@@ -117,15 +118,6 @@ func (f *Feed) Why() string {
 	return why
 }
 
-// Ask returns the answers to some lines, unless the context ends first. Lines that haven't been sent by then never are. A feed with
-// a keeper or an observer gets commands by Do alone.
-func (f *Feed) Ask(ctx context.Context, lines ...[]byte) ([][]byte, error) {
-	if len(lines) == 0 {
-		return nil, nil
-	}
-	return f.Do(ctx, &Unit{Lines: lines})
-}
-
 // Do returns the answers to the lines of a unit, unless the context ends first. A unit that hasn't been sent or kept by then never
 // is.
 func (f *Feed) Do(ctx context.Context, u *Unit) ([][]byte, error) {
@@ -151,6 +143,9 @@ func (f *Feed) Do(ctx context.Context, u *Unit) ([][]byte, error) {
 	return u.Answers, nil
 }
 
+// Life returns the number of the replay that there is or was last, which one that follows in order has too.
+func (f *Feed) Life() int64 { return f.life.Load() }
+
 // IsAlive reports whether the goroutine that passes lines goes on, before the context ends.
 func (f *Feed) IsAlive(ctx context.Context) bool {
 	if f.starting.Load() {
@@ -162,20 +157,6 @@ func (f *Feed) IsAlive(ctx context.Context) bool {
 	case <-ctx.Done():
 		return false
 	}
-}
-
-// AlsoFirst adds a line to those that a replay has to accept before it gets any other. This one has accepted it.
-func (f *Feed) AlsoFirst(line []byte) {
-	f.mutex.Lock()
-	defer f.mutex.Unlock()
-	f.First = append(f.First, line)
-}
-
-// first returns the lines that a replay has to accept before it gets any other.
-func (f *Feed) first() [][]byte {
-	f.mutex.Lock()
-	defer f.mutex.Unlock()
-	return f.First
 }
 
 // Run passes lines until the context ends. It then answers those that it has got, and returns when the replay has ended.
@@ -241,7 +222,7 @@ func (f *Feed) pass(ctx context.Context) error {
 
 // send passes the lines of a unit to the replay, unless nobody waits for them any more.
 func (f *Feed) send(u *Unit) {
-	if !u.isKept && u.ctx.Err() != nil {
+	if !u.isKept && (u.ctx.Err() != nil || u.Life != 0 && u.Life != f.life.Load()) {
 		u.lose()
 		return
 	}
@@ -258,7 +239,7 @@ func (f *Feed) send(u *Unit) {
 		f.replay.Send(line, func(answer []byte) {
 			if u.Answers[i] = answer; i == len(u.Lines)-1 {
 				<-f.sent // It is this unit, since answers come in order.
-				f.Figures.seconds.Observe(f.Name, time.Since(sent).Seconds())
+				f.Figures.seconds.WithLabelValues(f.Name).Observe(time.Since(sent).Seconds())
 				f.answered(u)
 			}
 		})
@@ -269,9 +250,6 @@ func (f *Feed) send(u *Unit) {
 func (f *Feed) answered(u *Unit) {
 	if f.Observer != nil && len(u.Calls) > 0 {
 		f.Observer.Answered(u)
-	}
-	if u.Observed != nil {
-		u.Observed()
 	}
 	if u.isKept {
 		f.keeping.answer(u)
@@ -346,6 +324,9 @@ func (f *Feed) endKeeping() {
 	}
 }
 
+// Kill ends the replay at once, and another one is started.
+func (f *Feed) Kill() { f.newest.Load().Kill() }
+
 // Quietly does something while no replay starts or ends. If no command is on its way either, nobody writes the file of the office.
 func (f *Feed) Quietly(do func() error) error {
 	f.resting.Lock()
@@ -397,6 +378,7 @@ func (f *Feed) start(ctx context.Context) error {
 	defer f.starting.Store(false)
 	f.resting.Lock()
 	defer f.resting.Unlock()
+	f.life.Add(1)
 	if f.Before != nil {
 		if err := f.Before(ctx); err != nil {
 			return err
@@ -413,19 +395,18 @@ func (f *Feed) open(ctx context.Context) error {
 	if err != nil {
 		return err
 	}
-	f.Figures.starts.Add(f.Name)
+	f.Figures.starts.WithLabelValues(f.Name).Inc()
 	f.replay, f.reads = replay, 0
 	f.newest.Store(replay)
 	done, refused := make(chan struct{}), (*RefusedError)(nil)
-	first := f.first()
-	for i, line := range first {
+	for i, line := range f.First {
 		i := i
 		f.reads += office.ReadsOf(line)
 		replay.Send(line, func(answer []byte) {
 			if refused == nil && !IsAccepted(answer) {
 				refused = &RefusedError{i, string(answer)}
 			}
-			if i == len(first)-1 {
+			if i == len(f.First)-1 {
 				close(done)
 			}
 		})

@@ -5,6 +5,7 @@ import (
 	"context"
 	"errors"
 	"fmt"
+	"net/http"
 	"net/http/httptest"
 	"os"
 	"path/filepath"
@@ -13,9 +14,11 @@ import (
 	"testing"
 	"time"
 
+	"github.com/prometheus/client_golang/prometheus"
+	"github.com/prometheus/client_golang/prometheus/promhttp"
+
 	"rbac-node/internal/api"
 	"rbac-node/internal/logs"
-	"rbac-node/internal/metrics"
 	"rbac-node/internal/office"
 )
 
@@ -75,7 +78,7 @@ func optionsOf(t *testing.T, file string, hangTimeout time.Duration, log *logs.L
 	return Options{
 		Name: "office", Start: func() (*office.Replay, error) { return office.Start(program, file, hangTimeout) },
 		First: [][]byte{[]byte("1"), []byte("2")}, Reads: many, Log: log,
-		Figures: NewFigures(&metrics.Registry{}),
+		Figures: NewFigures(prometheus.NewRegistry()),
 	}
 }
 
@@ -117,6 +120,11 @@ func within(t *testing.T, limit time.Duration) context.Context {
 	return ctx
 }
 
+// ask returns the answers to some lines.
+func ask(b *bench, ctx context.Context, lines ...[]byte) ([][]byte, error) {
+	return b.Do(ctx, &Unit{Lines: lines})
+}
+
 func TestAsk(t *testing.T) {
 	b := open(t, many, time.Minute)
 	var all sync.WaitGroup
@@ -127,7 +135,7 @@ func TestAsk(t *testing.T) {
 			defer all.Done()
 			for i := 0; i < 50; i++ {
 				lines := [][]byte{[]byte(fmt.Sprint(client)), []byte(fmt.Sprint(i))}
-				answers, err := b.Ask(within(t, 20*time.Second), lines...)
+				answers, err := ask(b, within(t, 20*time.Second), lines...)
 				if err != nil || len(answers) != 2 {
 					t.Errorf("%v, %v", answers, err)
 					return
@@ -141,9 +149,6 @@ func TestAsk(t *testing.T) {
 		}()
 	}
 	all.Wait()
-	if answers, err := b.Ask(context.Background()); answers != nil || err != nil {
-		t.Errorf("no lines: %v, %v", answers, err)
-	}
 	b.stop()
 	if err := <-b.end; err != nil {
 		t.Error(err)
@@ -163,10 +168,10 @@ func TestEndOfReplay(t *testing.T) {
 		t.Run(test.name, func(t *testing.T) {
 			b := open(t, many, test.hangTimeout)
 			limit := within(t, time.Minute)
-			if _, err := b.Ask(limit, []byte("a"), []byte(test.word), []byte("b")); err != api.Unavailable || limit.Err() != nil {
+			if _, err := ask(b, limit, []byte("a"), []byte(test.word), []byte("b")); err != api.Unavailable || limit.Err() != nil {
 				t.Errorf("%v and not %v, %v", err, api.Unavailable, limit.Err())
 			}
-			answers, err := b.Ask(within(t, 20*time.Second), []byte("7"))
+			answers, err := ask(b, within(t, 20*time.Second), []byte("7"))
 			if err != nil || string(answers[0]) != `{"ok":true,"value":7}` {
 				t.Errorf("after the end: %s, %v", answers, err)
 			}
@@ -177,22 +182,42 @@ func TestEndOfReplay(t *testing.T) {
 	}
 }
 
+// A unit that may only be done by the replay of before isn't done by the next one.
+func TestLife(t *testing.T) {
+	b := open(t, many, time.Minute)
+	for turn := 1; turn < 4; turn++ {
+		before := b.Life()
+		if _, err := b.Do(within(t, 20*time.Second), &Unit{Lines: [][]byte{[]byte("1")}, Life: before}); err != nil {
+			t.Errorf("the same replay: %v", err)
+		}
+		b.Kill()
+		until(t, "another replay", func() bool { return b.starts() == turn+1 && b.Why() == "" && b.Life() != before })
+		if _, err := b.Do(within(t, 20*time.Second), &Unit{Lines: [][]byte{[]byte("1")}, Life: before}); err != api.Unavailable {
+			t.Errorf("another replay: %v", err)
+		}
+	}
+	b.stop()
+	if err := <-b.end; err != nil {
+		t.Error(err)
+	}
+}
+
 func TestReplayThatDoesNotStart(t *testing.T) {
 	b := open(t, many, time.Minute)
 	if err := os.WriteFile(b.file+".refuses", nil, 0o600); err != nil {
 		t.Fatal(err)
 	}
-	_, _ = b.Ask(within(t, 20*time.Second), []byte("die"))
+	_, _ = ask(b, within(t, 20*time.Second), []byte("die"))
 	until(t, "the feed says why", func() bool { return strings.Contains(b.Why(), "doesn't start") })
 	start := time.Now()
-	if _, err := b.Ask(within(t, time.Minute), []byte("7")); err != api.Unavailable || time.Since(start) > 30*time.Second {
+	if _, err := ask(b, within(t, time.Minute), []byte("7")); err != api.Unavailable || time.Since(start) > 30*time.Second {
 		t.Errorf("%v after %v", err, time.Since(start))
 	}
 	if err := os.Remove(b.file + ".refuses"); err != nil {
 		t.Fatal(err)
 	}
 	until(t, "it answers again", func() bool {
-		answers, err := b.Ask(within(t, 20*time.Second), []byte("8"))
+		answers, err := ask(b, within(t, 20*time.Second), []byte("8"))
 		return err == nil && string(answers[0]) == `{"ok":true,"value":8}`
 	})
 	if b.Why() != "" || strings.Count(b.log.String(), "doesn't start") != 1 {
@@ -207,7 +232,6 @@ func TestStartAnew(t *testing.T) {
 	}{{"at a quiet moment", false}, {"without one", true}} {
 		t.Run(test.name, func(t *testing.T) {
 			b := open(t, 40, time.Minute)
-			b.AlsoFirst([]byte("3"))
 			stop := make(chan struct{})
 			var all sync.WaitGroup
 			for client := 0; client < 4; client++ {
@@ -220,7 +244,7 @@ func TestStartAnew(t *testing.T) {
 							return
 						default:
 						}
-						if _, err := b.Ask(within(t, 20*time.Second), []byte("1")); err != nil {
+						if _, err := ask(b, within(t, 20*time.Second), []byte("1")); err != nil {
 							t.Errorf("an answer is missing: %v", err)
 						}
 						if !test.busy {
@@ -263,36 +287,36 @@ func TestHungReplay(t *testing.T) {
 	if why := b.Why(); why != "" {
 		t.Errorf("why: %q", why)
 	}
-	go func() { _, _ = b.Ask(within(t, time.Minute), []byte("hang")) }()
+	go func() { _, _ = ask(b, within(t, time.Minute), []byte("hang")) }()
 	until(t, "the feed says why", func() bool { return strings.Contains(b.Why(), "answered nothing") })
 	until(t, "it answers again", func() bool { return b.starts() == 2 && b.Why() == "" })
 }
 
 func TestTimeout(t *testing.T) {
 	b := open(t, many, time.Minute)
-	go func() { _, _ = b.Ask(within(t, 20*time.Second), []byte("hang")) }()
+	go func() { _, _ = ask(b, within(t, 20*time.Second), []byte("hang")) }()
 	until(t, "a line hangs", func() bool { return len(b.sent) == 1 })
-	if _, err := b.Ask(within(t, 50*time.Millisecond), []byte("1")); err != api.Unavailable {
+	if _, err := ask(b, within(t, 50*time.Millisecond), []byte("1")); err != api.Unavailable {
 		t.Errorf("%v and not %v", err, api.Unavailable)
 	}
 	ended, cancel := context.WithCancel(context.Background())
 	cancel()
-	if _, err := b.Ask(ended, []byte("1")); err != api.Unavailable {
+	if _, err := ask(b, ended, []byte("1")); err != api.Unavailable {
 		t.Errorf("%v and not %v", err, api.Unavailable)
 	}
 }
 
 // The figures say how long the replay took, how often it was started, and how much waits for it, by the name of the feed.
 func TestFigures(t *testing.T) {
-	registry := &metrics.Registry{}
+	registry := prometheus.NewRegistry()
 	figures := NewFigures(registry)
 	waiting := 3
 	figures.begin("office", func() int { return 7 })
 	figures.begin("office", func() int { return waiting }) // As after a reload.
-	figures.starts.Add("office")
-	figures.seconds.Observe("office", 0.0001)
+	figures.starts.WithLabelValues("office").Inc()
+	figures.seconds.WithLabelValues("office").Observe(0.0001)
 	answer := httptest.NewRecorder()
-	registry.ServeHTTP(answer, nil)
+	promhttp.HandlerFor(registry, promhttp.HandlerOpts{}).ServeHTTP(answer, httptest.NewRequest(http.MethodGet, "/", nil))
 	for _, wanted := range []string{
 		`rbac_node_replay_starts_total{replay="office"} 1`, `rbac_node_replay_waiting{replay="office"} 3`,
 		`rbac_node_replay_answer_seconds_bucket{replay="office",le="5e-05"} 0`, `rbac_node_replay_answer_seconds_bucket{replay="office",le="0.0001"} 1`,

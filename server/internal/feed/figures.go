@@ -3,33 +3,33 @@ package feed
 import (
 	"sync"
 
+	"github.com/prometheus/client_golang/prometheus"
+	"github.com/prometheus/client_golang/prometheus/promauto"
+
 	"rbac-node/internal/metrics"
 )
 
 // Figures are what is measured of replays, by the names of their feeds.
 type Figures struct {
-	starts  *metrics.Counter
-	seconds *metrics.Histogram
+	starts  *prometheus.CounterVec
+	seconds *prometheus.HistogramVec
 	mutex   sync.Mutex
 	// waiting has what counts the units that wait for each replay, or for its answers.
 	waiting map[string]func() int
 }
 
-// mostAnswerBounds is how many bounds of answer times there are, from 50 microseconds on, each twice the one before.
-const mostAnswerBounds = 17
-
 // NewFigures returns new figures.
-func NewFigures(registry *metrics.Registry) *Figures {
-	bounds := make([]float64, mostAnswerBounds)
-	for i := range bounds {
-		bounds[i] = 0.00005 * float64(int(1)<<i)
-	}
+func NewFigures(registry prometheus.Registerer) *Figures {
+	make, names := promauto.With(registry), []string{"replay"}
 	f := &Figures{
-		starts:  registry.Counter("rbac_node_replay_starts_total", "Starts of a replay.", "replay"),
-		seconds: registry.Histogram("rbac_node_replay_answer_seconds", "How long a replay took for what was asked at once.", "replay", bounds),
+		starts: make.NewCounterVec(prometheus.CounterOpts{Name: "rbac_node_replay_starts_total", Help: "Starts of a replay."}, names),
+		seconds: make.NewHistogramVec(prometheus.HistogramOpts{
+			Name: "rbac_node_replay_answer_seconds", Help: "How long a replay took for what was asked at once.",
+			Buckets: prometheus.ExponentialBuckets(0.00005, 2, 17),
+		}, names),
 		waiting: map[string]func() int{},
 	}
-	registry.Gauges("rbac_node_replay_waiting", "How much that was asked at once waits for a replay.", "replay", f.countWaiting)
+	metrics.Gauges(registry, "rbac_node_replay_waiting", "How much that was asked at once waits for a replay.", "replay", f.countWaiting)
 	return f
 }
 
@@ -38,6 +38,8 @@ func (f *Figures) begin(name string, waiting func() int) {
 	f.mutex.Lock()
 	defer f.mutex.Unlock()
 	f.waiting[name] = waiting
+	f.starts.WithLabelValues(name) // They are reported from the start.
+	f.seconds.WithLabelValues(name)
 }
 
 func (f *Figures) countWaiting() map[string]float64 {

@@ -19,8 +19,6 @@ type notebook struct {
 	asked, kept, seen []string
 	isFull, isDue     bool
 	open, rests       int
-	// hold holds each unit that is observed, if it isn't nil.
-	hold chan func()
 }
 
 func (n *notebook) Keep(answered, asked []*Unit) error {
@@ -60,9 +58,6 @@ func (n *notebook) Answered(u *Unit) {
 	n.mutex.Lock()
 	n.seen = append(n.seen, string(u.Lines[0]))
 	n.mutex.Unlock()
-	if n.hold != nil {
-		n.hold <- u.Hold()
-	}
 }
 
 func (n *notebook) set(change func()) {
@@ -146,7 +141,7 @@ func TestFullKeeper(t *testing.T) {
 	if given := b.do("1"); given != "lost" {
 		t.Errorf("without room: %s", given)
 	}
-	if answers, err := b.Ask(context.Background(), []byte("2")); err != nil || string(answers[0]) != `{"ok":true,"value":2}` {
+	if answers, err := b.Do(context.Background(), &Unit{Lines: [][]byte{[]byte("2")}}); err != nil || string(answers[0]) != `{"ok":true,"value":2}` {
 		t.Errorf("a question: %s, %v", answers, err)
 	}
 	n.set(func() { n.isFull = false })
@@ -194,23 +189,5 @@ func TestLostReplay(t *testing.T) {
 	}
 	if fmt.Sprint(n.asked) != fmt.Sprint(n.kept) || fmt.Sprint(n.kept) != fmt.Sprint(n.seen) {
 		t.Errorf("asked %v, kept %v, seen %v", n.asked, n.kept, n.seen)
-	}
-}
-
-// TestHold keeps an answer from whoever asks as long as an observer holds its unit.
-func TestHold(t *testing.T) {
-	n := &notebook{hold: make(chan func(), 1)}
-	b := kept(t, n, many, nil)
-	answered := make(chan string, 1)
-	go func() { answered <- b.do("1") }()
-	release := <-n.hold
-	select {
-	case given := <-answered:
-		t.Errorf("it was answered early: %s", given)
-	case <-time.After(50 * time.Millisecond):
-	}
-	release()
-	if given := <-answered; given != `{"ok":true,"value":1}` {
-		t.Error(given)
 	}
 }

@@ -19,13 +19,13 @@ type Unit struct {
 	Numbers []int64
 	// Answers has an answer to each line once the replay has answered all.
 	Answers [][]byte
-	// Observed is called with the unit once the replay has answered all, before the observer is told of the next one, as the observer
-	// is. Finally is called when the replay has answered all, or when it never will: also if nobody waits any more. Both may be nil.
-	Observed, Finally func()
-	ctx               context.Context
-	// holds is how many have to let the unit go before whoever asks gets the answers. The first of them is its way to the replay and
-	// back.
-	holds atomic.Int32
+	// Life is that of the only replay that may get the unit, or 0.
+	Life int64
+	// Policy is the revision of the policy behind the unit. The observer sets it.
+	Policy int64
+	// Finally is called when the replay has answered all, or when it never will: also if nobody waits any more. It may be nil.
+	Finally func()
+	ctx     context.Context
 	// lost says that nobody knows all answers. isKept says that the keeper has the commands, so that they have to be sent.
 	lost   atomic.Bool
 	isKept bool
@@ -54,35 +54,29 @@ func (u *Unit) Commands() (places []int) {
 // begin says who waits for the answers.
 func (u *Unit) begin(ctx context.Context) {
 	u.ctx, u.Answers, u.done = ctx, make([][]byte, len(u.Lines)), make(chan struct{})
-	u.holds.Store(1)
 }
 
-// Hold keeps the answers from whoever asks until release is called, once. An observer may call it while it is told of the unit.
-func (u *Unit) Hold() (release func()) {
-	u.holds.Add(1)
-	return u.release
-}
-
+// release passes the answers on.
 func (u *Unit) release() {
-	if u.holds.Add(-1) > 0 {
-		return
-	}
 	close(u.done)
 	if u.Finally != nil {
 		u.Finally()
 	}
 }
 
+// Fail says that not all answers are known. An observer may call it while it follows the unit.
+func (u *Unit) Fail() { u.lost.Store(true) }
+
 // lose tells whoever asks that there is no answer.
 func (u *Unit) lose() {
-	u.lost.Store(true)
+	u.Fail()
 	u.release()
 }
 
 // An Observer is told of all commands, in the one order.
 type Observer interface {
 	// Answered gets each unit that the replay has answered, before whoever asks gets the answers, and before the next unit. It is
-	// called by the goroutine that reads the answers, so it must not wait: it may hold the unit, and do the rest elsewhere.
+	// called by the goroutine that reads the answers, so it must not wait.
 	Answered(u *Unit)
 }
 

@@ -10,9 +10,13 @@ import (
 	"net"
 	"net/http"
 	"os"
+	"strconv"
 	"strings"
 	"sync/atomic"
 	"time"
+
+	"github.com/prometheus/client_golang/prometheus"
+	"github.com/prometheus/client_golang/prometheus/promauto"
 
 	"rbac-node/internal/api"
 	"rbac-node/internal/callers"
@@ -47,7 +51,7 @@ type Options struct {
 	// DecisionsShare is which share of the decisions is logged, and DecisionsFile where, or empty.
 	DecisionsShare float64
 	DecisionsFile  string
-	Metrics        *metrics.Registry
+	Metrics        *prometheus.Registry
 	// Hangups gets SIGHUP from the beginning of the program, so that a signal that comes early doesn't end it.
 	Hangups <-chan os.Signal
 }
@@ -62,7 +66,9 @@ type Front struct {
 	// logged is nil if no decisions are logged.
 	logged  *decisions.Log
 	journal *callers.Journal
-	refused *metrics.Counter
+	refused *prometheus.CounterVec
+	metrics http.Handler
+	room    *web.Room
 	config  *tls.Config
 	origins map[string]bool
 	// isLocal says that clients can only connect from this machine.
@@ -82,22 +88,14 @@ type Front struct {
 
 // New returns a front that doesn't listen yet. An error leaves no process behind.
 func New(ctx context.Context, options Options) (*Front, error) {
-	f := &Front{Options: options, origins: map[string]bool{}, isLocal: true}
+	f := &Front{Options: options, origins: map[string]bool{}, isLocal: true, room: web.NewRoom(options.Connections)}
 	for _, origin := range options.Origins {
 		f.origins[origin] = true
 	}
 	for _, address := range options.Addresses {
 		f.isLocal = f.isLocal && address.IsLocal()
 	}
-	f.refused = options.Metrics.Counter("rbac_node_refused_total", "Requests that were refused before the office.", "status")
-	options.Metrics.Gauge("rbac_node_open", "1 if everybody who can connect may do everything.", func() float64 {
-		if f.IsOpen() {
-			return 1
-		}
-		return 0
-	})
-	options.Metrics.Gauge("rbac_node_callers_refused_timestamp_seconds",
-		"Since when the files of the callers are not those in force, in seconds of Unix, or 0.", f.refusedAt.load)
+	f.addMetrics()
 	if err := f.loadTLS(); err != nil {
 		return nil, err
 	}
@@ -105,6 +103,19 @@ func New(ctx context.Context, options Options) (*Front, error) {
 		return nil, err
 	}
 	return f, f.logDecisions()
+}
+
+// addMetrics reports who may do everything, the files of the callers, the connections, and what was refused.
+func (f *Front) addMetrics() {
+	f.metrics = metrics.Handler(f.Metrics)
+	f.refused = promauto.With(f.Metrics).NewCounterVec(prometheus.CounterOpts{
+		Name: "rbac_node_refused_total", Help: "Requests that were refused before the office.",
+	}, []string{"status"})
+	f.refused.WithLabelValues(strconv.Itoa(http.StatusUnauthorized))
+	metrics.Flag(f.Metrics, "rbac_node_open", "1 if everybody who can connect may do everything.", f.IsOpen)
+	metrics.Gauge(f.Metrics, "rbac_node_callers_refused_timestamp_seconds",
+		"Since when the files of the callers are not those in force, in seconds of Unix, or 0.", f.refusedAt.load)
+	metrics.Gauge(f.Metrics, "rbac_node_connections", "Connections of clients.", func() float64 { return float64(f.room.Connections()) })
 }
 
 // logDecisions begins to log decisions, if that is wanted.
@@ -179,10 +190,8 @@ func (f *Front) Begin(start func(func() error)) {
 	limits := web.Limits{
 		AnswerTimeout: 2*web.RequestTimeout + 2*f.AnswerTimeout, Connected: callers.WithPeer, Errors: log.New(&failures{front: f}, "", 0),
 	}
-	room := web.NewRoom(f.Connections)
-	f.Metrics.Gauge("rbac_node_connections", "Connections of clients.", func() float64 { return float64(room.Connections()) })
 	for i, listener := range f.listeners {
-		f.servers = append(f.servers, web.ServeIn(room, start, web.Secure(listener, f.configAt(i)), f, limits))
+		f.servers = append(f.servers, web.ServeIn(f.room, start, web.Secure(listener, f.configAt(i)), f, limits))
 	}
 }
 
@@ -241,7 +250,7 @@ func (f *Front) refuse(w http.ResponseWriter, r *http.Request, caller string, wh
 
 // note counts a request that is refused without the office, and writes it to the journal.
 func (f *Front) note(r *http.Request, caller string, why error, refusal api.Refusal) {
-	f.refused.Add(fmt.Sprint(refusal.Status))
+	f.refused.WithLabelValues(strconv.Itoa(refusal.Status)).Inc()
 	if refusal.Status == http.StatusTooManyRequests || refusal.Status == http.StatusServiceUnavailable {
 		return
 	}
@@ -273,7 +282,7 @@ func Grants(ctx context.Context, options callers.Options) error {
 		return err
 	}
 	defer set.Close()
-	grants, err := set.Grants(ctx)
+	grants, err := set.Grants()
 	if err != nil {
 		return err
 	}

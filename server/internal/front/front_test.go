@@ -14,12 +14,11 @@ import (
 	"testing"
 	"time"
 
+	"github.com/prometheus/client_golang/prometheus"
+
 	"rbac-node/internal/api"
 	"rbac-node/internal/callers"
-	"rbac-node/internal/feed"
 	"rbac-node/internal/logs"
-	"rbac-node/internal/metrics"
-	"rbac-node/internal/programtest"
 )
 
 // An echo is an office that answers each call with its line, and the opening question with nothing special.
@@ -57,14 +56,13 @@ func newFront(t *testing.T, rules string, change func(*Options)) (*Front, *echo,
 	t.Helper()
 	log, folder := &bytes.Buffer{}, t.TempDir()
 	options := Options{
-		IsHostChecked: true, HasMetrics: true, Connections: 10, CallerRequests: 64, AnswerTimeout: time.Minute, Log: logs.New(log), Metrics: &metrics.Registry{},
+		IsHostChecked: true, HasMetrics: true, Connections: 10, CallerRequests: 64, AnswerTimeout: time.Minute, Log: logs.New(log), Metrics: prometheus.NewRegistry(),
 		Origins: []string{"https://console.example"},
 	}
 	if rules != "" {
 		options.Callers = callers.Options{
-			Files:   callers.Files{Callers: write(t, folder, "callers", rules), Tokens: write(t, folder, "tokens", sumOf("secret")+" desk\n")},
-			Program: programtest.Path(t), AnswerTimeout: time.Minute, HangTimeout: time.Minute, Reads: 1 << 40, Log: options.Log,
-			Figures: feed.NewFigures(options.Metrics),
+			Files: callers.Files{Callers: write(t, folder, "callers", rules), Tokens: write(t, folder, "tokens", sumOf("secret")+" desk\n")},
+			Log:   options.Log,
 		}
 		options.Refused = filepath.Join(folder, "refused")
 	}
@@ -333,7 +331,7 @@ func TestSocket(t *testing.T) {
 
 // While the office starts, nothing but the reason is answered.
 func TestStart(t *testing.T) {
-	f, err := New(context.Background(), Options{Connections: 10, Log: logs.New(io.Discard), Metrics: &metrics.Registry{}})
+	f, err := New(context.Background(), Options{Connections: 10, Log: logs.New(io.Discard), Metrics: prometheus.NewRegistry()})
 	if err != nil {
 		t.Fatal(err)
 	}

@@ -1,7 +1,6 @@
 package front
 
 import (
-	"context"
 	"encoding/json"
 	"errors"
 	"math"
@@ -89,28 +88,13 @@ func (f *Front) serveStart(w http.ResponseWriter, r *http.Request) {
 	replyUnready(w, "starting: "+stage)
 }
 
-// serveHealth reports the condition of the office, unless no caller can be judged. Strangers learn no more than what doesn't work: the
-// reasons have paths of files and what programs have said.
+// serveHealth reports the condition of the office. Strangers learn no more than what doesn't work: the reasons have paths of files and
+// what programs have said.
 func (f *Front) serveHealth(w http.ResponseWriter, r *http.Request) {
-	isStranger := f.guard != nil && !f.guard.Knows(r)
-	switch why := f.whyUnjudged(); {
-	case why != "" && isStranger:
-		replyUnready(w, "no caller can be judged")
-	case why != "":
-		replyUnready(w, "callers: "+why)
-	case isStranger:
-		f.office.ServeHealth(&discreet{ResponseWriter: w}, r)
-	default:
-		f.office.ServeHealth(w, r)
+	if f.guard != nil && !f.guard.Knows(r) {
+		w = &discreet{ResponseWriter: w}
 	}
-}
-
-// whyUnjudged returns why no caller can be judged, or an empty text.
-func (f *Front) whyUnjudged() string {
-	if f.guard == nil {
-		return ""
-	}
-	return f.guard.Why()
+	f.office.ServeHealth(w, r)
 }
 
 // A discreet writer passes a condition on without reasons. Each is written at once.
@@ -164,9 +148,9 @@ func (f *Front) answer(w http.ResponseWriter, r *http.Request, visit *callers.Vi
 // Anybody may do everything.
 type anybody struct{ *http.Request }
 
-func (a anybody) MayAny(context.Context, string) error        { return nil }
-func (a anybody) May(_ context.Context, call *api.Call) error { return sign(a.Request, nil, call) }
-func (a anybody) Caller() string                              { return callerOf(a.Request, nil) }
+func (a anybody) MayAny(string) error      { return nil }
+func (a anybody) May(call *api.Call) error { return sign(a.Request, nil, call) }
+func (a anybody) Caller() string           { return callerOf(a.Request, nil) }
 
 // A judge lets a caller do what it may do, and notes what else it asks for.
 type judge struct {
@@ -175,17 +159,17 @@ type judge struct {
 	visit *callers.Visit
 }
 
-func (j *judge) MayAny(ctx context.Context, function string) error {
-	return j.front.denied(j.Request, j.visit, j.visit.MayAny(ctx, function))
+func (j *judge) MayAny(function string) error {
+	return j.front.denied(j.Request, j.visit, j.visit.MayAny(function))
 }
 
 func (j *judge) Caller() string { return j.visit.Caller }
 
-func (j *judge) May(ctx context.Context, call *api.Call) error {
+func (j *judge) May(call *api.Call) error {
 	if err := sign(j.Request, j.visit, call); err != nil {
 		return err
 	}
-	return j.front.denied(j.Request, j.visit, j.visit.May(ctx, call))
+	return j.front.denied(j.Request, j.visit, j.visit.May(call))
 }
 
 // denied notes that a caller may not do what it asks for, unless there is no error. What it still sends may come late.
@@ -204,12 +188,12 @@ func (f *Front) denied(r *http.Request, visit *callers.Visit, err error) error {
 // answerMetrics reports the metrics to a caller who may read them.
 func (f *Front) answerMetrics(w http.ResponseWriter, r *http.Request, visit *callers.Visit) {
 	if visit != nil {
-		if err := visit.MayRead(r.Context(), callers.Metrics); err != nil {
+		if err := visit.MayRead(callers.Metrics); err != nil {
 			f.refuse(w, r, visit.Caller, errDenied, refusalOf(err))
 			return
 		}
 	}
-	f.Metrics.ServeHTTP(w, r)
+	f.metrics.ServeHTTP(w, r)
 }
 
 // refusalOf returns how an error is answered.

@@ -11,6 +11,7 @@
 package ledger
 
 import (
+	"bytes"
 	"context"
 	"encoding/json"
 	"errors"
@@ -73,9 +74,8 @@ type Ledger struct {
 	log *logs.Logger
 	// pageTimeout is how long a page of the log may take before a smaller one is asked for.
 	pageTimeout time.Duration
-	// generation is the newest one that is known, head the newest revision of an entry, and form that from which entries have form 2,
-	// or 0.
-	generation, head, form atomic.Int64
+	// generation is the newest one that is known, and head the newest revision of an entry.
+	generation, head atomic.Int64
 	// lease is that of the life of a node, which belongs to the goroutine that renews it.
 	lease clientv3.LeaseID
 }
@@ -223,17 +223,12 @@ func (l *Ledger) UseLeader(ctx context.Context) {
 }
 
 // Append puts units into the log as an entry, only once however often it has to be tried. An attempt that is delivered
-// late never appends a second time: it succeeds only if its key is new, and no other generation and no other form of
-// entries has begun since. Append returns the entry as all nodes read it and the revision of the one before it. If the
+// late never appends a second time: it succeeds only if its key is new, and no other generation has begun since. Append returns the entry as all nodes read it and the revision of the one before it. If the
 // entry is in the log by an attempt whose reply was lost, its revision is 0.
 func (l *Ledger) Append(ctx context.Context, id string, units []Unit) (entry Entry, before int64, err error) {
 	for {
-		tried, raised := l.generation.Load(), l.form.Load()
-		form := 1
-		if raised > 0 {
-			form = Form
-		}
-		text, err := textOf(units, form)
+		tried := l.generation.Load()
+		text, err := textOf(units)
 		if err != nil {
 			return entry, 0, fmt.Errorf("append: %w", err)
 		}
@@ -242,9 +237,9 @@ func (l *Ledger) Append(ctx context.Context, id string, units []Unit) (entry Ent
 			if faults.Has(faults.AppendsTwice) {
 				defer func() { key += "x" }()
 			}
-			return t.If(clientv3.Compare(clientv3.Version(key), "=", 0), isAt("floor", tried), isAt(formKey, raised)).Then(
+			return t.If(clientv3.Compare(clientv3.Version(key), "=", 0), isAt("floor", tried)).Then(
 				clientv3.OpGet("head"), clientv3.OpPut(key, text), clientv3.OpPut("head", ""),
-			).Else(clientv3.OpGet("floor"), clientv3.OpGet(key, clientv3.WithKeysOnly()), clientv3.OpGet(formKey))
+			).Else(clientv3.OpGet("floor"), clientv3.OpGet(key, clientv3.WithKeysOnly()))
 		})
 		switch {
 		case err != nil:
@@ -254,9 +249,8 @@ func (l *Ledger) Append(ctx context.Context, id string, units []Unit) (entry Ent
 		case len(read(reply, 1)) > 0:
 			return entry, 0, nil
 		}
-		// The generation has ended without this entry, unless it is deleted already, or another form has begun.
+		// The generation has ended without this entry, unless it is deleted already.
 		l.generation.Store(revisionOf(read(reply, 0)))
-		l.form.Store(revisionOf(read(reply, 2)))
 		if err := checkFloor(reply, tried); err != nil {
 			return entry, 0, fmt.Errorf("append: %w", err)
 		}
@@ -341,16 +335,14 @@ func (l *Ledger) First(ctx context.Context) (int64, error) {
 }
 
 // Adopt makes an empty log begin after a snapshot that holds an earlier state of an office. It returns the revision of
-// that snapshot. Nodes without it have to fetch it. Each entry of the log says who asks, since the record may go on with it.
+// that snapshot. Nodes without it have to fetch it.
 func (l *Ledger) Adopt(ctx context.Context) (int64, error) {
 	s, err := l.State(ctx)
 	if err != nil {
 		return 0, err
 	}
 	reply, err := l.commit(ctx, "adoption", func(t clientv3.Txn) clientv3.Txn {
-		return t.If(isAt("head", 0), isAt("floor", 0)).Then(
-			clientv3.OpPut("floor", strconv.FormatInt(s.Revision, 10)), clientv3.OpPut(formKey, strconv.Itoa(Form)),
-		)
+		return t.If(isAt("head", 0), isAt("floor", 0)).Then(clientv3.OpPut("floor", strconv.FormatInt(s.Revision, 10)))
 	})
 	if err != nil {
 		return 0, err
@@ -368,8 +360,6 @@ type Member struct {
 	Peer string `json:"peer"`
 	// Snapshots are those that it keeps, the newest first.
 	Snapshots []office.Snapshot `json:"snapshots"`
-	// Form is the newest form of entries that it reads, or 0 if that is form 1.
-	Form int `json:"form,omitempty"`
 	// Outvoted says why most nodes have outvoted this one, which refuses as long as it has its folder. It is empty if they haven't.
 	Outvoted string `json:"outvoted,omitempty"`
 }
@@ -386,7 +376,6 @@ func (s Settings) String() string {
 
 // Register writes what a node reports about itself.
 func (l *Ledger) Register(ctx context.Context, member Member) error {
-	member.Form = Form
 	text, err := json.Marshal(member)
 	if err != nil {
 		return fmt.Errorf("registration: %w", err)
@@ -395,12 +384,12 @@ func (l *Ledger) Register(ctx context.Context, member Member) error {
 	return err
 }
 
-// A State is what etcd has besides the entries: the revision up to which they may be gone, the newest generation, the
-// revision from which entries have form 2, or 0, the nodes that are registered, those that run, and the revision at which it was read.
+// A State is what etcd has besides the entries: the revision up to which they may be gone, the newest generation, the nodes that are
+// registered, those that run, and the revision at which it was read.
 type State struct {
-	Floor, generation, form, Revision int64
-	Members                           []Member
-	Lives                             []Life
+	Floor, generation, Revision int64
+	Members                     []Member
+	Lives                       []Life
 }
 
 // State reads the state.
@@ -416,9 +405,8 @@ func (l *Ledger) State(ctx context.Context) (s State, err error) {
 		return s, err
 	}
 	for _, kv := range read(reply, 1) {
-		if string(kv.Key) == formKey {
-			s.form = kv.ModRevision
-			continue
+		if bytes.HasPrefix(kv.Key, []byte(nodesPrefix+"/")) {
+			continue // A mark in the logs of earlier programs, and no node.
 		}
 		var member Member
 		if err := json.Unmarshal(kv.Value, &member); err != nil {
@@ -426,7 +414,6 @@ func (l *Ledger) State(ctx context.Context) (s State, err error) {
 		}
 		s.Members = append(s.Members, member)
 	}
-	l.form.Store(s.form)
 	for _, kv := range read(reply, 2) {
 		var life Life
 		if err := json.Unmarshal(kv.Value, &life); err != nil {

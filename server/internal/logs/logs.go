@@ -2,27 +2,45 @@
 package logs
 
 import (
-	"encoding/json"
 	"fmt"
 	"io"
 	"os"
-	"sync"
 	"syscall"
 	"time"
+
+	"go.uber.org/zap"
+	"go.uber.org/zap/buffer"
+	"go.uber.org/zap/zapcore"
 )
 
 // A Logger writes events. Many goroutines may use it.
-type Logger struct {
-	mutex sync.Mutex
-	out   io.Writer
-	fixed []any
-	// isJournal says that journald reads the lines, and takes the level from before each.
-	isJournal bool
-}
+type Logger struct{ sugared *zap.SugaredLogger }
 
 // New returns a logger. Each line has the fixed fields: names, each followed by its value.
 func New(out io.Writer, fixed ...any) *Logger {
-	return &Logger{out: out, fixed: fixed, isJournal: isJournal(out, os.Getenv("JOURNAL_STREAM"))}
+	var encoder zapcore.Encoder = zapcore.NewJSONEncoder(zapcore.EncoderConfig{
+		LevelKey: "level", TimeKey: "ts", MessageKey: "msg", EncodeLevel: zapcore.LowercaseLevelEncoder, EncodeTime: encodeTime,
+		EncodeDuration: zapcore.SecondsDurationEncoder,
+	})
+	if isJournal(out, os.Getenv("JOURNAL_STREAM")) {
+		encoder = journalEncoder{encoder}
+	}
+	core := zapcore.NewCore(encoder, zapcore.Lock(zapcore.AddSync(out)), zapcore.InfoLevel)
+	// If a line can't be written there is nowhere to report it.
+	return &Logger{zap.New(core, zap.ErrorOutput(zapcore.AddSync(io.Discard))).Sugar().With(fixed...)}
+}
+
+// Info writes an event that is as it should be. The fields are names, each followed by its value.
+func (l *Logger) Info(message string, fields ...any) { l.sugared.Infow(message, fields...) }
+
+// Warn writes an event that an operator may want to look at.
+func (l *Logger) Warn(message string, fields ...any) { l.sugared.Warnw(message, fields...) }
+
+// Error writes an event that needs an operator.
+func (l *Logger) Error(message string, fields ...any) { l.sugared.Errorw(message, fields...) }
+
+func encodeTime(at time.Time, to zapcore.PrimitiveArrayEncoder) {
+	to.AppendString(at.UTC().Format("2006-01-02T15:04:05.000Z"))
 }
 
 // isJournal reports whether a file is the one that systemd has connected to the journal, by its device and its number there.
@@ -39,43 +57,24 @@ func isJournal(out io.Writer, stream string) bool {
 	return is && stream == fmt.Sprintf("%d:%d", stat.Dev, stat.Ino)
 }
 
+// A journalEncoder begins each line with its level, which journald takes off.
+type journalEncoder struct{ zapcore.Encoder }
+
 // priorities are the levels as syslog numbers them.
-var priorities = map[string]string{"info": "<6>", "warn": "<4>", "error": "<3>"}
+var priorities = map[zapcore.Level]string{zapcore.InfoLevel: "<6>", zapcore.WarnLevel: "<4>", zapcore.ErrorLevel: "<3>"}
 
-// Info writes an event that is as it should be. The fields are names, each followed by its value.
-func (l *Logger) Info(message string, fields ...any) { l.write("info", message, fields) }
+var buffers = buffer.NewPool()
 
-// Warn writes an event that an operator may want to look at.
-func (l *Logger) Warn(message string, fields ...any) { l.write("warn", message, fields) }
+func (e journalEncoder) Clone() zapcore.Encoder { return journalEncoder{e.Encoder.Clone()} }
 
-// Error writes an event that needs an operator.
-func (l *Logger) Error(message string, fields ...any) { l.write("error", message, fields) }
-
-func (l *Logger) write(level, message string, fields []any) {
-	line := fmt.Sprintf(`{"level":"%s","ts":"%s","msg":%s`, level, time.Now().UTC().Format("2006-01-02T15:04:05.000Z"), encode(message))
-	for _, some := range [][]any{l.fixed, fields} {
-		for i := 0; i+1 < len(some); i += 2 {
-			line += fmt.Sprintf(`,"%s":%s`, some[i], encode(some[i+1]))
-		}
-	}
-	if l.isJournal {
-		line = priorities[level] + line
-	}
-	l.mutex.Lock()
-	defer l.mutex.Unlock()
-	_, _ = io.WriteString(l.out, line+"}\n") // If it fails there is nowhere to report it.
-}
-
-func encode(value any) []byte {
-	switch one := value.(type) {
-	case error:
-		value = one.Error()
-	case time.Duration:
-		value = one.Seconds()
-	}
-	text, err := json.Marshal(value)
+func (e journalEncoder) EncodeEntry(entry zapcore.Entry, fields []zapcore.Field) (*buffer.Buffer, error) {
+	line, err := e.Encoder.EncodeEntry(entry, fields)
 	if err != nil {
-		return []byte(`"?"`)
+		return nil, err
 	}
-	return text
+	defer line.Free()
+	out := buffers.Get()
+	out.AppendString(priorities[entry.Level])
+	_, err = out.Write(line.Bytes())
+	return out, err
 }

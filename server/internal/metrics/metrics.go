@@ -1,230 +1,63 @@
-// Package metrics counts, and reports what it has counted in the text format of Prometheus. It needs no library, so that a node
-// for one machine can be built with Go alone.
+// Package metrics makes the registry of a program, and gauges whose values are read when they are asked for.
 package metrics
 
 import (
-	"fmt"
 	"net/http"
-	"sort"
-	"strconv"
-	"strings"
-	"sync"
-	"sync/atomic"
+	"runtime"
+
+	"github.com/prometheus/client_golang/prometheus"
+	"github.com/prometheus/client_golang/prometheus/collectors"
+	"github.com/prometheus/client_golang/prometheus/promauto"
+	"github.com/prometheus/client_golang/prometheus/promhttp"
 )
 
-// A Registry is a list of metrics.
-type Registry struct {
-	mutex  sync.Mutex
-	series []series
+// New returns a registry with what is known of the process, of Go, and of what the program was built: its version, its sources and
+// the proved program beside them.
+func New(version, sources, program string) *prometheus.Registry {
+	registry := prometheus.NewRegistry()
+	registry.MustRegister(collectors.NewProcessCollector(collectors.ProcessCollectorOpts{}), collectors.NewGoCollector())
+	promauto.With(registry).NewGaugeVec(prometheus.GaugeOpts{
+		Name: "rbac_node_build_info", Help: "1, with of what the program was built.",
+	}, []string{"version", "goversion", "sources", "program"}).WithLabelValues(version, runtime.Version(), sources, program).Set(1)
+	return registry
 }
 
-// A Sample is one value of a metric. Its name has an end, such as _bucket, if the metric is a histogram.
-type Sample struct {
-	Name, Labels string
-	Value        float64
+// Handler returns what answers with all metrics of a registry.
+func Handler(registry prometheus.Gatherer) http.Handler {
+	return promhttp.HandlerFor(registry, promhttp.HandlerOpts{})
 }
 
-// A series is a metric with its samples.
-type series struct {
-	name, help, kind string
-	samples          func() []Sample
+// Gauge registers a gauge whose value is read when it is asked for.
+func Gauge(registry prometheus.Registerer, name, help string, value func() float64) {
+	promauto.With(registry).NewGaugeFunc(prometheus.GaugeOpts{Name: name, Help: help}, value)
 }
 
-func (r *Registry) add(one series) {
-	r.mutex.Lock()
-	defer r.mutex.Unlock()
-	r.series = append(r.series, one)
-}
-
-// A Counter counts events by the values of its labels.
-type Counter struct {
-	name   string
-	labels []string
-	mutex  sync.Mutex
-	values map[string]float64
-}
-
-// Counter returns a new counter.
-func (r *Registry) Counter(name, help string, labels ...string) *Counter {
-	c := &Counter{name: name, labels: labels, values: map[string]float64{}}
-	if len(labels) == 0 {
-		c.values[""] = 0
-	}
-	r.add(series{name, help, "counter", c.samples})
-	return c
-}
-
-// A Tally counts events of a few sorts, which are known beforehand, without a lock.
-type Tally struct{ counts []atomic.Uint64 }
-
-// Tally returns a new tally of the values of a label.
-func (r *Registry) Tally(name, help, label string, values ...string) *Tally {
-	t := &Tally{make([]atomic.Uint64, len(values))}
-	r.add(series{name, help, "counter", func() (found []Sample) {
-		for i, value := range values {
-			found = append(found, Sample{name, labelsOf([]string{label}, []string{value}), float64(t.counts[i].Load())})
+// Flag registers a gauge that is 1 while something is so, and 0 otherwise.
+func Flag(registry prometheus.Registerer, name, help string, is func() bool) {
+	Gauge(registry, name, help, func() float64 {
+		if is() {
+			return 1
 		}
-		return found
-	}})
-	return t
+		return 0
+	})
 }
 
-// Add counts events of the sort at a place.
-func (t *Tally) Add(place int, count uint64) { t.counts[place].Add(count) }
-
-// newGauge returns a gauge whose values stay as they were added.
-func (r *Registry) newGauge(name, help string, labels ...string) *Counter {
-	c := &Counter{name: name, labels: labels, values: map[string]float64{}}
-	r.add(series{name, help, "gauge", c.samples})
-	return c
+// Gauges registers a gauge for each value of a label. The values of the label and of the gauges are read when they are asked for.
+func Gauges(registry prometheus.Registerer, name, help, label string, values func() map[string]float64) {
+	registry.MustRegister(&gauges{prometheus.NewDesc(name, help, []string{label}, nil), values})
 }
 
-// Add counts one event.
-func (c *Counter) Add(values ...string) {
-	key := labelsOf(c.labels, values)
-	c.mutex.Lock()
-	defer c.mutex.Unlock()
-	c.values[key]++
+type gauges struct {
+	about  *prometheus.Desc
+	values func() map[string]float64
 }
 
-func (c *Counter) samples() (found []Sample) {
-	c.mutex.Lock()
-	defer c.mutex.Unlock()
-	for labels, value := range c.values {
-		found = append(found, Sample{c.name, labels, value})
+// Describe implements prometheus.Collector.
+func (g *gauges) Describe(to chan<- *prometheus.Desc) { to <- g.about }
+
+// Collect implements prometheus.Collector.
+func (g *gauges) Collect(to chan<- prometheus.Metric) {
+	for label, value := range g.values() {
+		to <- prometheus.MustNewConstMetric(g.about, prometheus.GaugeValue, value, label)
 	}
-	sort.Slice(found, func(i, j int) bool { return found[i].Labels < found[j].Labels })
-	return found
-}
-
-// Gauge adds a value that is read when it is asked for.
-func (r *Registry) Gauge(name, help string, value func() float64) {
-	r.add(series{name, help, "gauge", func() []Sample { return []Sample{{name, "", value()}} }})
-}
-
-// Gauges adds a value for each value of a label, which are read when they are asked for.
-func (r *Registry) Gauges(name, help, label string, values func() map[string]float64) {
-	r.add(series{name, help, "gauge", func() (found []Sample) {
-		for text, number := range values() {
-			found = append(found, Sample{name, labelsOf([]string{label}, []string{text}), number})
-		}
-		sort.Slice(found, func(i, j int) bool { return found[i].Labels < found[j].Labels })
-		return found
-	}})
-}
-
-// LabelledGauge adds a value with a label, both of which are read when they are asked for. There is none while the label is empty.
-func (r *Registry) LabelledGauge(name, help, label string, value func() (string, float64)) {
-	r.add(series{name, help, "gauge", func() []Sample {
-		text, number := value()
-		if text == "" {
-			return nil
-		}
-		return []Sample{{name, labelsOf([]string{label}, []string{text}), number}}
-	}})
-}
-
-// A Histogram counts values by bounds and by the value of a label.
-type Histogram struct {
-	name, label string
-	bounds      []float64
-	mutex       sync.Mutex
-	of          map[string]*counts
-}
-
-// counts has how many values were at most each bound and above the one before, how many there were, and their sum.
-type counts struct {
-	within []uint64
-	all    uint64
-	sum    float64
-}
-
-// Histogram returns a new histogram.
-func (r *Registry) Histogram(name, help, label string, bounds []float64) *Histogram {
-	h := &Histogram{name: name, label: label, bounds: bounds, of: map[string]*counts{}}
-	r.add(series{name, help, "histogram", h.samples})
-	return h
-}
-
-// Observe counts a value.
-func (h *Histogram) Observe(label string, value float64) {
-	h.mutex.Lock()
-	defer h.mutex.Unlock()
-	c := h.of[label]
-	if c == nil {
-		c = &counts{within: make([]uint64, len(h.bounds)+1)}
-		h.of[label] = c
-	}
-	c.within[sort.SearchFloat64s(h.bounds, value)]++
-	c.all++
-	c.sum += value
-}
-
-func (h *Histogram) samples() (found []Sample) {
-	h.mutex.Lock()
-	defer h.mutex.Unlock()
-	names := make([]string, 0, len(h.of))
-	for name := range h.of {
-		names = append(names, name)
-	}
-	sort.Strings(names)
-	for _, name := range names {
-		c, below := h.of[name], uint64(0)
-		for i, bound := range h.bounds {
-			below += c.within[i]
-			labels := labelsOf([]string{h.label, "le"}, []string{name, strconv.FormatFloat(bound, 'g', -1, 64)})
-			found = append(found, Sample{h.name + "_bucket", labels, float64(below)})
-		}
-		last := labelsOf([]string{h.label, "le"}, []string{name, "+Inf"})
-		one := labelsOf([]string{h.label}, []string{name})
-		found = append(found, Sample{h.name + "_bucket", last, float64(c.all)},
-			Sample{h.name + "_sum", one, c.sum}, Sample{h.name + "_count", one, float64(c.all)})
-	}
-	return found
-}
-
-var escaper = strings.NewReplacer(`\`, `\\`, `"`, `\"`, "\n", `\n`)
-
-// labelsOf returns labels as the format has them.
-func labelsOf(names, values []string) string {
-	if len(names) == 0 {
-		return ""
-	}
-	var out strings.Builder
-	for i, name := range names {
-		separator := byte(',')
-		if i == 0 {
-			separator = '{'
-		}
-		out.WriteByte(separator)
-		out.WriteString(name)
-		out.WriteString(`="`)
-		_, _ = escaper.WriteString(&out, values[i])
-		out.WriteByte('"')
-	}
-	out.WriteByte('}')
-	return out.String()
-}
-
-// ServeHTTP reports all metrics.
-func (r *Registry) ServeHTTP(w http.ResponseWriter, _ *http.Request) {
-	text := []byte(r.text())
-	w.Header().Set("Content-Type", "text/plain; version=0.0.4; charset=utf-8")
-	w.Header().Set("Content-Length", strconv.Itoa(len(text)))
-	_, _ = w.Write(text) // If it fails, the client is gone.
-}
-
-// text returns all metrics in the text format.
-func (r *Registry) text() string {
-	r.mutex.Lock()
-	all := append([]series(nil), r.series...)
-	r.mutex.Unlock()
-	var out strings.Builder
-	for _, one := range all {
-		fmt.Fprintf(&out, "# HELP %s %s\n# TYPE %s %s\n", one.name, one.help, one.name, one.kind)
-		for _, sample := range one.samples() {
-			fmt.Fprintf(&out, "%s%s %s\n", sample.Name, sample.Labels, strconv.FormatFloat(sample.Value, 'g', -1, 64))
-		}
-	}
-	return out.String()
 }

@@ -1,42 +1,54 @@
 package metrics
 
-import "testing"
+import (
+	"net/http"
+	"net/http/httptest"
+	"strings"
+	"testing"
 
-func TestText(t *testing.T) {
+	"github.com/prometheus/client_golang/prometheus"
+)
+
+// said returns what a registry answers.
+func said(registry *prometheus.Registry) string {
+	answer := httptest.NewRecorder()
+	Handler(registry).ServeHTTP(answer, httptest.NewRequest(http.MethodGet, "/metrics", nil))
+	return answer.Body.String()
+}
+
+func TestGauges(t *testing.T) {
+	registry := prometheus.NewPedanticRegistry()
+	values, is := map[string]float64{}, false
+	Gauges(registry, "ages", "How old.", "name", func() map[string]float64 { return values })
+	Flag(registry, "open", "1 if it is open.", func() bool { return is })
 	for _, test := range []struct {
-		name string
-		add  func(*Registry)
-		want string
+		name   string
+		values map[string]float64
+		is     bool
+		wanted string
 	}{
-		{"nothing", func(*Registry) {}, ""},
-		{"a gauge", func(r *Registry) { r.Gauge("age", "How old.", func() float64 { return 1.5 }) },
-			"# HELP age How old.\n# TYPE age gauge\nage 1.5\n"},
-		{"a counter without labels", func(r *Registry) { r.Counter("ends", "Ends.") },
-			"# HELP ends Ends.\n# TYPE ends counter\nends 0\n"},
-		{"a counter with labels", func(r *Registry) {
-			c := r.Counter("answers", "Answers.", "kind", "status")
-			c.Add("question", "200")
-			c.Add("command", "409")
-			c.Add("question", "200")
-		}, "# HELP answers Answers.\n# TYPE answers counter\n" +
-			"answers{kind=\"command\",status=\"409\"} 1\nanswers{kind=\"question\",status=\"200\"} 2\n"},
-		{"a label with signs", func(r *Registry) { r.Counter("x", "X.", "l").Add("a\"b\\c\nd") },
-			"# HELP x X.\n# TYPE x counter\nx{l=\"a\\\"b\\\\c\\nd\"} 1\n"},
-		{"a histogram", func(r *Registry) {
-			h := r.Histogram("took", "Took.", "kind", []float64{1, 2})
-			for _, value := range []float64{0.5, 1, 1.5, 9} {
-				h.Observe("a", value)
-			}
-		}, "# HELP took Took.\n# TYPE took histogram\n" +
-			"took_bucket{kind=\"a\",le=\"1\"} 2\ntook_bucket{kind=\"a\",le=\"2\"} 3\ntook_bucket{kind=\"a\",le=\"+Inf\"} 4\n" +
-			"took_sum{kind=\"a\"} 12\ntook_count{kind=\"a\"} 4\n"},
+		{"nothing", nil, false, "# HELP open 1 if it is open.\n# TYPE open gauge\nopen 0\n"},
+		{"labels with signs", map[string]float64{"a": 1.5, "\"b\\\n": 2}, true,
+			"# HELP ages How old.\n# TYPE ages gauge\nages{name=\"\\\"b\\\\\\n\"} 2\nages{name=\"a\"} 1.5\n" +
+				"# HELP open 1 if it is open.\n# TYPE open gauge\nopen 1\n"},
 	} {
 		t.Run(test.name, func(t *testing.T) {
-			r := &Registry{}
-			test.add(r)
-			if given := r.text(); given != test.want {
-				t.Errorf("%q and not %q", given, test.want)
+			values, is = test.values, test.is
+			if given := said(registry); given != test.wanted {
+				t.Errorf("%q and not %q", given, test.wanted)
 			}
 		})
+	}
+}
+
+// What the program was built of is a metric, beside those of the process and of Go.
+func TestNew(t *testing.T) {
+	text := said(New("1.2", "abc", "def"))
+	for _, wanted := range []string{
+		"\nrbac_node_build_info{", `program="def"`, `sources="abc"`, `version="1.2"} 1`, "\nprocess_open_fds ", "\ngo_goroutines ",
+	} {
+		if !strings.Contains(text, wanted) {
+			t.Errorf("no %s in %s", wanted, text)
+		}
 	}
 }

@@ -10,22 +10,22 @@ import (
 	"testing"
 	"time"
 
+	"github.com/prometheus/client_golang/prometheus"
+
 	"rbac-node/internal/api"
 	"rbac-node/internal/boottime"
 	"rbac-node/internal/ledger"
 	"rbac-node/internal/logs"
-	"rbac-node/internal/metrics"
 	"rbac-node/internal/office"
 )
 
 // A fakeLog is a log in memory. Its Register fails if it is full.
 type fakeLog struct {
-	mutex      sync.Mutex
-	revision   int64
-	state      ledger.State
-	isFull     bool
-	hasNoRules bool
-	refusals   atomic.Int64
+	mutex    sync.Mutex
+	revision int64
+	state    ledger.State
+	isFull   bool
+	refusals atomic.Int64
 	// done is what the node had done at the last read of the head, and lost why that fails.
 	done       ledger.Place
 	lost       error
@@ -47,7 +47,7 @@ func (l *fakeLog) Append(_ context.Context, id string, units []ledger.Unit) (ent
 		return entry, 0, errFull
 	}
 	l.revision++
-	return ledger.Entry{Place: ledger.Place{Revision: l.revision, ID: id}, Units: units, Form: ledger.Form}, l.revision - 1, nil
+	return ledger.Entry{Place: ledger.Place{Revision: l.revision, ID: id}, Units: units}, l.revision - 1, nil
 }
 
 func (l *fakeLog) Head(_ context.Context, done ledger.Place) (int64, error) {
@@ -78,11 +78,7 @@ func (l *fakeLog) State(context.Context) (ledger.State, error) {
 
 func (l *fakeLog) Trim(context.Context, ledger.State, int64) (int64, error) { return 0, nil }
 
-func (l *fakeLog) HasRules() bool { return !l.hasNoRules }
-
 func (l *fakeLog) First(context.Context) (int64, error) { return 1000, nil }
-
-func (l *fakeLog) Raise(context.Context, ledger.State) (bool, error) { return false, nil }
 
 func (l *fakeLog) Register(_ context.Context, member ledger.Member) error {
 	l.mutex.Lock()
@@ -200,7 +196,7 @@ func newNode(t *testing.T) (*Node, *fakeLog, *fakeReplay) {
 		Name: "a", Data: t.TempDir(), Scratch: t.TempDir(), Program: "/nonexistent",
 		SnapshotCommands: 1000, SnapshotBytes: 1 << 20, AnswerTimeout: 5 * time.Second, HangTimeout: time.Minute,
 		Reads: 1 << 40,
-	}, log, logs.New(io.Discard), &metrics.Registry{})
+	}, log, logs.New(io.Discard), prometheus.NewRegistry())
 	if err != nil {
 		t.Fatal(err)
 	}

@@ -7,6 +7,8 @@ import (
 	"net/http"
 	"time"
 
+	"github.com/prometheus/client_golang/prometheus"
+
 	"rbac-node/internal/boottime"
 	"rbac-node/internal/metrics"
 )
@@ -77,24 +79,14 @@ func (n *Node) IsAlive(ctx context.Context) bool {
 }
 
 // addMetrics adds the metrics of the node.
-func (n *Node) addMetrics(registry *metrics.Registry) {
+func (n *Node) addMetrics(registry prometheus.Registerer) {
 	gauge := func(name, help string, value func(status) float64) {
-		registry.Gauge("rbac_node_"+name, help, func() float64 { return value(n.status()) })
+		metrics.Gauge(registry, "rbac_node_"+name, help, func() float64 { return value(n.status()) })
 	}
-	gauge("ready", "1 if the node has applied what the log had a short time ago.", func(s status) float64 {
-		if s.Ready {
-			return 1
-		}
-		return 0
-	})
+	metrics.Flag(registry, "rbac_node_ready", "1 if the node has applied what the log had a short time ago.", func() bool { return n.status().Ready })
 	gauge("revision", "Revision of the last entry that was applied.", func(s status) float64 { return float64(s.Revision) })
 	gauge("commands", "Commands of the log that were applied.", func(s status) float64 { return float64(s.Count) })
 	gauge("snapshot_revision", "Revision of the newest snapshot.", func(s status) float64 { return float64(s.Snapshot) })
-	gauge("snapshot_failing", "1 if the last snapshot could not be made.", func(status) float64 {
-		if n.isFailing.Load() {
-			return 1
-		}
-		return 0
-	})
+	metrics.Flag(registry, "rbac_node_snapshot_failing", "1 if the last snapshot could not be made.", n.isFailing.Load)
 	gauge("age_seconds", "How old the state may be.", func(s status) float64 { return s.Age })
 }

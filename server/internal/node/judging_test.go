@@ -8,10 +8,11 @@ import (
 	"strings"
 	"testing"
 
+	"github.com/prometheus/client_golang/prometheus"
+
 	"rbac-node/internal/api"
 	"rbac-node/internal/ledger"
 	"rbac-node/internal/logs"
-	"rbac-node/internal/metrics"
 	"rbac-node/internal/office"
 )
 
@@ -149,7 +150,7 @@ func TestStaysOutvoted(t *testing.T) {
 	if look(n) == "" {
 		t.Error("it serves again")
 	}
-	again, err := New(n.options, log, logs.New(io.Discard), &metrics.Registry{})
+	again, err := New(n.options, log, logs.New(io.Discard), prometheus.NewRegistry())
 	if err != nil {
 		t.Fatal(err)
 	}
@@ -157,7 +158,7 @@ func TestStaysOutvoted(t *testing.T) {
 		t.Errorf("after a start: %q", why)
 	}
 	n.options.Data = t.TempDir()
-	anew, err := New(n.options, log, logs.New(io.Discard), &metrics.Registry{})
+	anew, err := New(n.options, log, logs.New(io.Discard), prometheus.NewRegistry())
 	if err != nil {
 		t.Fatal(err)
 	}

@@ -45,10 +45,7 @@ func (n *Node) takeSnapshot() error {
 		n.noteSnapshot(n.revision, failed)
 		return nil
 	}
-	made := office.Snapshot{Revision: n.revision, Count: n.count, Record: n.head()}
-	if n.order.isExact {
-		made.Policy = n.order.numbers.Policy
-	}
+	made := office.Snapshot{Revision: n.revision, Count: n.count, Record: n.head(), Policy: n.order.numbers.Policy}
 	n.copies <- copied{file, made}
 	return nil
 }
@@ -145,13 +142,6 @@ func (n *Node) trimLog(ctx context.Context) error {
 	}
 	if err := n.judgeNodes(state); err != nil {
 		return err
-	}
-	raised, err := n.shared.Raise(ctx, state)
-	if err != nil {
-		return err
-	}
-	if raised {
-		n.log.Info("all nodes read the newest form of entries, so it is written from now on", "form", ledger.Form)
 	}
 	floor, err := n.shared.Trim(ctx, state, needless(except(state.Members, outvoted(state.Members))))
 	if floor > 0 {

@@ -156,7 +156,10 @@ func TestFailedSnapshot(t *testing.T) {
 // A record whose entries wait for room.
 type waitingRecord struct{ recorded.Follower }
 
-func (waitingRecord) Why() string { return "the disk is full" }
+func (waitingRecord) Why() string            { return "the disk is full" }
+func (waitingRecord) HasBegun() bool         { return true }
+func (waitingRecord) Room()                  {}
+func (waitingRecord) Add(_ recorded.Command) {}
 
 // While entries of the record wait for room, no snapshot takes that up.
 func TestNoSnapshotWithoutRoom(t *testing.T) {

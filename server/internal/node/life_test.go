@@ -10,9 +10,10 @@ import (
 	"testing"
 	"time"
 
+	"github.com/prometheus/client_golang/prometheus"
+
 	"rbac-node/internal/ledger"
 	"rbac-node/internal/logs"
-	"rbac-node/internal/metrics"
 )
 
 // change changes what the log has while a node may use it.
@@ -89,14 +90,14 @@ func TestLive(t *testing.T) {
 func TestIdentity(t *testing.T) {
 	n, log, _ := newNode(t)
 	other, _, _ := newNode(t)
-	again, err := New(n.options, log, logs.New(io.Discard), &metrics.Registry{})
+	again, err := New(n.options, log, logs.New(io.Discard), prometheus.NewRegistry())
 	if err != nil {
 		t.Fatal(err)
 	}
 	if err := os.Truncate(filepath.Join(other.options.Data, identityName), 0); err != nil {
 		t.Fatal(err)
 	}
-	anew, err := New(other.options, log, logs.New(io.Discard), &metrics.Registry{})
+	anew, err := New(other.options, log, logs.New(io.Discard), prometheus.NewRegistry())
 	if err != nil || anew.life.Folder == "" {
 		t.Errorf("after a crash: %v, %v", anew.life, err)
 	}

@@ -15,6 +15,7 @@ import (
 	"sync/atomic"
 	"time"
 
+	"github.com/prometheus/client_golang/prometheus"
 	"golang.org/x/sync/errgroup"
 
 	"rbac-node/internal/api"
@@ -22,7 +23,6 @@ import (
 	"rbac-node/internal/faults"
 	"rbac-node/internal/ledger"
 	"rbac-node/internal/logs"
-	"rbac-node/internal/metrics"
 	"rbac-node/internal/office"
 	"rbac-node/internal/recorded"
 	"rbac-node/internal/state"
@@ -45,8 +45,6 @@ type Log interface {
 	Follow(ctx context.Context, after int64, deliver func(ledger.Entry) error) error
 	State(ctx context.Context) (ledger.State, error)
 	Trim(ctx context.Context, state ledger.State, needless int64) (floor int64, err error)
-	Raise(ctx context.Context, state ledger.State) (bool, error)
-	HasRules() bool
 	First(ctx context.Context) (int64, error)
 	Register(ctx context.Context, member ledger.Member) error
 	Live(ctx context.Context, life ledger.Life) error
@@ -108,11 +106,12 @@ type Node struct {
 	copies chan copied
 	// pending has the batches of this node that may come from the log, by their names.
 	pending sync.Map
-	// progress is that of the replay, order what its answers say, and state what they say about the office, or nil if this program can't
-	// read the rows of one.
+	// progress is that of the replay, order what its answers say, and state the office in this process, which follows them. unlike has why
+	// that isn't the one of the file.
 	progress progress
 	order    order
 	state    *state.State
+	unlike   chan error
 
 	// tasks has what the goroutine that feeds the replay has to do. The other fields belong to that goroutine: held has
 	// the tasks that wait until entries are fed. revision and count are those of what was fed, bytes counts since the
@@ -124,7 +123,7 @@ type Node struct {
 	revision, count int64
 	bytes, reads    int64
 	err             error
-	// isRecorded says that the log has begun to say who asks, and resumed is the revision of the snapshot of the start.
+	// isRecorded says that the log has had an entry, and resumed is the revision of the snapshot of the start.
 	isRecorded bool
 	resumed    int64
 
@@ -163,14 +162,14 @@ type task struct {
 type place struct{ revision, count int64 }
 
 // New returns a node over a log. It does nothing until Run is called.
-func New(options Options, shared Log, log *logs.Logger, registry *metrics.Registry) (*Node, error) {
+func New(options Options, shared Log, log *logs.Logger, registry prometheus.Registerer) (*Node, error) {
 	store, err := office.Open(options.Data, options.Program)
 	if err != nil {
 		return nil, err
 	}
 	n := &Node{
 		options: options, store: store, shared: shared, log: log, start: time.Now(),
-		copies: make(chan copied, 1), tasks: make(chan task, maxBatchLines),
+		copies: make(chan copied, 1), unlike: make(chan error, 1), tasks: make(chan task, maxBatchLines),
 		asked: map[api.Kind]chan *request{
 			api.Command:  make(chan *request, maxBatchLines),
 			api.Question: make(chan *request, maxBatchLines),
@@ -267,6 +266,8 @@ func (n *Node) feed(ctx context.Context) error {
 				return err
 			}
 			return errReplayEnded
+		case err := <-n.unlike:
+			return err
 		case <-n.recordFailed():
 			return n.options.Record.Failure()
 		case <-ctx.Done():
@@ -290,7 +291,7 @@ func (n *Node) feed(ctx context.Context) error {
 // send passes a line to the replay.
 func (n *Node) send(line []byte, answered func(answer []byte)) {
 	if faults.Has(faults.LeavesOut) && n.options.Name == "n2" && bytes.Contains(line, []byte(`"user":"lost`)) {
-		line = []byte(probe)
+		line = []byte(api.Placeholder)
 	}
 	n.reads += office.ReadsOf(line)
 	n.progress.send()
@@ -347,7 +348,7 @@ func (n *Node) sendQuestions(questions ...*request) {
 					if faults.Has(faults.TakesAnswersForNew) {
 						at.Newest = newest + boottime.Now() - posed
 					}
-					q.reply <- reply{answers: api.Answers{Texts: texts, Point: at}}
+					q.reply <- replyOf(texts, at)
 				}
 			})
 		}

@@ -10,10 +10,11 @@ import (
 	"testing"
 	"time"
 
+	"github.com/prometheus/client_golang/prometheus"
+
 	"rbac-node/internal/api"
 	"rbac-node/internal/ledger"
 	"rbac-node/internal/logs"
-	"rbac-node/internal/metrics"
 	"rbac-node/internal/office"
 )
 
@@ -205,7 +206,7 @@ func TestRenewed(t *testing.T) {
 // A node that could take no snapshots doesn't start.
 func TestNewWithoutDigester(t *testing.T) {
 	t.Setenv("PATH", t.TempDir())
-	n, err := New(Options{Data: t.TempDir()}, newFakeLog(), logs.New(io.Discard), &metrics.Registry{})
+	n, err := New(Options{Data: t.TempDir()}, newFakeLog(), logs.New(io.Discard), prometheus.NewRegistry())
 	if n != nil || err == nil || !strings.Contains(err.Error(), "sqlite3") {
 		t.Errorf("%v, %v", n, err)
 	}
@@ -216,7 +217,7 @@ func TestNew(t *testing.T) {
 	for i := 0; i < 2; i++ {
 		newNode(t)
 	}
-	if n, err := New(Options{Data: "/dev/null"}, newFakeLog(), logs.New(io.Discard), &metrics.Registry{}); n != nil || err == nil {
+	if n, err := New(Options{Data: "/dev/null"}, newFakeLog(), logs.New(io.Discard), prometheus.NewRegistry()); n != nil || err == nil {
 		t.Errorf("%v, %v", n, err)
 	}
 }

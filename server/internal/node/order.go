@@ -3,7 +3,7 @@ package node
 import (
 	"bytes"
 	"errors"
-	"sync"
+	"fmt"
 
 	"rbac-node/internal/api"
 	"rbac-node/internal/ledger"
@@ -19,7 +19,7 @@ type part struct {
 	rule  *api.Rule
 	// places has the place in the entry of each call, or -1 for a question that is asked here only.
 	places []int
-	// unit says who has asked for them and when, if the entry says so.
+	// unit says who has asked for them and when.
 	unit ledger.Unit
 	// own is the request of this node, or nil.
 	own *request
@@ -30,10 +30,7 @@ func (n *Node) partsOf(entry ledger.Entry, own *batch) (parts []part) {
 	place := 0
 	if own != nil {
 		for i, r := range own.requests {
-			p := part{calls: r.batch.Calls, rule: ruleOf(r.batch), own: r}
-			if entry.Form > 1 {
-				p.unit = entry.Units[i]
-			}
+			p := part{calls: r.batch.Calls, rule: ruleOf(r.batch), own: r, unit: entry.Units[i]}
 			for _, call := range p.calls {
 				if p.rule == nil && call.Kind == api.Question {
 					p.places = append(p.places, -1)
@@ -110,10 +107,6 @@ func (n *Node) apply(entry ledger.Entry) {
 	n.revision, n.count = entry.Revision, before+count
 	reached := &place{n.revision, n.count}
 	n.done.Store(&entry.Place)
-	if entry.Form > 1 {
-		// No entry of form 1 comes after this one, and all nodes that read it have the same numbers.
-		n.progress.then(func() { n.order.isExact = true })
-	}
 	for _, p := range n.partsOf(entry, own) {
 		if p.rule == nil {
 			n.pass(p, before, entry.Revision)
@@ -201,7 +194,7 @@ func (n *Node) reply(p part, texts [][]byte, revision int64) {
 			break
 		}
 	}
-	p.own.reply <- reply{answers: api.Answers{Texts: texts, Point: at}}
+	p.own.reply <- replyOf(texts, at)
 }
 
 // settle waits until all lines that were sent are answered. It returns false if that will never be.
@@ -228,21 +221,14 @@ type order struct {
 	// first is the number before that of the first command.
 	first   int64
 	numbers state.Numbers
-	// isExact says that the revision of the policy is the number of the last command that counts for it. Otherwise it is that of the last
-	// command, since this node may have begun with a snapshot that doesn't say.
-	isExact bool
-	// coming has the commands without an answer that may make sessions or roles.
-	coming []*api.Call
-	mutex  sync.Mutex // for coming
 }
 
 // begin sets the numbers of a snapshot.
 func (n *Node) begin(s office.Snapshot, first int64) {
 	o := &n.order
-	o.first, o.isExact = first, s.Policy > 0
-	o.numbers = state.Numbers{All: first + s.Count, Policy: first + s.Count}
-	if o.isExact {
-		o.numbers.Policy = s.Policy
+	o.first, o.numbers = first, state.Numbers{All: first + s.Count, Policy: s.Policy}
+	if s.Policy == 0 { // Nothing is known of the commands before, of which an empty log has none.
+		o.numbers.Policy = o.numbers.All
 	}
 	n.state.Advance(o.numbers)
 }
@@ -250,77 +236,43 @@ func (n *Node) begin(s office.Snapshot, first int64) {
 // advance says that there are no more commands up to a number of the log.
 func (n *Node) advance(count int64) {
 	o := &n.order
-	if o.numbers.All = o.first + count; !o.isExact {
-		o.numbers.Policy = o.numbers.All
-	}
+	o.numbers.All = o.first + count
 	n.state.Advance(o.numbers)
 }
 
-// ask sends a question.
+// ask sends a question. What the program doesn't know is answered here, at its place.
 func (n *Node) ask(call *api.Call, answered func(text []byte)) {
 	n.send(call.Line, func(text []byte) {
-		if call.Seen != nil {
-			call.Seen()
+		if call.Function == api.DecideByUser {
+			text, _ = n.state.Answer(call) // Without an answer there is none to the request.
 		}
 		answered(text)
 	})
 }
 
-// sendCall sends a call of a unit, which has a number in the log. Behind a command comes what has to be asked to know what it has done.
+// sendCall sends a call of a unit, which has a number in the log.
 func (n *Node) sendCall(unit ledger.Unit, call *api.Call, number int64, answered func(text []byte)) {
 	if call.Kind == api.Question {
 		n.ask(call, answered)
 		return
 	}
-	calls, record := append([]*api.Call{call}, n.review(call)...), n.recording(unit, call)
-	texts := make([][]byte, len(calls))
-	for i, one := range calls {
-		i := i
-		n.send(one.Line, func(text []byte) {
-			if texts[i] = text; i == len(texts)-1 {
-				record(texts[0])
-				n.follow(number, calls, texts)
-				answered(texts[0])
-			}
-		})
-	}
+	record := n.recording(unit, call)
+	n.send(call.Line, func(text []byte) {
+		record(text)
+		n.follow(number, call, text)
+		answered(text)
+	})
 }
 
-// review returns what has to be asked behind a command.
-func (n *Node) review(call *api.Call) []*api.Call {
+// follow follows a command that was answered. If the office in this process answers it otherwise, the node ends.
+func (n *Node) follow(number int64, call *api.Call, text []byte) {
 	o := &n.order
-	o.mutex.Lock()
-	if isComing(call) {
-		o.coming = append(o.coming, call)
+	o.numbers = o.numbers.After(o.first+number, call, api.IsAccepted(text))
+	if err := n.state.Follow(o.numbers, call, text); err != nil {
+		n.state.Forget()
+		select {
+		case n.unlike <- fmt.Errorf("the office in this process isn't that of the file: %w", err):
+		default: // It ends already.
+		}
 	}
-	calls := append([]*api.Call{}, o.coming...) // Those that aren't here are in the state.
-	o.mutex.Unlock()
-	if !state.NeedsReview([]*api.Call{call}) {
-		return nil
-	}
-	return n.state.Review(append(calls, call))
-}
-
-// follow follows a command that was answered, and what was asked behind it.
-func (n *Node) follow(number int64, calls []*api.Call, texts [][]byte) {
-	o := &n.order
-	o.numbers = o.numbers.After(o.first+number, calls[0], api.IsAccepted(texts[0]))
-	if !o.isExact {
-		o.numbers.Policy = o.numbers.All
-	}
-	n.state.Follow(o.numbers, calls, texts)
-	if isComing(calls[0]) {
-		o.mutex.Lock()
-		defer o.mutex.Unlock()
-		o.coming = o.coming[1:]
-	}
-}
-
-// isComing reports whether a command may make a session or a role, about which a review asks.
-func isComing(call *api.Call) bool {
-	switch call.Function {
-	case "createSession", "addRole", "addAscendant", "addDescendant":
-		return true
-	}
-	return false
 }

@@ -67,7 +67,7 @@ func TestRules(t *testing.T) {
 			n, _, replay := newNode(t)
 			replay.says = refusing
 			n.begin(office.Snapshot{Policy: first}, first)
-			n.apply(ledger.Entry{Place: ledger.Place{Revision: 1, ID: "x"}, Form: 2, Units: []ledger.Unit{{Rule: test.rule, Lines: test.lines}}})
+			n.apply(ledger.Entry{Place: ledger.Place{Revision: 1, ID: "x"}, Units: []ledger.Unit{{Rule: test.rule, Lines: test.lines}}})
 			var wanted []string
 			for _, place := range test.done {
 				wanted = append(wanted, string(test.lines[place]))
@@ -82,8 +82,7 @@ func TestRules(t *testing.T) {
 	}
 }
 
-// Nodes that begin with different snapshots, of which some don't say the revision of the policy, have the same numbers from the first
-// entry of form 2 on.
+// Nodes that begin with different snapshots have the same numbers.
 func TestSameNumbers(t *testing.T) {
 	var entries []ledger.Entry
 	for i := 1; i <= 6; i++ {
@@ -91,9 +90,7 @@ func TestSameNumbers(t *testing.T) {
 		if i%2 == 0 {
 			name = "no"
 		}
-		entries = append(entries, ledger.Entry{
-			Place: ledger.Place{Revision: int64(i), ID: name}, Form: 1 + i/4, Units: []ledger.Unit{{Lines: users(name)}},
-		})
+		entries = append(entries, ledger.Entry{Place: ledger.Place{Revision: int64(i), ID: name}, Units: []ledger.Unit{{Lines: users(name)}}})
 	}
 	numbers := func(s office.Snapshot) (after []state.Numbers) {
 		n, _, replay := newNode(t)
@@ -108,22 +105,16 @@ func TestSameNumbers(t *testing.T) {
 		return after
 	}
 	wanted := []state.Numbers{{All: 1005, Policy: 1005}, {All: 1006, Policy: 1005}}
-	for _, s := range []office.Snapshot{{}, {Revision: 2, Count: 2}, {Revision: 3, Count: 3}, {Revision: 4, Count: 4, Policy: 1003}} {
+	for _, s := range []office.Snapshot{{}, {Revision: 2, Count: 2, Policy: 1001}, {Revision: 3, Count: 3, Policy: 1003}, {Revision: 4, Count: 4, Policy: 1003}} {
 		if given := numbers(s); !reflect.DeepEqual(given, wanted) {
 			t.Errorf("from %+v: %+v", s, given)
 		}
 	}
 }
 
-// A node that can't be sure that all nodes judge a rule refuses it, and so it does with what the log has no room for.
+// A node refuses what the log has no room for.
 func TestRefusedBatches(t *testing.T) {
-	n, log, _ := newNode(t)
-	log.hasNoRules = true
-	b := of(api.Command, "c")
-	b.Rule.IsStopped = true
-	if _, err := n.Do(context.Background(), b); !errors.Is(err, api.Upgrading) {
-		t.Errorf("a rule: %v", err)
-	}
+	n, _, _ := newNode(t)
 	if _, err := n.Do(context.Background(), of(api.Command, strings.Repeat("c", maxUnitBytes+1))); err == nil || errors.Is(err, api.Unavailable) {
 		t.Errorf("a long batch: %v", err)
 	}

@@ -11,11 +11,8 @@ import (
 	"rbac-node/internal/recorded"
 )
 
-// beginRecord begins the record before the first entry of the log that says who asks: that is the same one for all nodes.
+// beginRecord begins the record before the first entry of the log.
 func (n *Node) beginRecord(entry ledger.Entry) error {
-	if entry.Form < 2 {
-		return nil
-	}
 	n.isRecorded = true
 	if n.options.Record == nil || n.options.Record.HasBegun() {
 		return nil

@@ -15,9 +15,6 @@ import (
 	"rbac-node/internal/state"
 )
 
-// probe is a question that costs the office little.
-const probe = `{"fn":"sessionRoles","session":"-"}`
-
 // maxUnitBytes is how many bytes one request for commands may have in the log: etcd refuses values of more than 1.5 MiB, and the
 // requests before it in a batch have at most maxBatchBytes.
 const maxUnitBytes = 768 << 10
@@ -55,6 +52,16 @@ type reply struct {
 	err     error
 }
 
+// replyOf returns a reply with some answers, unless one of them is missing.
+func replyOf(texts [][]byte, at api.Point) reply {
+	for _, text := range texts {
+		if text == nil {
+			return reply{err: api.Unavailable}
+		}
+	}
+	return reply{answers: api.Answers{Texts: texts, Point: at}}
+}
+
 // isWaiting reports whether somebody waits for the answer.
 func (r *request) isWaiting() bool {
 	select {
@@ -72,8 +79,6 @@ func (n *Node) Do(ctx context.Context, b api.Batch) (api.Answers, error) {
 		return api.Answers{}, api.Diverged
 	case b.Kind == api.Local && n.heard.Load() < 0:
 		return api.Answers{}, api.Unavailable
-	case b.Kind == api.Command && ruleOf(b) != nil && !n.shared.HasRules():
-		return api.Answers{}, api.Upgrading
 	}
 	if err := n.admit(b); err != nil {
 		return api.Answers{}, err
@@ -87,7 +92,7 @@ func (n *Node) Do(ctx context.Context, b api.Batch) (api.Answers, error) {
 		}
 		b.Rule.Policy = 0
 	}
-	n.touch(b.Calls)
+	n.state.Touch(b.Calls)
 	within, cancel := context.WithTimeout(ctx, n.options.AnswerTimeout)
 	defer cancel()
 	r := newRequest(within.Done(), b)
@@ -125,19 +130,10 @@ func (n *Node) guess(r *request) api.Answers {
 	return api.Answers{Texts: texts, Point: api.Point{Revision: n.applied.Load().revision + 1}}
 }
 
-// touch says that the sessions are used which questions name.
-func (n *Node) touch(calls []*api.Call) {
-	for _, call := range calls {
-		if name, has := call.Texts["session"]; has && call.Kind == api.Question {
-			n.state.Touch(name)
-		}
-	}
-}
-
 // Await returns when the state has all that questions of a kind have to see.
 func (n *Node) Await(ctx context.Context, kind api.Kind) (api.Point, error) {
-	answers, err := n.Do(ctx, api.NewBatch(kind, &api.Call{Kind: api.Question, Line: []byte(probe)}))
-	return api.Point{Newest: answers.Newest}, err
+	answers, err := n.Do(ctx, api.NewBatch(kind, &api.Call{Kind: api.Question, Line: []byte(api.Placeholder)}))
+	return answers.Point, err
 }
 
 // State returns what is known of the office.
@@ -257,7 +253,7 @@ func (n *Node) confirm(ctx context.Context) error {
 		if err == nil { // Otherwise the askers have waited long enough.
 			n.seen.Store(head)
 			_ = n.submit(within, task{head, func() {
-				n.send([]byte(probe), func([]byte) { n.hear(read) })
+				n.send([]byte(api.Placeholder), func([]byte) { n.hear(read) })
 				n.sendQuestions(questions...)
 			}})
 		}

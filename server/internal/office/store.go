@@ -82,7 +82,7 @@ type Snapshot struct {
 	// Record is the head of the record at this place. It is empty if the record begins later, and NoRecord if the node that has made
 	// the snapshot keeps none.
 	Record string `json:"record,omitempty"`
-	// Policy is the revision of the policy, or 0 if the nodes may not agree on it yet.
+	// Policy is the revision of the policy, or 0 if nothing is known of the commands before, as of an office that was adopted.
 	Policy int64 `json:"policy,omitempty"`
 	// Copied says that another node has made it, so that it is no second witness for its rows.
 	Copied bool `json:"copied,omitempty"`

@@ -3,6 +3,7 @@ package record
 import (
 	"context"
 	"database/sql"
+	"encoding/json"
 	"errors"
 	"fmt"
 	"os"
@@ -33,9 +34,9 @@ type place struct {
 	first int64
 	link  string
 	// next is the time of the entry after it, or empty if there is none. isAdopted says that that entry begins anew over an office that
-	// was written behind the record.
-	next      string
-	isAdopted bool
+	// was written behind the record, and restored names the backup if it is one that was restored.
+	next, restored string
+	isAdopted      bool
 }
 
 // Access prints who could do an operation on an object as the office was then, or what a user could do. The whole record is verified,
@@ -125,6 +126,9 @@ func (p *place) notes() []string {
 		notes = append(notes, fmt.Sprintf("computed from the copy of the office at entry %d and the entries %d to %d", p.first, p.first+1, p.n))
 	}
 	switch {
+	case p.restored != "":
+		notes = append(notes, fmt.Sprintf("the next entry, %d, is of %s: the backup %q was restored, and what was done after it was made is in the record "+
+			"that was moved away", p.n+1, p.next, p.restored))
 	case p.isAdopted:
 		notes = append(notes, fmt.Sprintf("before entry %d, %s, somebody wrote the office behind the record: nobody knows since when it was other than this",
 			p.n+1, p.next))
@@ -196,6 +200,15 @@ func (s stretch) judge(query AccessQuery) error {
 	return nil
 }
 
+// restoredFrom returns the name of the backup that an entry says was restored, or nothing if it says something else.
+func restoredFrom(e *entry) string {
+	var text beginningText
+	if e.caller != Front || json.Unmarshal([]byte(e.request), &text) != nil || text.Record != adopted {
+		return ""
+	}
+	return text.Restored
+}
+
 // newPlace reads what there is to know about a place.
 func newPlace(ctx context.Context, views []*view, found stretch) (*place, error) {
 	p := &place{n: found.last.Int64}
@@ -214,7 +227,7 @@ func newPlace(ctx context.Context, views []*view, found stretch) (*place, error)
 			if e.n == p.n {
 				p.at, p.link = e.at, e.ch
 			} else {
-				p.next = e.at
+				p.next, p.restored = e.at, restoredFrom(e)
 			}
 			return nil
 		})

@@ -22,6 +22,8 @@ const (
 // An adoption says who has adopted an office, and what differs in it from what the record gives.
 type adoption struct {
 	By string
+	// Restored is the name of the backup, if the office is one that was restored.
+	Restored string
 	// Changed is nil if nobody knows what the record gives.
 	Changed *changes
 }
@@ -65,7 +67,7 @@ func (t *Tool) Adopt(ctx context.Context, by, reason string) error {
 		return err
 	}
 	if has, err := hasRecord(DirOf(t.Office)); err == nil && !has {
-		return t.adoptFirst(ctx, by, reason)
+		return t.adoptFirst(ctx, adoption{By: by}, reason)
 	}
 	r, lock, err := t.openLocked(ctx)
 	if err != nil {
@@ -80,7 +82,7 @@ func (t *Tool) Adopt(ctx context.Context, by, reason string) error {
 	case !errors.Is(err, errDiffers) && !errors.Is(err, errNoStart) && !errors.As(err, &wrong):
 		return err
 	}
-	if err := r.beginAnew(ctx, by, reason); err != nil {
+	if err := r.beginAnew(ctx, adoption{By: by}, reason); err != nil {
 		return fmt.Errorf("record: %w", err)
 	}
 	fmt.Fprintf(t.Out, "the record begins anew over the office as it is, at entry %d\n", r.head.n)
@@ -88,13 +90,13 @@ func (t *Tool) Adopt(ctx context.Context, by, reason string) error {
 }
 
 // beginAnew begins a part over the office as it is, and says in the record who does that, why, and what was changed.
-func (r *Record) beginAnew(ctx context.Context, by, reason string) error {
+func (r *Record) beginAnew(ctx context.Context, by adoption, reason string) error {
 	return r.withCopy(ctx, r.Office, func(copied, rows string) error {
 		changed, err := r.changed(ctx, copied)
 		if err != nil {
 			return err
 		}
-		p := part{why: adopted, rows: rows, adoption: adoption{by, changed}, reason: reason}
+		p := part{why: adopted, rows: rows, adoption: adoption{by.By, by.Restored, changed}, reason: reason}
 		if err := inTransaction(r.db, func(tx *sql.Tx) error { return r.adopt(ctx, tx, p, copied) }); err != nil {
 			return err
 		}
@@ -103,7 +105,7 @@ func (r *Record) beginAnew(ctx context.Context, by, reason string) error {
 }
 
 // adoptFirst begins the record of an office that has commands and no record.
-func (t *Tool) adoptFirst(ctx context.Context, by, reason string) error {
+func (t *Tool) adoptFirst(ctx context.Context, by adoption, reason string) error {
 	lock, err := t.lockIfFree(ctx)
 	if err == nil && lock == nil {
 		err = errFrontRuns
@@ -114,7 +116,7 @@ func (t *Tool) adoptFirst(ctx context.Context, by, reason string) error {
 	defer lock.Close()
 	r := newRecord(t.options())
 	defer r.close()
-	p := part{first: 1, why: adopted, adoption: adoption{By: by}, reason: reason}
+	p := part{first: 1, why: adopted, adoption: by, reason: reason}
 	err = r.beginWith(ctx, p, now(), func(copied string) error {
 		if has, err := hasCommands(ctx, copied); err != nil || has {
 			return err

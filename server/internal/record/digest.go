@@ -40,11 +40,10 @@ func recordedText(text string) string {
 
 // recordedLine returns the line that is recorded for a command. It refuses one that would be longer than the replay accepts.
 func recordedLine(call *api.Call) ([]byte, error) {
-	text, has := call.Texts[session]
-	if !has {
+	if !call.Has(session) {
 		return call.Line, nil
 	}
-	line, err := call.LineWith(session, recordedText(text))
+	line, err := call.LineWith(session, recordedText(call.Session))
 	if err != nil {
 		return line, api.Refusal{Status: http.StatusRequestEntityTooLarge, Code: 34, Name: "BadRequest"}
 	}

@@ -12,6 +12,8 @@ import (
 	"strings"
 	"syscall"
 	"time"
+
+	"rbac-node/internal/metrics"
 )
 
 // A Head is the number and the link of the last entry with an answer.
@@ -138,26 +140,23 @@ func (r *Record) addMetrics() {
 		return
 	}
 	const help = "The head of the record that was last logged: the number of its entry, and the link as a label."
-	r.Metrics.LabelledGauge("rbac_node_record_head", help, "chain", func() (string, float64) {
+	metrics.Gauges(r.Metrics, "rbac_node_record_head", help, "chain", func() map[string]float64 {
 		r.mutex.Lock()
 		defer r.mutex.Unlock()
-		return r.announced.Chain, float64(r.announced.N)
-	})
-	r.Metrics.Gauge("rbac_node_record_failing", "1 if the record can't be written: one machine refuses commands then.", func() float64 {
-		if r.Why() != "" {
-			return 1
+		if r.announced.Chain == "" {
+			return nil
 		}
-		return 0
+		return map[string]float64{r.announced.Chain: float64(r.announced.N)}
+	})
+	metrics.Flag(r.Metrics, "rbac_node_record_failing", "1 if the record can't be written: one machine refuses commands then.", func() bool {
+		return r.Why() != ""
 	})
 	if r.VerifyEvery <= 0 {
 		return
 	}
-	r.Metrics.Gauge("rbac_node_record_broken", "1 if the chain of the record was broken when it was last verified.", func() float64 {
+	metrics.Flag(r.Metrics, "rbac_node_record_broken", "1 if the chain of the record was broken when it was last verified.", func() bool {
 		r.mutex.Lock()
 		defer r.mutex.Unlock()
-		if r.isBroken {
-			return 1
-		}
-		return 0
+		return r.isBroken
 	})
 }

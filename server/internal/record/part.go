@@ -15,7 +15,7 @@ const partPrefix = "record-"
 const (
 	beginning = "begins"    // There was no record before.
 	continued = "continues" // The part before it has been closed; its last rows are the first of this one.
-	adopted   = "adopts"    // Somebody has written the office or the record, and the office as it is was adopted.
+	adopted   = "adopts"    // Somebody has written the office or the record, or restored a backup, and the office as it is was adopted.
 	joined    = "joins"     // A node has begun with a snapshot. No entry says so, since all nodes have the same entries.
 )
 
@@ -33,7 +33,7 @@ func (p *part) entry(at string) *entry {
 	if p.why == joined {
 		return nil
 	}
-	text, _ := json.Marshal(beginningText{p.why, p.rows, p.adoption.By, p.adoption.Changed}) // It has nothing that JSON can't say.
+	text, _ := json.Marshal(beginningText{p.why, p.rows, p.adoption.By, p.adoption.Restored, p.adoption.Changed}) // It has nothing that JSON can't say.
 	e := &entry{n: p.first, at: at, caller: Front, reason: p.reason, request: string(text), answer: accepted}
 	e.ch = chained(p.before, e)
 	return e
@@ -41,10 +41,11 @@ func (p *part) entry(at string) *entry {
 
 // A beginningText is the request of an entry that says how a part begins.
 type beginningText struct {
-	Record  string   `json:"record"`
-	Rows    string   `json:"rows"`
-	By      string   `json:"by,omitempty"`
-	Changed *changes `json:"changed,omitempty"`
+	Record   string   `json:"record"`
+	Rows     string   `json:"rows"`
+	By       string   `json:"by,omitempty"`
+	Restored string   `json:"restored,omitempty"`
+	Changed  *changes `json:"changed,omitempty"`
 }
 
 // begins reports whether an entry says how the part begins. It notes what that entry says of an adoption.
@@ -54,7 +55,7 @@ func (p *part) begins(e *entry) bool {
 		if json.Unmarshal([]byte(e.request), &text) != nil {
 			return false
 		}
-		p.adoption, p.reason = adoption{text.By, text.Changed}, e.reason
+		p.adoption, p.reason = adoption{text.By, text.Restored, text.Changed}, e.reason
 	}
 	wanted := p.entry(e.at)
 	return wanted != nil && *e == *wanted

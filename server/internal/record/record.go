@@ -17,9 +17,10 @@ import (
 	"sync"
 	"time"
 
+	"github.com/prometheus/client_golang/prometheus"
+
 	"rbac-node/internal/feed"
 	"rbac-node/internal/logs"
-	"rbac-node/internal/metrics"
 )
 
 const (
@@ -48,7 +49,7 @@ type Options struct {
 	// VerifyEvery is after how much time the whole chain is verified again while the front runs. Zero is never.
 	VerifyEvery time.Duration
 	Log         *logs.Logger
-	Metrics     *metrics.Registry
+	Metrics     prometheus.Registerer
 	// Say is called with what a start does. It may be nil.
 	Say func(stage string)
 }

@@ -10,9 +10,10 @@ import (
 )
 
 // Restore makes a copy of a pair from a backup what a front may begin with: it verifies the pair, ends all sessions, and begins a new part
-// that says who has restored it and why. If the backup has no record, it begins one unless that isn't wanted. It returns what it has
+// that says which backup was restored, by whom and why. If the backup has no record, it begins one unless that isn't wanted. It returns what it has
 // done.
-func (t *Tool) Restore(ctx context.Context, by, reason string, isRecorded bool) (string, error) {
+func (t *Tool) Restore(ctx context.Context, backup, by, reason string, isRecorded bool) (string, error) {
+	restored := adoption{By: by, Restored: backup}
 	if isRecorded && (!isWord(by) || !isWord(reason)) {
 		return "", errRestoreWord
 	}
@@ -27,7 +28,7 @@ func (t *Tool) Restore(ctx context.Context, by, reason string, isRecorded bool) 
 	case has && !isRecorded:
 		return "", errors.New("it has a record, from which --no-record would part the office")
 	case !has:
-		return t.restoreOffice(ctx, by, reason, isRecorded)
+		return t.restoreOffice(ctx, restored, reason, isRecorded)
 	}
 	said := ""
 	t.Out = io.Discard
@@ -36,7 +37,7 @@ func (t *Tool) Restore(ctx context.Context, by, reason string, isRecorded bool) 
 	} else if err != nil {
 		return "", err
 	}
-	ended, entry, err := t.restorePair(ctx, by, reason)
+	ended, entry, err := t.restorePair(ctx, restored, reason)
 	if err != nil {
 		return "", err
 	}
@@ -46,7 +47,7 @@ func (t *Tool) Restore(ctx context.Context, by, reason string, isRecorded bool) 
 var errRestoreWord = fmt.Errorf("restore needs --by and --reason, each of at most %d bytes without control characters", longestWord)
 
 // restorePair ends all sessions of an office, and returns how many, and the entry that says so.
-func (t *Tool) restorePair(ctx context.Context, by, reason string) (ended, entry int64, err error) {
+func (t *Tool) restorePair(ctx context.Context, restored adoption, reason string) (ended, entry int64, err error) {
 	r, lock, err := t.openLocked(ctx)
 	if err != nil {
 		return 0, 0, err
@@ -59,14 +60,14 @@ func (t *Tool) restorePair(ctx context.Context, by, reason string) (ended, entry
 	if ended, err = t.endSessions(ctx); err != nil {
 		return 0, 0, err
 	}
-	if err := r.beginAnew(ctx, by, reason); err != nil {
+	if err := r.beginAnew(ctx, restored, reason); err != nil {
 		return 0, 0, fmt.Errorf("record: %w", err)
 	}
 	return ended, r.head.n, r.close()
 }
 
 // restoreOffice is Restore for an office without a record.
-func (t *Tool) restoreOffice(ctx context.Context, by, reason string, isRecorded bool) (string, error) {
+func (t *Tool) restoreOffice(ctx context.Context, restored adoption, reason string, isRecorded bool) (string, error) {
 	ended, err := t.endSessions(ctx)
 	if err != nil {
 		return "", err
@@ -76,7 +77,7 @@ func (t *Tool) restoreOffice(ctx context.Context, by, reason string, isRecorded 
 		return said, nil
 	}
 	t.Out = io.Discard
-	if err := t.adoptFirst(ctx, by, reason); err != nil && !errors.Is(err, errNothing) {
+	if err := t.adoptFirst(ctx, restored, reason); err != nil && !errors.Is(err, errNothing) {
 		return "", err
 	}
 	return said + ": it begins anew", nil

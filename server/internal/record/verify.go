@@ -384,7 +384,9 @@ func (v *verifier) join(p part) error {
 // sayAdopted says how a part begins over an office that was adopted.
 func (v *verifier) sayAdopted(p *part) {
 	what := "anew over an office that somebody has written behind the record"
-	switch {
+	switch restored := p.adoption.Restored; {
+	case restored != "":
+		what = fmt.Sprintf("anew over the backup %q, which was restored", restored)
 	case v.Data != "":
 		what = "anew over the office of a backup"
 	case p.first == 1:

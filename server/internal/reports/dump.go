@@ -35,7 +35,7 @@ func dump(office *state.Frozen) *Report {
 	}{
 		{"addUser", office.Users, []string{"user"}},
 		{"addRole", office.Roles, []string{"role"}},
-		{"addInheritance", office.Graph.Edges(), []string{"asc", "desc"}},
+		{"addInheritance", office.Graph.Edges, []string{"asc", "desc"}},
 		{"addPermObj", office.Objects, []string{"object"}},
 		{"addPermission", office.Permissions, []string{"object", "operation"}},
 		{"grantPermission", office.Grants, []string{"object", "operation", "role"}},

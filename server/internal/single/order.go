@@ -19,18 +19,25 @@ type order struct {
 	numbering numbering
 }
 
-// before finds out what the file has, which no replay has open.
+// before finds out what the file has, which no replay has open. If that isn't known, nothing is answered from memory.
 func (o *Office) before(ctx context.Context) error {
+	err := o.read(ctx)
+	if err != nil {
+		o.state.Forget()
+		o.state.Skip() // Some commands may not be known, so watches end.
+	}
+	o.numbering.keepAhead(o.numbers().All)
+	return err
+}
+
+// read is before without its end.
+func (o *Office) read(ctx context.Context) error {
 	if o.record != nil {
 		if err := o.record.Before(ctx); err != nil {
 			return err
 		}
 	}
 	o.Say("the rows of the office are read")
-	if o.feed != nil {
-		o.state.Skip() // Commands may have been done whose answers nobody has read, and the file may be another one.
-		o.numbering.keepAhead(o.numbers().All)
-	}
 	err := o.state.Load(ctx, o.File)
 	if o.feed == nil {
 		o.unread = err // If the office doesn't open either, that says more.
@@ -41,59 +48,46 @@ func (o *Office) before(ctx context.Context) error {
 
 // Answered follows the commands of a unit. The feed calls it in the one order.
 func (o *Office) Answered(u *feed.Unit) {
-	o.state.Answered(u.Calls, u.Answers)
-	o.numbering.keepAhead(o.numbers().All)
+	numbers, err := o.state.Answered(u.Calls, u.Answers)
+	u.Policy = numbers.Policy
+	for _, answer := range u.Answers {
+		if answer == nil {
+			u.Fail()
+		}
+	}
+	if err != nil {
+		o.beginAgain(err)
+	}
+	o.numbering.keepAhead(numbers.All)
 }
 
 // State returns what is known of the office.
 func (o *Office) State() *state.State { return o.state }
 
-// Do does a batch. All kinds of questions are answered from the newest state.
+// Do does a batch. All kinds of questions are answered from the newest state, also while there is no replay.
 func (o *Office) Do(ctx context.Context, b api.Batch) (api.Answers, error) {
-	if b.Kind == api.Command && (b.Rule != api.Rule{} || state.NeedsReview(b.Calls) || areSeen(b.Calls)) {
+	if b.Kind != api.Command {
+		texts, numbers, err := o.state.Ask(b.Calls...)
+		return api.Answers{Texts: texts, Point: api.Point{Policy: numbers.Policy}}, err
+	}
+	if b.Rule != (api.Rule{}) {
 		return o.doInTurn(ctx, b)
 	}
 	within, cancel := context.WithTimeout(ctx, o.AnswerTimeout)
 	defer cancel()
-	o.touch(b.Calls)
-	at := &api.Point{} // The unit may outlive the request.
-	u := &feed.Unit{Lines: linesOf(b.Calls), Observed: func() {
-		at.Policy = o.numbers().Policy
-		see(b.Calls)
-	}}
-	if b.Kind == api.Command {
-		if err := o.admit(u, b.Calls); err != nil {
-			return api.Answers{}, err
-		}
-		if err := o.enter(within); err != nil {
-			return api.Answers{}, err
-		}
-		u.Finally = o.gate.RUnlock
+	u, err := o.admit(b.Calls)
+	if err != nil {
+		return api.Answers{}, err
 	}
+	if err := o.enter(within); err != nil {
+		return api.Answers{}, err
+	}
+	u.Finally = o.gate.RUnlock
 	texts, err := o.feed.Do(within, u)
 	if err != nil {
 		return api.Answers{}, err
 	}
-	return api.Answers{Texts: texts, Point: *at}, nil
-}
-
-// areSeen reports whether somebody wants to see the state behind one of the calls.
-func areSeen(calls []*api.Call) bool {
-	for _, call := range calls {
-		if call.Seen != nil {
-			return true
-		}
-	}
-	return false
-}
-
-// see says that calls have been answered.
-func see(calls []*api.Call) {
-	for _, call := range calls {
-		if call.Seen != nil {
-			call.Seen()
-		}
-	}
+	return api.Answers{Texts: texts, Point: api.Point{Policy: u.Policy}}, nil
 }
 
 // Await returns at once: the state has whatever was answered.
@@ -102,16 +96,17 @@ func (o *Office) Await(context.Context, api.Kind) (api.Point, error) { return ap
 // numbers returns the numbers of this moment.
 func (o *Office) numbers() state.Numbers { return o.state.Numbers() }
 
-// admit makes a unit one of commands.
-func (o *Office) admit(u *feed.Unit, calls []*api.Call) error {
-	u.Calls = calls
+// admit returns a unit of commands, and of questions between them.
+func (o *Office) admit(calls []*api.Call) (*feed.Unit, error) {
+	o.state.Touch(calls)
+	u := feed.NewUnit(calls...)
 	if err := o.numbering.require(o.numbers().All); err != nil {
-		return err
+		return nil, err
 	}
 	if o.record == nil {
-		return nil
+		return u, nil
 	}
-	return o.record.Admit(u)
+	return u, o.record.Admit(u)
 }
 
 // doInTurn is Do while no command of others is done.
@@ -121,7 +116,7 @@ func (o *Office) doInTurn(ctx context.Context, b api.Batch) (api.Answers, error)
 		if b.Rule.Policy > 0 && b.Rule.Policy != o.numbers().Policy {
 			return api.Outdated
 		}
-		answers.Texts, err = b.Rule.Run(b.Calls, t.askStepwise)
+		answers.Texts, err = b.Rule.Run(b.Calls, t.ask)
 		answers.Policy = o.numbers().Policy
 		return err
 	})
@@ -158,24 +153,7 @@ func (o *Office) enter(ctx context.Context) error {
 	}
 }
 
-// touch says that the sessions are used which calls name.
-func (o *Office) touch(calls []*api.Call) {
-	for _, call := range calls {
-		if name, has := call.Texts["session"]; has && call.Kind == api.Question {
-			o.state.Touch(name)
-		}
-	}
-}
-
-// linesOf returns the lines of some calls.
-func linesOf(calls []*api.Call) [][]byte {
-	lines := make([][]byte, len(calls))
-	for i, call := range calls {
-		lines[i] = call.Line
-	}
-	return lines
-}
-
+// haveCommand reports whether one of some calls is a command.
 func haveCommand(calls []*api.Call) bool {
 	for _, call := range calls {
 		if call.Kind == api.Command {
@@ -189,6 +167,8 @@ func haveCommand(calls []*api.Call) bool {
 type turn struct {
 	office *Office
 	ctx    context.Context
+	// life is that of the replay: nothing is done by a later one, since the policy may have changed then.
+	life int64
 	// asked has the units that aren't finished.
 	asked sync.WaitGroup
 }
@@ -202,7 +182,7 @@ func (o *Office) inTurn(ctx context.Context, do func(*turn) error) error {
 		defer cancel()
 		o.gate.Lock()
 		defer o.gate.Unlock()
-		t := &turn{office: o, ctx: within}
+		t := &turn{office: o, ctx: within, life: o.feed.Life()}
 		err := error(api.Unavailable)
 		if within.Err() == nil {
 			err = do(t)
@@ -223,43 +203,18 @@ func (o *Office) inTurn(ctx context.Context, do func(*turn) error) error {
 	}
 }
 
-// askStepwise is ask, up to each call behind which somebody wants to see the state.
-func (t *turn) askStepwise(calls ...*api.Call) (answers [][]byte, err error) {
-	for len(calls) > 0 {
-		count := 1
-		for calls[count-1].Seen == nil && count < len(calls) {
-			count++
-		}
-		found, err := t.ask(calls[:count]...)
-		if err != nil {
-			return nil, err
-		}
-		see(calls[:count])
-		answers, calls = append(answers, found...), calls[count:]
-	}
-	return answers, nil
-}
-
 // ask returns the answers to some calls, with nothing of others between them.
 func (t *turn) ask(calls ...*api.Call) ([][]byte, error) {
 	o := t.office
-	o.touch(calls)
 	if !haveCommand(calls) {
-		return o.feed.Ask(t.ctx, linesOf(calls)...)
+		answers, _, err := o.state.Ask(calls...)
+		return answers, err
 	}
-	all := calls
-	if state.NeedsReview(calls) {
-		all = append(append([]*api.Call(nil), calls...), o.state.Review(calls)...)
-	}
-	u := &feed.Unit{Lines: linesOf(all)}
-	if err := o.admit(u, all); err != nil {
-		return nil, err
-	}
-	t.asked.Add(1)
-	u.Finally = t.asked.Done
-	answers, err := o.feed.Do(t.ctx, u)
+	u, err := o.admit(calls)
 	if err != nil {
 		return nil, err
 	}
-	return answers[:len(calls)], nil
+	t.asked.Add(1)
+	u.Finally, u.Life = t.asked.Done, t.life
+	return o.feed.Do(t.ctx, u)
 }

@@ -1,6 +1,6 @@
-// Package single keeps one office on one machine, without etcd. It feeds `rbac replay FILE`, so the file is the truth: an answer
-// comes after its command is in the file, and every function is answered by the replay. Lists and snapshots, which no function
-// answers, come from the state in memory.
+// Package single keeps one office on one machine, without etcd. It feeds commands to `rbac replay FILE`, so the file is the truth: an
+// answer comes after its command is in the file. An office in this process, by librbac, does each command that the replay has accepted
+// before its answer leaves, and answers all questions. If the two answer a command differently, both begin with the file again.
 package single
 
 import (
@@ -20,7 +20,6 @@ import (
 	"rbac-node/internal/feed"
 	"rbac-node/internal/logs"
 	"rbac-node/internal/office"
-	"rbac-node/internal/trial"
 )
 
 const (
@@ -72,7 +71,6 @@ type Office struct {
 	lock *os.File
 	// record is nil if nothing is recorded.
 	record Recorder
-	trying trying
 }
 
 // Open opens the office of a file, and makes it if there is no file.
@@ -81,8 +79,7 @@ func Open(ctx context.Context, options Options) (*Office, error) {
 	if err != nil {
 		return nil, err
 	}
-	o := &Office{Options: options, lock: lock, trying: make(trying, 1)}
-	trial.RemoveFolders(o.File)
+	o := &Office{Options: options, lock: lock}
 	if err := o.open(ctx); err != nil {
 		if o.record != nil {
 			_ = o.record.Close(false) // What has failed before says more.
@@ -221,8 +218,9 @@ func (o *Office) Run(ctx context.Context) error {
 			_, _ = o.Do(ctx, api.NewBatch(api.Question, call)) // It is tried again.
 		})
 	}
+	go o.compareOften(ctx)
 	err := o.feed.Run(ctx)
-	o.trying <- struct{}{} // Whoever has tried commands has removed the copy.
+	o.state.Forget()
 	if o.record == nil {
 		return err
 	}
@@ -253,6 +251,9 @@ type health struct {
 
 func (o *Office) health() health {
 	h := health{Why: o.feed.Why(), Open: o.IsOpen}
+	if h.Why == "" && !o.state.IsKnown() {
+		h.Why = "the office is read from its file again"
+	}
 	h.Ready = h.Why == ""
 	if o.record != nil {
 		h.Record = o.record.Why()
@@ -260,8 +261,8 @@ func (o *Office) health() health {
 	return h
 }
 
-// IsReady reports whether the office answers.
-func (o *Office) IsReady() bool { return o.health().Ready }
+// IsReady reports whether the office answers questions, which needs no replay.
+func (o *Office) IsReady() bool { return o.state.IsKnown() }
 
 // ServeHealth reports the condition of the office, with 200 if it answers and 503 if not.
 func (o *Office) ServeHealth(w http.ResponseWriter, _ *http.Request) {

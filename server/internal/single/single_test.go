@@ -11,10 +11,11 @@ import (
 	"testing"
 	"time"
 
+	"github.com/prometheus/client_golang/prometheus"
+
 	"rbac-node/internal/api"
 	"rbac-node/internal/feed"
 	"rbac-node/internal/logs"
-	"rbac-node/internal/metrics"
 	"rbac-node/internal/programtest"
 )
 
@@ -22,7 +23,7 @@ func optionsOf(t *testing.T, file string) Options {
 	return Options{
 		Locked: func() error { return nil }, Say: func(string) {},
 		File: file, Program: programtest.Path(t), AnswerTimeout: 20 * time.Second, HangTimeout: time.Minute, Reads: MostReads, Log: logs.New(&bytes.Buffer{}),
-		Figures: feed.NewFigures(&metrics.Registry{}),
+		Figures: feed.NewFigures(prometheus.NewRegistry()),
 	}
 }
 
@@ -131,12 +132,12 @@ func TestStartsAnew(t *testing.T) {
 	var log bytes.Buffer
 	options.Log = logs.New(&log)
 	o, stop := run(t, options)
-	for i := 0; i < 200; i++ {
+	for i := 0; i < 500; i++ {
 		if given := ask(t, o, fmt.Sprintf(`{"fn":"addUser","user":"u%d"}`, i)); given != `{"ok":true}` {
 			t.Errorf("user %d: %s", i, given)
 		}
 	}
-	for i := 0; i < 200; i++ {
+	for i := 0; i < 500; i++ {
 		if given := ask(t, o, fmt.Sprintf(`{"fn":"assignedRoles","user":"u%d"}`, i)); given != `{"ok":true,"value":[]}` {
 			t.Errorf("user %d: %s", i, given)
 		}

@@ -1,6 +1,10 @@
 package state
 
-import "sort"
+import (
+	"sort"
+
+	"rbac/clients/go/rbacoffice"
+)
 
 // A Part is a part of the role graph: some roles, the inheritances between them, and the sets with members among them.
 type Part struct {
@@ -12,32 +16,14 @@ type Part struct {
 }
 
 // Whole returns the whole role graph.
-func (s *State) Whole() Part {
-	s.mutex.RLock()
-	rows, graph := s.roles.share(), s.graph
-	s.mutex.RUnlock()
-	roles := make([]string, len(rows))
-	for i, row := range rows {
-		roles[i] = row[0]
-	}
-	return graph.part(roles)
-}
-
-// HasRole reports whether there is a role.
-func (s *State) HasRole(role string) bool {
-	s.mutex.RLock()
-	defer s.mutex.RUnlock()
-	return s.roles.has(role)
-}
+func (v *View) Whole() Part { return v.Graph().part(firsts(v.all(rbacoffice.Roles))) }
 
 // Around returns a role with its immediate seniors and juniors. It leaves out the last ones if there are more roles than may be.
 func (g *Graph) Around(role string, most int) Part {
 	near := append([]string(nil), g.juniors[role]...)
-	for senior, juniors := range g.juniors {
-		for _, junior := range juniors {
-			if junior == role {
-				near = append(near, senior)
-			}
+	for _, edge := range g.Edges {
+		if edge[1] == role {
+			near = append(near, edge[0])
 		}
 	}
 	sort.Strings(near)
@@ -73,25 +59,21 @@ func (g *Graph) part(roles []string) Part {
 	for _, role := range roles {
 		has[role] = true
 	}
-	for _, role := range roles {
-		juniors := append([]string(nil), g.juniors[role]...)
-		sort.Strings(juniors)
-		for _, junior := range juniors {
-			if has[junior] {
-				part.Edges = append(part.Edges, [2]string{role, junior})
-			}
+	for _, edge := range g.Edges {
+		if has[edge[0]] && has[edge[1]] {
+			part.Edges = append(part.Edges, [2]string{edge[0], edge[1]})
 		}
 	}
-	part.Static, part.Dynamic = setsWith(g.static, has), setsWith(g.dynamic, has)
+	part.Static, part.Dynamic = setsWith(g.Static, has), setsWith(g.Dynamic, has)
 	return part
 }
 
 // setsWith returns the sets with members among some roles, with all of their members.
-func setsWith(sets map[string]Set, has map[string]bool) (found []NamedSet) {
-	for _, name := range namesOf(sets) {
-		for role := range sets[name].Roles {
+func setsWith(sets []NamedSet, has map[string]bool) (found []NamedSet) {
+	for _, set := range sets {
+		for _, role := range set.Roles {
 			if has[role] {
-				found = append(found, NamedSet{name, sets[name].members(), sets[name].Cardinality})
+				found = append(found, set)
 				break
 			}
 		}

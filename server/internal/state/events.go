@@ -54,11 +54,11 @@ func lineWithDigest(call *api.Call) []byte {
 	for _, key := range api.Keys(call.Function) {
 		switch key {
 		case "session":
-			w.text(key, digest(call.Texts[key]))
+			w.text(key, digest(call.Text(key)))
 		case "roles":
 			w.texts(key, call.Roles)
 		default:
-			w.text(key, call.Texts[key])
+			w.text(key, call.Text(key))
 		}
 	}
 	w.WriteByte('}')
@@ -73,8 +73,12 @@ func (s *State) forget() {
 
 // Skip leaves out numbers, since it isn't known which commands were accepted. So nobody takes a state of before for that of now.
 func (s *State) Skip() {
-	s.mutex.Lock()
-	defer s.mutex.Unlock()
+	s.lock()
+	defer s.unlock()
+	s.skip()
+}
+
+func (s *State) skip() {
 	s.numbers.All += gap
 	s.numbers.Policy += gap
 	s.forget()

@@ -1,34 +1,18 @@
 package state
 
 import (
-	"sort"
 	"sync"
 
-	"rbac-node/internal/api"
+	"rbac/clients/go/rbacoffice"
 )
 
-// A Set is a separation of duty set.
-type Set struct {
-	Roles       map[string]bool
-	Cardinality int64
-}
-
-// members returns the roles of the set in their order.
-func (s Set) members() []string {
-	roles := make([]string, 0, len(s.Roles))
-	for role := range s.Roles {
-		roles = append(roles, role)
-	}
-	sort.Strings(roles)
-	return roles
-}
-
-// A Graph has the inheritances and the separation of duty sets of an office at one place in the order. It never changes.
+// A Graph has the inheritances and the separation of duty sets of an office at one moment. It never changes.
 type Graph struct {
 	// juniors has the roles of which a role is an immediate ascendant.
 	juniors map[string][]string
-	static  map[string]Set
-	dynamic map[string]Set
+	// Edges are the immediate inheritances, and Static and Dynamic the sets, in the order of their names.
+	Edges           []Row
+	Static, Dynamic []NamedSet
 	// blocked keeps what Blocked has found.
 	mutex   sync.Mutex
 	blocked map[string]violation
@@ -40,39 +24,47 @@ type violation struct {
 	members []string
 }
 
-func newGraph() *Graph {
-	return &Graph{juniors: map[string][]string{}, static: map[string]Set{}, dynamic: map[string]Set{}}
+// Graph returns the graph of the moment.
+func (v *View) Graph() *Graph {
+	if graph := v.state.graph.Load(); graph != nil {
+		return graph
+	}
+	graph := newGraph(v.all(rbacoffice.Inheritances))
+	graph.Static = v.sets(rbacoffice.StaticCardinalities, rbacoffice.StaticMembers)
+	graph.Dynamic = v.sets(rbacoffice.DynamicCardinalities, rbacoffice.DynamicMembers)
+	if v.err == nil {
+		v.state.graph.Store(graph) // Nobody changes the office meanwhile.
+	}
+	return graph
 }
 
-// withJuniors returns a graph in which a role has other immediate juniors.
-func (g *Graph) withJuniors(role string, change func(juniors []string) []string) *Graph {
-	juniors := make(map[string][]string, len(g.juniors)+1)
-	for one, has := range g.juniors {
-		juniors[one] = has
+func newGraph(edges []Row) *Graph {
+	g := &Graph{juniors: map[string][]string{}, Edges: edges, blocked: map[string]violation{}}
+	for _, edge := range edges {
+		g.juniors[edge[0]] = append(g.juniors[edge[0]], edge[1])
 	}
-	juniors[role] = change(append([]string(nil), juniors[role]...))
-	if len(juniors[role]) == 0 {
-		delete(juniors, role)
-	}
-	return &Graph{juniors: juniors, static: g.static, dynamic: g.dynamic}
+	return g
 }
 
-// withSet returns sets in which one is as a command leaves it.
-func withSet(sets map[string]Set, call *api.Call) map[string]Set {
-	name := call.Texts["set"]
-	copied := make(map[string]Set, len(sets)+1)
-	for one, set := range sets {
-		copied[one] = set
+// sets returns the sets of one kind.
+func (v *View) sets(cardinalities, members rbacoffice.Table) (found []NamedSet) {
+	roles := map[string][]string{}
+	for _, row := range v.all(members) {
+		roles[row[0]] = append(roles[row[0]], row[1])
 	}
-	if set, has := copied[name]; has {
-		roles := make(map[string]bool, len(set.Roles)+1)
-		for role := range set.Roles {
-			roles[role] = true
-		}
-		copied[name] = Set{roles, set.Cardinality}
+	v.each(cardinalities, 0, func(row *rbacoffice.Row) bool {
+		found = append(found, NamedSet{row.Names[0], roles[row.Names[0]], int64(row.Number)})
+		return true
+	})
+	return found
+}
+
+// Sets returns the static or the dynamic sets in the order of their names.
+func (g *Graph) Sets(isStatic bool) []NamedSet {
+	if isStatic {
+		return g.Static
 	}
-	applyToSets(copied, call)
-	return copied
+	return g.Dynamic
 }
 
 // Below returns a role and its juniors.
@@ -96,12 +88,9 @@ func (g *Graph) Below(role string) map[string]bool {
 func (g *Graph) Blocked(role string) (set string, members []string) {
 	g.mutex.Lock()
 	defer g.mutex.Unlock()
-	found, isKnown := g.blocked[role]
-	if !isKnown {
+	found, isKept := g.blocked[role]
+	if !isKept {
 		found.set, found.members = g.Violated(g.Below(role))
-		if g.blocked == nil {
-			g.blocked = map[string]violation{}
-		}
 		g.blocked[role] = found
 	}
 	return found.set, found.members
@@ -110,45 +99,16 @@ func (g *Graph) Blocked(role string) (set string, members []string) {
 // Violated returns the first dynamic set, in the order of their names, of which these roles are too many, and the members that they
 // are.
 func (g *Graph) Violated(roles map[string]bool) (name string, members []string) {
-	names := make([]string, 0, len(g.dynamic))
-	for name := range g.dynamic {
-		names = append(names, name)
-	}
-	sort.Strings(names)
-	for _, name := range names {
-		set := g.dynamic[name]
+	for _, set := range g.Dynamic {
 		var held []string
-		for _, role := range set.members() {
+		for _, role := range set.Roles {
 			if roles[role] {
 				held = append(held, role)
 			}
 		}
 		if int64(len(held)) >= set.Cardinality {
-			return name, held
+			return set.Name, held
 		}
 	}
 	return "", nil
-}
-
-// edges returns the immediate inheritances in their order.
-func (g *Graph) edges() []Row {
-	t := &table{}
-	for asc, juniors := range g.juniors {
-		for _, desc := range juniors {
-			t.rows = append(t.rows, Row{asc, desc})
-		}
-	}
-	t.sort()
-	return t.rows
-}
-
-// without returns names without one of them.
-func without(names []string, name string) []string {
-	left := names[:0]
-	for _, one := range names {
-		if one != name {
-			left = append(left, one)
-		}
-	}
-	return left
 }

@@ -3,6 +3,8 @@ package state
 import (
 	"sort"
 	"strings"
+
+	"rbac/clients/go/rbacoffice"
 )
 
 // A Query says which rows of a list are wanted.
@@ -16,89 +18,99 @@ type Query struct {
 	Limit int
 }
 
-// Columns returns the columns of a list, or nothing if there is no such list.
-func Columns(list string) []string { return columns[list] }
-
-var columns = map[string][]string{
-	"users": {"user"}, "locked": {"user"}, "roles": {"role"}, "objects": {"object"}, "operations": {"operation"},
-	"permissions": {"object", "operation"}, "grants": {"object", "operation", "role"}, "assignments": {"user", "role"},
-	"inheritances": {"asc", "desc"},
+// A list is a table of the office, and the names of its columns.
+type list struct {
+	table   rbacoffice.Table
+	columns []string
 }
+
+var lists = map[string]list{
+	"users": {rbacoffice.Users, []string{"user"}}, "locked": {rbacoffice.Locks, []string{"user"}},
+	"roles": {rbacoffice.Roles, []string{"role"}}, "objects": {rbacoffice.Objects, []string{"object"}},
+	"operations":   {rbacoffice.Permissions, []string{"operation"}},
+	"permissions":  {rbacoffice.Permissions, []string{"object", "operation"}},
+	"grants":       {rbacoffice.Grants, []string{"object", "operation", "role"}},
+	"assignments":  {rbacoffice.Assignments, []string{"user", "role"}},
+	"inheritances": {rbacoffice.Inheritances, []string{"asc", "desc"}},
+}
+
+// Columns returns the columns of a list, or nothing if there is no such list.
+func Columns(name string) []string { return lists[name].columns }
 
 // Rows returns rows of a list of names, in the order of their bytes, whether there are more, and the numbers of this moment.
-func (s *State) Rows(list string, query Query) (found []Row, hasMore bool, numbers Numbers) {
-	rows, numbers := s.rowsOf(list)
-	found, hasMore = query.of(columns[list], rows())
-	return found, hasMore, numbers
+func (s *State) Rows(name string, query Query) (found []Row, hasMore bool, numbers Numbers, err error) {
+	err = s.Look(func(v *View) {
+		numbers = v.Numbers
+		if name == "operations" {
+			found, hasMore = query.Select(name, v.operations())
+			return
+		}
+		one, wanted := lists[name], selection{Query: query, columns: lists[name].columns}
+		v.scan(one.table, v.place(one.table, wanted.first()), wanted.take)
+		found, hasMore = wanted.found, wanted.hasMore
+	})
+	return found, hasMore, numbers, err
 }
 
-// rowsOf returns what makes all rows of a list as they are now, and the numbers of this moment. Commands don't wait while they are made.
-func (s *State) rowsOf(list string) (rows func() []Row, numbers Numbers) {
-	s.mutex.RLock()
-	defer s.mutex.RUnlock()
-	tables := map[string]*table{
-		"users": &s.users, "locked": &s.locked, "roles": &s.roles, "objects": &s.objects, "permissions": &s.permissions, "grants": &s.grants,
-		"assignments": &s.assign, "operations": &s.permissions,
-	}
-	graph, all := s.graph, []Row(nil)
-	if t := tables[list]; t != nil {
-		all = t.share()
-	}
-	switch list {
-	case "operations":
-		return func() []Row { return operationsOf(all) }, s.numbers
-	case "inheritances":
-		return graph.edges, s.numbers
-	}
-	return func() []Row { return all }, s.numbers
-}
-
-// operationsOf returns the operations of all permissions.
-func operationsOf(permissions []Row) []Row {
-	t, seen := &table{}, map[string]bool{}
-	for _, row := range permissions {
+// operations returns the operations of all permissions.
+func (v *View) operations() (rows []Row) {
+	seen := map[string]bool{}
+	v.scan(rbacoffice.Permissions, 0, func(row Row) bool {
 		if !seen[row[1]] {
 			seen[row[1]] = true
-			t.rows = append(t.rows, Row{row[1]})
+			rows = append(rows, Row{row[1]})
 		}
-	}
-	t.sort()
-	return t.rows
+		return true
+	})
+	sort.Slice(rows, func(i, j int) bool { return rows[i].IsBefore(rows[j]) })
+	return rows
 }
 
 // Select returns the wanted ones of rows that are in order, and whether there are more.
-func (q Query) Select(list string, rows []Row) (found []Row, hasMore bool) {
-	return q.of(columns[list], rows)
-}
-
-func (q Query) of(columns []string, rows []Row) (found []Row, hasMore bool) {
-	if name, has := q.Names[columns[0]]; has { // These rows are in one place.
-		rows = rows[sort.Search(len(rows), func(i int) bool { return rows[i][0] >= name }):]
-		rows = rows[:sort.Search(len(rows), func(i int) bool { return rows[i][0] > name })]
-	}
-	start := 0
-	if q.Prefix != "" {
-		start = sort.Search(len(rows), func(i int) bool { return rows[i][0] >= q.Prefix })
-	}
-	if len(q.After) > 0 {
-		after := rowOf(q.After)
-		if i := sort.Search(len(rows), func(i int) bool { return after.IsBefore(rows[i]) }); i > start {
-			start = i
-		}
-	}
-	for _, row := range rows[start:] {
-		if !strings.HasPrefix(row[0], q.Prefix) {
+func (q Query) Select(name string, rows []Row) (found []Row, hasMore bool) {
+	wanted := selection{Query: q, columns: lists[name].columns}
+	for _, row := range rows {
+		if !wanted.take(row) {
 			break
 		}
-		if !q.wants(columns, row) {
-			continue
-		}
-		if len(found) == q.Limit {
-			return found, true
-		}
-		found = append(found, row)
 	}
-	return found, false
+	return wanted.found, wanted.hasMore
+}
+
+// A selection takes the wanted ones of rows that come in their order.
+type selection struct {
+	Query
+	columns []string
+	found   []Row
+	hasMore bool
+}
+
+// first returns a row before which none is wanted.
+func (s *selection) first() Row {
+	first := Row{s.Prefix}
+	if name := s.Names[s.columns[0]]; name > s.Prefix {
+		first = Row{name}
+	}
+	if after := rowOf(s.After); first.IsBefore(after) {
+		first = after
+	}
+	return first
+}
+
+// take takes a row if it is wanted, and reports whether a later one may be.
+func (s *selection) take(row Row) bool {
+	name, isOne := s.Names[s.columns[0]]
+	isEnd := isOne && row[0] > name || row[0] > s.Prefix && !strings.HasPrefix(row[0], s.Prefix)
+	switch {
+	case isEnd:
+	case !strings.HasPrefix(row[0], s.Prefix) || len(s.After) > 0 && !rowOf(s.After).IsBefore(row) || !s.wants(s.columns, row):
+	case len(s.found) == s.Limit:
+		s.hasMore = true
+		return false
+	default:
+		s.found = append(s.found, row)
+	}
+	return !isEnd
 }
 
 // IsWanted reports whether a row of a list with these columns is one of the wanted ones.
@@ -126,9 +138,7 @@ type NamedSet struct {
 }
 
 // Sets returns the static or the dynamic sets in the order of their names, and the numbers of this moment.
-func (s *State) Sets(isStatic bool) (found []NamedSet, numbers Numbers) {
-	s.mutex.RLock()
-	graph, numbers := s.graph, s.numbers
-	s.mutex.RUnlock()
-	return graph.Sets(isStatic), numbers
+func (s *State) Sets(isStatic bool) (found []NamedSet, numbers Numbers, err error) {
+	err = s.Look(func(v *View) { found, numbers = v.Graph().Sets(isStatic), v.Numbers })
+	return found, numbers, err
 }

@@ -1,5 +1,7 @@
 package state
 
+import "rbac/clients/go/rbacoffice"
+
 // A Room is how many there are of a kind, and how many there may be.
 type Room struct {
 	Count int    `json:"count"`
@@ -7,37 +9,33 @@ type Room struct {
 	Limit int    `json:"limit"`
 }
 
-// Rooms returns how many there are of each kind that an office of version 2 limits, and the numbers of this moment. Members are
-// counted for the set that has most, and activated roles for the session that has most.
-func (s *State) Rooms() ([]Room, Numbers) {
-	f := s.Freeze()
-	return f.Rooms, f.Numbers
-}
-
-func (f *Frozen) rooms() []Room {
-	edges, members, active := 0, 0, 0
-	for _, juniors := range f.Graph.juniors {
-		edges += len(juniors)
-	}
-	for _, sets := range []map[string]Set{f.Graph.static, f.Graph.dynamic} {
-		for _, set := range sets {
-			members = greater(members, len(set.Roles))
-		}
-	}
-	for _, one := range f.Sessions {
-		active = greater(active, len(one.Active))
-	}
+// Rooms returns how many there are of each kind that an office of version 2 limits. Members are counted for the set that has most, and
+// activated roles for the session that has most.
+func (v *View) Rooms() []Room {
 	return []Room{
-		{len(f.Users), "user", 20_000}, {len(f.Roles), "role", 1_024}, {len(f.Objects), "object", 2_000},
-		{len(f.Permissions), "permission", 5_000}, {len(f.Grants), "grant", 20_000}, {len(f.Assigned), "assignment", 20_000},
-		{edges, "edge", 4_096}, {len(f.Graph.static), "ssdSet", 64}, {len(f.Graph.dynamic), "dsdSet", 64},
-		{members, "member", 32}, {len(f.Sessions), "session", 1_000}, {active, "activeRole", 32},
+		{v.count(rbacoffice.Users), "user", 20_000}, {v.count(rbacoffice.Roles), "role", 1_024},
+		{v.count(rbacoffice.Objects), "object", 2_000}, {v.count(rbacoffice.Permissions), "permission", 5_000},
+		{v.count(rbacoffice.Grants), "grant", 20_000}, {v.count(rbacoffice.Assignments), "assignment", 20_000},
+		{v.count(rbacoffice.Inheritances), "edge", 4_096}, {v.count(rbacoffice.StaticCardinalities), "ssdSet", 64},
+		{v.count(rbacoffice.DynamicCardinalities), "dsdSet", 64},
+		{v.longest(rbacoffice.StaticMembers, rbacoffice.DynamicMembers), "member", 32},
+		{v.count(rbacoffice.Sessions), "session", 1_000}, {v.longest(rbacoffice.ActivatedRoles), "activeRole", 32},
 	}
 }
 
-func greater(a, b int) int {
-	if a > b {
-		return a
+// longest returns the most rows of some tables that have the same first name.
+func (v *View) longest(tables ...rbacoffice.Table) (most int) {
+	for _, table := range tables {
+		first, count := "", 0
+		v.scan(table, 0, func(row Row) bool {
+			if row[0] != first {
+				first, count = row[0], 0
+			}
+			if count++; count > most {
+				most = count
+			}
+			return true
+		})
 	}
-	return b
+	return most
 }

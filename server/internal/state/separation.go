@@ -1,8 +1,13 @@
 package state
 
 import (
+	"errors"
 	"math/bits"
 	"sort"
+	"strconv"
+	"strings"
+
+	"rbac/clients/go/rbacoffice"
 
 	"rbac-node/internal/api"
 )
@@ -61,44 +66,100 @@ type holding struct {
 
 // Conflicts returns the separation of duty sets that a command would violate now, static ones first, in the order of their names. It
 // looks at nothing else that might refuse the command.
-func (s *State) Conflicts(call *api.Call) (found []Conflict) {
-	f, kinds := s.Freeze(), separating[call.Function]
-	graph, users, sessions := f.Graph.after(call), f.usersAfter(call), f.sessionsAfter(call)
-	if kinds[0] {
-		found = append(found, graph.conflicts(true, only(graph.static, call), users)...)
+func (s *State) Conflicts(call *api.Call) (found []Conflict, err error) {
+	var graph *Graph
+	var users, sessions []holding
+	kinds := separating[call.Function]
+	var static []NamedSet
+	err = s.Look(func(v *View) {
+		graph = v.Graph()
+		if static = setsAfter(graph.Static, call); kinds[0] {
+			static, users = v.refusing(static, call), v.usersAfter(call)
+		}
+		if kinds[1] {
+			sessions = v.sessionsAfter(call)
+		}
+	})
+	if err != nil {
+		return nil, err
 	}
-	if kinds[1] {
-		found = append(found, graph.conflicts(false, only(graph.dynamic, call), sessions)...)
+	if call.Function == "addInheritance" {
+		now := graph
+		graph = newGraph(append(append([]Row(nil), now.Edges...), Row{call.Ascendant, call.Descendant}))
+		graph.Static, graph.Dynamic = now.Static, now.Dynamic
+	}
+	found = graph.conflicts(true, static, users)
+	return append(found, graph.conflicts(false, setsAfter(graph.Dynamic, call), sessions)...), nil
+}
+
+// refusing returns those of some static sets that refuse an assignment, as librbac says. If there is no such user or role, or the command
+// is another one, it returns them all.
+func (v *View) refusing(sets []NamedSet, call *api.Call) (found []NamedSet) {
+	if call.Function != "assignUser" {
+		return sets
+	}
+	names, err := v.state.office.AssignmentConflicts(call.User, call.Role)
+	var refused *rbacoffice.RefusedError
+	if errors.As(err, &refused) || v.fail(err) {
+		return sets
+	}
+	for _, one := range sets { // Both are in the order of their names.
+		if len(names) > 0 && one.Name == names[0] {
+			found, names = append(found, one), names[1:]
+		}
 	}
 	return found
 }
 
-// only returns the sets that a command can violate: the one that it changes, or all.
-func only(sets map[string]Set, call *api.Call) map[string]Set {
-	name, has := call.Texts["set"]
-	if !has {
+// setsAfter returns the sets that a command can violate: the one that it makes or changes, as it would be then, or all.
+func setsAfter(sets []NamedSet, call *api.Call) []NamedSet {
+	name := call.Set
+	if !call.Has("set") {
 		return sets
 	}
-	return map[string]Set{name: sets[name]}
+	changed := NamedSet{Name: name}
+	for _, one := range sets {
+		if one.Name == name {
+			changed = one
+		}
+	}
+	switch function := call.Function; {
+	case strings.HasPrefix(function, "create"):
+		changed = NamedSet{name, sorted(call.Roles), cardinalityOf(call)}
+	case strings.HasPrefix(function, "add"):
+		changed.Roles = sorted(append([]string{call.Role}, changed.Roles...))
+	default:
+		changed.Cardinality = cardinalityOf(call)
+	}
+	return []NamedSet{changed}
+}
+
+// cardinalityOf reads the cardinality from the line of a call, which ends with it.
+func cardinalityOf(call *api.Call) int64 {
+	line := string(call.Line)
+	number, _ := strconv.ParseInt(strings.TrimSuffix(line[strings.LastIndexByte(line, ':')+1:], "}"), 10, 64)
+	return number
+}
+
+// sorted returns names in their order, each once.
+func sorted(names []string) (found []string) {
+	names = append([]string(nil), names...)
+	sort.Strings(names)
+	for i, name := range names {
+		if i == 0 || names[i-1] != name {
+			found = append(found, name)
+		}
+	}
+	return found
 }
 
 // usersAfter returns the users with the roles that they would be assigned to, those whom a command can concern.
-func (f *Frozen) usersAfter(call *api.Call) (found []holding) {
-	if !separating[call.Function][0] {
-		return nil
+func (v *View) usersAfter(call *api.Call) (found []holding) {
+	if user := call.User; call.Function == "assignUser" {
+		return []holding{{user: user, roles: sorted(append(v.AssignedRoles(user), call.Role))}}
 	}
-	rows := f.Assigned
-	if call.Function == "assignUser" {
-		own, all := table{}, table{rows: rows}
-		i, _ := all.find(Row{call.Texts["user"]})
-		for ; i < len(rows) && rows[i][0] == call.Texts["user"]; i++ {
-			own.rows = append(own.rows, rows[i])
-		}
-		own.add(call.Texts["user"], call.Texts["role"])
-		rows = own.rows
-	}
-	for i, row := range rows {
-		if i == 0 || rows[i-1][0] != row[0] {
+	for _, row := range v.all(rbacoffice.Assignments) {
+		if len(found) == 0 || found[len(found)-1].user != row[0] {
 			found = append(found, holding{user: row[0]})
 		}
 		last := &found[len(found)-1]
@@ -108,38 +169,26 @@ func (f *Frozen) usersAfter(call *api.Call) (found []holding) {
 }
 
 // sessionsAfter returns the sessions with the roles that would be activated, those that a command can concern.
-func (f *Frozen) sessionsAfter(call *api.Call) (found []holding) {
-	if !separating[call.Function][1] {
-		return nil
-	}
-	name := call.Texts["session"]
+func (v *View) sessionsAfter(call *api.Call) (found []holding) {
+	name := call.Session
 	switch call.Function {
 	case "createSession":
-		active := map[string]bool{}
-		for _, role := range call.Roles {
-			active[role] = true
-		}
-		return []holding{{call.Texts["user"], digest(name), Set{Roles: active}.members()}}
+		return []holding{{call.User, digest(name), sorted(call.Roles)}}
 	case "addActiveRole":
-		active := map[string]bool{call.Texts["role"]: true}
-		for _, one := range f.Sessions {
-			for i := 0; one.Name == name && i < len(one.Active); i++ {
-				active[one.Active[i]] = true
-			}
-		}
-		return []holding{{call.Texts["user"], digest(name), Set{Roles: active}.members()}}
+		active := v.of(rbacoffice.ActivatedRoles, name)
+		return []holding{{call.User, digest(name), sorted(append(active, call.Role))}}
 	}
-	for _, one := range f.Sessions {
+	for _, one := range v.Sessions() {
 		found = append(found, holding{one.User, one.Digest, one.Active})
 	}
 	return found
 }
 
 // conflicts returns the sets of which one of some holders has too many members.
-func (g *Graph) conflicts(isStatic bool, sets map[string]Set, holders []holding) (found []Conflict) {
+func (g *Graph) conflicts(isStatic bool, sets []NamedSet, holders []holding) (found []Conflict) {
 	below := map[string]map[string]bool{}
-	for _, name := range namesOf(sets) {
-		one := Conflict{NamedSet: NamedSet{name, sets[name].members(), sets[name].Cardinality}, IsStatic: isStatic}
+	for _, set := range sets {
+		one := Conflict{NamedSet: set, IsStatic: isStatic}
 		counted := counting{members: one.Roles, below: below, masks: map[string]uint64{}}
 		for _, holder := range holders {
 			if one.Cardinality < 1 || len(one.Holders) == mostHolders {

@@ -2,14 +2,77 @@ package state
 
 import (
 	"sort"
+	"sync/atomic"
 	"time"
+
+	"rbac/clients/go/rbacoffice"
+
+	"rbac-node/internal/api"
 )
 
-// Touch says that a session is used now.
-func (s *State) Touch(name string) {
+// A session has the times of one. began and used are how long the state had been there when it was made and when it was last named.
+type session struct {
+	user, digest string
+	since        time.Time
+	began        time.Duration
+	used         atomic.Int64
+}
+
+// newSession returns the times of a session that is made now.
+func (s *State) newSession(name, user string) *session {
+	one := &session{user: user, digest: digest(name), since: s.clock.Now(), began: s.clock.Elapsed()}
+	one.used.Store(int64(one.began))
+	return one
+}
+
+// beginSessions puts the sessions of some rows in place of those before. The ones that were there before keep their times.
+func (s *State) beginSessions(rows []rbacoffice.Row) {
+	before := s.sessions
+	s.sessions = map[string]*session{}
+	for _, row := range rows {
+		if row.Table != rbacoffice.Sessions {
+			continue
+		}
+		one := before[row.Names[0]]
+		if one == nil || one.user != row.Names[1] {
+			one = s.newSession(row.Names[0], row.Names[1])
+		}
+		s.sessions[row.Names[0]] = one
+	}
+}
+
+// endSessions forgets the sessions that the office doesn't have any more. The state is locked.
+func (s *State) endSessions() error {
+	v := &View{state: s}
+	if len(s.sessions) == 0 || v.count(rbacoffice.Sessions) == len(s.sessions) {
+		return v.err
+	}
+	isThere := map[string]bool{}
+	for _, row := range v.all(rbacoffice.Sessions) {
+		isThere[row[0]] = true
+	}
+	for name := range s.sessions {
+		if !isThere[name] {
+			delete(s.sessions, name)
+		}
+	}
+	return v.err
+}
+
+// Touch says that the sessions are used now that questions name.
+func (s *State) Touch(calls []*api.Call) {
 	s.mutex.RLock()
 	defer s.mutex.RUnlock()
-	if one := s.sessions[name]; one != nil {
+	for _, call := range calls {
+		if call.Kind == api.Question {
+			s.touch(call)
+		}
+	}
+}
+
+// touch says that the session is used now that a call names, if it names one.
+func (s *State) touch(call *api.Call) {
+	if one := s.sessions[call.Session]; one != nil {
 		one.used.Store(int64(s.clock.Elapsed()))
 	}
 }
@@ -23,82 +86,55 @@ type Session struct {
 	Since, Used time.Time
 }
 
-func (s *State) sessionOf(name string, one *session) Session { return momentOf(name, one).session() }
-
-// A moment is what a session is at one moment. Its roles never change: a session gets others.
-type moment struct {
-	name, digest, user string
-	active             map[string]bool
-	since, used        time.Time
-}
-
-func momentOf(name string, one *session) moment {
+func (one *session) session(name string, active []string) Session {
 	used := one.since.Add(time.Duration(one.used.Load()) - one.began)
-	return moment{name, one.digest, one.user, one.active, one.since, used}
-}
-
-func (m moment) session() Session {
-	return Session{m.name, m.digest, m.user, Set{Roles: m.active}.members(), m.since, m.used}
-}
-
-// hold returns what all sessions are at this moment.
-func (s *State) hold() []moment {
-	held := make([]moment, 0, len(s.sessions))
-	for name, one := range s.sessions {
-		held = append(held, momentOf(name, one))
-	}
-	return held
-}
-
-// sessionsOf returns sessions in the order of their digests.
-func sessionsOf(held []moment) []Session {
-	sort.Slice(held, func(i, j int) bool { return held[i].digest < held[j].digest })
-	found := make([]Session, len(held))
-	for i, one := range held {
-		found[i] = one.session()
-	}
-	return found
+	return Session{name, one.digest, one.user, active, one.since, used}
 }
 
 // Session returns a session by its name.
-func (s *State) Session(name string) (found Session, has bool) {
-	s.mutex.RLock()
-	defer s.mutex.RUnlock()
-	one := s.sessions[name]
+func (v *View) Session(name string) (found Session, has bool) {
+	one := v.state.sessions[name]
 	if one == nil {
 		return found, false
 	}
-	return s.sessionOf(name, one), true
+	return one.session(name, v.of(rbacoffice.ActivatedRoles, name)), true
 }
 
-// ByDigest returns a session by its digest.
+// Sessions returns all sessions in the order of their digests.
+func (v *View) Sessions() []Session {
+	active, found := map[string][]string{}, make([]Session, 0, len(v.state.sessions))
+	v.scan(rbacoffice.ActivatedRoles, 0, func(row Row) bool {
+		active[row[0]] = append(active[row[0]], row[1])
+		return true
+	})
+	for name, one := range v.state.sessions {
+		found = append(found, one.session(name, active[name]))
+	}
+	sort.Slice(found, func(i, j int) bool { return found[i].Digest < found[j].Digest })
+	return found
+}
+
+// ByDigest returns a session by its digest, without its roles.
 func (s *State) ByDigest(digest string) (found Session, has bool) {
 	s.mutex.RLock()
-	name, has := s.names[digest]
-	s.mutex.RUnlock()
-	if !has {
-		return found, false
+	defer s.mutex.RUnlock()
+	for name, one := range s.sessions {
+		if one.digest == digest {
+			return one.session(name, nil), true
+		}
 	}
-	return s.Session(name)
+	return found, false
 }
 
-// Sessions returns all sessions in the order of their digests, and the numbers of this moment.
-func (s *State) Sessions() ([]Session, Numbers) {
-	s.mutex.RLock()
-	held, numbers := s.hold(), s.numbers
-	s.mutex.RUnlock()
-	return sessionsOf(held), numbers
-}
-
-// Expired returns the sessions that are older than an age, or have been idle for longer. Neither is judged if it is zero. The times are
-// those of a clock that only runs forward, whatever time somebody gives the machine.
+// Expired returns the sessions that are older than an age, or have been idle for longer, without their roles. Neither is judged if it is
+// zero. The times are those of a clock that only runs forward, whatever time somebody gives the machine.
 func (s *State) Expired(age, idle time.Duration) (found []Session) {
 	s.mutex.RLock()
 	defer s.mutex.RUnlock()
 	elapsed := s.clock.Elapsed()
 	for name, one := range s.sessions {
 		if age > 0 && elapsed-one.began > age || idle > 0 && elapsed-time.Duration(one.used.Load()) > idle {
-			found = append(found, s.sessionOf(name, one))
+			found = append(found, one.session(name, nil))
 		}
 	}
 	return found

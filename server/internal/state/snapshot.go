@@ -2,7 +2,6 @@ package state
 
 import (
 	"bytes"
-	"sort"
 	"strconv"
 
 	"rbac-node/internal/api"
@@ -18,7 +17,7 @@ func (f *Frozen) Lines() []byte {
 	}{
 		{"addUser", f.Users, []string{"user"}},
 		{"addRole", f.Roles, []string{"role"}},
-		{"addInheritance", f.Graph.edges(), []string{"asc", "desc"}},
+		{"addInheritance", f.Graph.Edges, []string{"asc", "desc"}},
 		{"addPermObj", f.Objects, []string{"object"}},
 		{"addPermission", f.Permissions, []string{"object", "operation"}},
 		{"grantPermission", f.Grants, []string{"object", "operation", "role"}},
@@ -28,8 +27,8 @@ func (f *Frozen) Lines() []byte {
 			w.write(one.function, one.keys, row)
 		}
 	}
-	w.writeSets("createSsdSet", f.Graph.static)
-	w.writeSets("createDsdSet", f.Graph.dynamic)
+	w.writeSets("createSsdSet", f.Graph.Static)
+	w.writeSets("createDsdSet", f.Graph.Dynamic)
 	for _, row := range f.Locked {
 		w.write("lockUserAccount", []string{"user"}, row)
 	}
@@ -82,22 +81,12 @@ func (w *writer) write(function string, keys []string, row Row) {
 }
 
 // writeSets writes lines that make sets.
-func (w *writer) writeSets(function string, sets map[string]Set) {
-	for _, name := range namesOf(sets) {
+func (w *writer) writeSets(function string, sets []NamedSet) {
+	for _, set := range sets {
 		w.begin(function)
-		w.text("set", name)
-		w.texts("roles", sets[name].members())
-		w.WriteString(`,"cardinality":` + strconv.FormatInt(sets[name].Cardinality, 10))
+		w.text("set", set.Name)
+		w.texts("roles", set.Roles)
+		w.WriteString(`,"cardinality":` + strconv.FormatInt(set.Cardinality, 10))
 		w.end()
 	}
-}
-
-// namesOf returns the names of sets in their order.
-func namesOf(sets map[string]Set) []string {
-	names := make([]string, 0, len(sets))
-	for name := range sets {
-		names = append(names, name)
-	}
-	sort.Strings(names)
-	return names
 }

@@ -9,9 +9,13 @@ import (
 	"io"
 	"net/url"
 	"os"
+	"runtime/debug"
+	"sort"
 
 	_ "github.com/mattn/go-sqlite3" // It reads the rows.
 	"golang.org/x/crypto/sha3"
+
+	"rbac/clients/go/rbacoffice"
 )
 
 // digestBytes is how many bytes of the SHA3-256 of a session's name are its name outside the office.
@@ -27,74 +31,114 @@ func digest(name string) string {
 	return hex.EncodeToString(sum[:digestBytes])
 }
 
-// rowsQuery reads the rows of an office but for what follows from them: the table, the kind, and two or three names.
+// rowsQuery reads the rows of an office as librbac takes them, except the pairs that follow from them: the table, three names and a number.
+// The kinds of a table of the file have the order of librbac's tables.
 const rowsQuery = `
-	SELECT 'name', kind, a, '', '' FROM name_row UNION ALL
-	SELECT 'pair', kind, a, b, '' FROM pair_row WHERE kind <> 4 UNION ALL
-	SELECT 'grant', 0, ob, op, role FROM grant_row UNION ALL
-	SELECT 'set', kind, name, '', CAST(n AS TEXT) FROM set_row`
+	SELECT kind - 1, a, '', '', 0 FROM name_row UNION ALL
+	SELECT kind + 2, a, b, '', 0 FROM pair_row WHERE kind <> 4 UNION ALL
+	SELECT 11, ob, op, role, 0 FROM grant_row UNION ALL
+	SELECT kind + 11, name, '', '', n FROM set_row`
 
-// Load reads the state from the file of an office that no program has open. A copy of it and its log is read, since SQLite would
-// change them.
+// Load makes the office of the file of one that no program writes now, as Begin does. Commands that were kept are forgotten.
 func (s *State) Load(ctx context.Context, path string) error {
 	copied := path + ".reading"
-	defer removeBoth(copied)
-	removeBoth(copied)
-	if err := copyBoth(path, copied); err != nil {
-		return fmt.Errorf("rows: %w", err)
+	defer RemoveCopy(copied)
+	if err := Copy(path, copied); err != nil {
+		return err
 	}
-	source := url.URL{Scheme: "file", Opaque: (&url.URL{Path: copied}).EscapedPath(), RawQuery: "_locking_mode=EXCLUSIVE"}
-	db, err := sql.Open("sqlite3", source.String())
+	rows, hasLocks, err := readCopy(ctx, copied)
 	if err != nil {
-		return fmt.Errorf("rows: %w", err)
+		return err
 	}
-	defer db.Close()
-	if err := s.load(ctx, db); err != nil {
-		return fmt.Errorf("rows: %w", err)
+	defer debug.FreeOSMemory() // At the limits the rows take more than the office.
+	if err := s.Begin(withClosure(rows), hasLocks); err != nil {
+		return fmt.Errorf("librbac and the rows of the file: %w", err)
 	}
 	return nil
 }
 
-// load reads the state from a database.
-func (s *State) load(ctx context.Context, db *sql.DB) error {
+// readCopy returns the sorted rows of a copy except the closure pairs, and whether it has a table of locks.
+func readCopy(ctx context.Context, copied string) (rows []rbacoffice.Row, hasLocks bool, err error) {
+	source := url.URL{Scheme: "file", Opaque: (&url.URL{Path: copied}).EscapedPath(), RawQuery: "_locking_mode=EXCLUSIVE"}
+	db, err := sql.Open("sqlite3", source.String())
+	if err == nil {
+		defer db.Close()
+		rows, hasLocks, err = readRows(ctx, db)
+	}
+	if err != nil {
+		return nil, false, fmt.Errorf("rows: %w", err)
+	}
+	sort.Slice(rows, func(i, k int) bool {
+		one, other := &rows[i], &rows[k]
+		if one.Table != other.Table {
+			return one.Table < other.Table
+		}
+		return Row(one.Names).IsBefore(Row(other.Names))
+	})
+	return rows, hasLocks, nil
+}
+
+// Difference compares the rows of an office with those of a copy of its file, and describes the first one that only one of the two has.
+func Difference(ctx context.Context, own []rbacoffice.Row, copied string) (string, error) {
+	inFile, _, err := readCopy(ctx, copied)
+	if err != nil {
+		return "", err
+	}
+	at := 0
+	for _, row := range own {
+		if row.Table == rbacoffice.ClosurePairs { // It follows from the others.
+			continue
+		}
+		if at == len(inFile) || inFile[at] != row {
+			return fmt.Sprintf("row %d of table %d isn't in the file so", at, row.Table), nil
+		}
+		at++
+	}
+	if at < len(inFile) {
+		return fmt.Sprintf("a row of table %d is in the file alone", inFile[at].Table), nil
+	}
+	return "", nil
+}
+
+// readRows reads the rows of a database.
+func readRows(ctx context.Context, db *sql.DB) (all []rbacoffice.Row, hasLocks bool, err error) {
 	query := rowsQuery
 	var count int
-	err := db.QueryRowContext(ctx, "SELECT count(*) FROM sqlite_master WHERE name = 'locked_row'").Scan(&count)
+	err = db.QueryRowContext(ctx, "SELECT count(*) FROM sqlite_master WHERE name = 'locked_row'").Scan(&count)
 	if err != nil {
-		return err
+		return nil, false, err
 	}
 	if count > 0 { // An office of version 1 has none.
-		query += " UNION ALL SELECT 'locked', 0, a, '', '' FROM locked_row"
+		query += " UNION ALL SELECT 14, a, '', '', 0 FROM locked_row"
 	}
 	rows, err := db.QueryContext(ctx, query)
 	if err != nil {
-		return err
+		return nil, false, err
 	}
 	defer rows.Close()
-	l := newLoading(s)
 	for rows.Next() {
-		var table string
-		var kind int
-		var row Row
-		if err := rows.Scan(&table, &kind, &row[0], &row[1], &row[2]); err != nil {
-			return err
+		var row rbacoffice.Row
+		if err := rows.Scan(&row.Table, &row.Names[0], &row.Names[1], &row.Names[2], &row.Number); err != nil {
+			return nil, false, err
 		}
-		l.add(table, kind, row)
+		all = append(all, row)
 	}
-	if err := rows.Err(); err != nil {
-		return err
-	}
-	l.end()
-	return nil
+	return all, count > 0, rows.Err()
 }
 
-// copyBoth copies the file of an office, and the log beside it if there is one.
-func copyBoth(path, copied string) error {
-	if err := copyFile(path, copied); err != nil {
-		return err
+// Copy copies the file of an office that no program writes now, and the log beside it if there is one: SQLite would change them.
+func Copy(path, copied string) error {
+	RemoveCopy(copied)
+	err := copyFile(path, copied)
+	if err == nil {
+		err = copyFile(path+"-wal", copied+"-wal")
+		if errors.Is(err, os.ErrNotExist) {
+			err = nil
+		}
 	}
-	if err := copyFile(path+"-wal", copied+"-wal"); err != nil && !errors.Is(err, os.ErrNotExist) {
-		return err
+	if err != nil {
+		RemoveCopy(copied)
+		return fmt.Errorf("rows: %w", err)
 	}
 	return nil
 }
@@ -116,8 +160,8 @@ func copyFile(path, copied string) error {
 	return to.Close()
 }
 
-// removeBoth removes a copy and what SQLite has made beside it.
-func removeBoth(copied string) {
+// RemoveCopy removes a copy and what SQLite has made beside it.
+func RemoveCopy(copied string) {
 	for _, suffix := range []string{"", "-wal", "-shm", "-journal"} {
 		_ = os.Remove(copied + suffix) // Most aren't there.
 	}

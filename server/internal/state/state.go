@@ -1,31 +1,34 @@
-// Package state knows what is in an office: the names that no function of the office lists, and what the commands that it has
-// accepted say about them. It begins with the rows of the office's file, and follows the one order of commands.
+// Package state has the office in this process, by librbac. It begins with the rows of the office's file, and does each command that
+// the program has accepted, in the one order. So it answers the questions of the office, and what no function of the office lists. Beside
+// it are kept the numbers of the order, the newest commands for those who watch, and the times of sessions: nothing else is known twice.
 //
-// Which sessions a command ends and what an import assigns is asked of the office, right behind the command. What it concludes itself
-// is which roles no session can have, and which sets a command would violate (Blocked and Conflicts), for decisions about users and
-// explanations: no function of the office answers that.
+// What it concludes itself is how roles, sets and holders belong together, for explanations and reports (Graph, Conflicts).
 package state
 
 import (
+	"bytes"
+	"fmt"
 	"sync"
 	"sync/atomic"
 	"time"
+
+	"rbac/clients/go/rbacoffice"
 
 	"rbac-node/internal/api"
 )
 
 // A State is what is in an office after the last command whose answer was read.
 type State struct {
-	mutex                       sync.RWMutex
-	users, roles, objects       table
-	locked                      table
-	permissions, grants, assign table
-	graph                       *Graph
-	// operations counts the permissions of each operation.
-	operations map[string]int
-	// sessions has the sessions by their names, and names those names by their digests.
+	// reading is held while rows are read or several questions are answered, and mutex while a single one is. Both are locked while the
+	// office changes: so a decision doesn't wait for a command that waits for one who reads.
+	reading, mutex sync.RWMutex
+	// office is nil while it isn't known what is in the office. hasLocks is false for one of version 1, which has other limits than librbac.
+	office             *rbacoffice.Office
+	hasLocks, hasBegun bool
+	// graph is that of now, or nil.
+	graph atomic.Pointer[Graph]
+	// sessions has the times of all sessions by their names.
 	sessions map[string]*session
-	names    map[string]string
 	numbers  Numbers
 	// events has the accepted commands after the number forgotten, in their order, and eventBytes how many bytes their lines have.
 	events     []Event
@@ -41,30 +44,72 @@ type Clock struct {
 	Elapsed func() time.Duration
 }
 
-// A session is one of the office. began and used are how long the state had been there when it was made and when it was last named.
-type session struct {
-	user, digest string
-	active       map[string]bool
-	since        time.Time
-	began        time.Duration
-	used         atomic.Int64
-}
-
-// New returns a state of nothing, whose numbers begin with these.
+// New returns a state that doesn't know what is in the office, and whose numbers begin with these.
 func New(first Numbers) *State {
 	start := time.Now()
 	clock := Clock{time.Now, func() time.Duration { return time.Since(start) }}
-	s := &State{numbers: first, forgotten: first.All, changed: make(chan struct{}), clock: clock}
-	s.clear()
-	return s
+	return &State{numbers: first, forgotten: first.All, changed: make(chan struct{}), clock: clock, sessions: map[string]*session{}}
 }
 
-// clear forgets what is in the office.
-func (s *State) clear() {
-	s.users, s.roles, s.objects, s.locked = table{}, table{}, table{}, table{}
-	s.permissions, s.grants, s.assign = table{}, table{}, table{}
-	s.operations = map[string]int{}
-	s.graph, s.sessions, s.names = newGraph(), map[string]*session{}, map[string]string{}
+// lock keeps everybody else away, and unlock lets them in.
+func (s *State) lock() {
+	s.reading.Lock()
+	s.mutex.Lock()
+}
+
+func (s *State) unlock() {
+	s.mutex.Unlock()
+	s.reading.Unlock()
+}
+
+// put puts an office in place of the one before, or none. The state is locked.
+func (s *State) put(office *rbacoffice.Office) {
+	if s.office != nil {
+		s.office.Close()
+	}
+	s.office = office
+	s.graph.Store(nil)
+}
+
+// Begin makes the office of rows. The one of before goes on if that fails, and sessions that were there before keep their times. Numbers
+// are left out unless it is the first: commands may have been done whose answers nobody has read.
+func (s *State) Begin(rows []rbacoffice.Row, hasLocks bool) error {
+	office, err := rbacoffice.Load(rows, 0)
+	if err != nil {
+		return err
+	}
+	s.lock()
+	defer s.unlock()
+	if s.hasBegun {
+		s.skip()
+	}
+	s.hasBegun = true
+	s.put(office)
+	s.hasLocks = hasLocks
+	s.beginSessions(rows)
+	s.forget()
+	return nil
+}
+
+// Forget frees the office. Nothing more is answered until it is loaded again.
+func (s *State) Forget() {
+	s.lock()
+	defer s.unlock()
+	s.put(nil)
+}
+
+// IsKnown reports whether it is known what is in the office.
+func (s *State) IsKnown() bool {
+	s.mutex.RLock()
+	defer s.mutex.RUnlock()
+	return s.office != nil
+}
+
+// HasLocks reports whether the office has a table of locks. One of version 1 has none.
+func (s *State) HasLocks() bool {
+	s.mutex.RLock()
+	defer s.mutex.RUnlock()
+	return s.hasLocks
 }
 
 // Numbers returns how many commands have been accepted.
@@ -72,38 +117,6 @@ func (s *State) Numbers() Numbers {
 	s.mutex.RLock()
 	defer s.mutex.RUnlock()
 	return s.numbers
-}
-
-// Graph returns the graph of this moment.
-func (s *State) Graph() *Graph {
-	s.mutex.RLock()
-	defer s.mutex.RUnlock()
-	return s.graph
-}
-
-// IsLocked reports whether a user is locked.
-func (s *State) IsLocked(user string) bool {
-	s.mutex.RLock()
-	defer s.mutex.RUnlock()
-	return s.locked.has(user)
-}
-
-// HasOperation reports whether a permission has an operation.
-func (s *State) HasOperation(operation string) bool {
-	s.mutex.RLock()
-	defer s.mutex.RUnlock()
-	return s.operations[operation] > 0
-}
-
-// AssignedRoles returns the roles that a user is assigned to, in their order.
-func (s *State) AssignedRoles(user string) (roles []string) {
-	s.mutex.RLock()
-	defer s.mutex.RUnlock()
-	i, _ := s.assign.find(Row{user})
-	for ; i < len(s.assign.rows) && s.assign.rows[i][0] == user; i++ {
-		roles = append(roles, s.assign.rows[i][1])
-	}
-	return roles
 }
 
 // isAboutSession reports whether a command is about one session.
@@ -115,76 +128,110 @@ func isAboutSession(function string) bool {
 	return false
 }
 
-// Answered follows a unit of calls with their answers, and then what was asked behind them. It counts the accepted ones.
-func (s *State) Answered(calls []*api.Call, answers [][]byte) {
-	s.mutex.Lock()
-	defer s.mutex.Unlock()
+// Answered follows a unit of calls with their answers, and counts the accepted ones. It answers those calls itself that ask whether a
+// user may do something, or takes their answer away if the office isn't known. After an error it isn't known any more, since it isn't that
+// of the program.
+func (s *State) Answered(calls []*api.Call, answers [][]byte) (numbers Numbers, err error) {
+	s.lock()
+	defer s.unlock()
 	before := s.numbers.All
 	for i, call := range calls {
-		switch {
-		case call.Kind == api.Question:
-			s.reviewed(call, answers[i])
-		case call.Kind == api.Entry: // It has changed nothing.
-		case api.IsAccepted(answers[i]):
-			s.numbers.All++
-			if !isAboutSession(call.Function) {
-				s.numbers.Policy++
-			}
-			s.accept(call)
+		if call.Function == api.DecideByUser {
+			answers[i], _ = s.answer(call)
+		}
+		if call.Kind != api.Command || !api.IsAccepted(answers[i]) {
+			continue
+		}
+		s.numbers.All++
+		if !isAboutSession(call.Function) {
+			s.numbers.Policy++
+		}
+		if failed := s.accept(call, answers[i]); failed != nil {
+			err = failed
 		}
 	}
 	if s.numbers.All != before {
 		s.wake()
 	}
+	return s.numbers, err
 }
 
-// Follow follows a command with its answer, and what was asked behind it. The numbers are those after it.
-func (s *State) Follow(numbers Numbers, calls []*api.Call, answers [][]byte) {
-	s.mutex.Lock()
-	defer s.mutex.Unlock()
+// Follow follows a command with its answer, which the numbers are those after. The error is that of Answered.
+func (s *State) Follow(numbers Numbers, call *api.Call, answer []byte) (err error) {
+	s.lock()
+	defer s.unlock()
 	s.numbers = numbers
-	if api.IsAccepted(answers[0]) {
-		s.accept(calls[0])
+	if api.IsAccepted(answer) {
+		err = s.accept(call, answer)
 		s.wake()
 	}
-	for i, call := range calls[1:] {
-		s.reviewed(call, answers[i+1])
-	}
+	return err
 }
 
 // Advance says that there are no commands up to some numbers.
 func (s *State) Advance(numbers Numbers) {
-	s.mutex.Lock()
-	defer s.mutex.Unlock()
+	s.lock()
+	defer s.unlock()
 	s.numbers = numbers
 }
 
-// accept follows an accepted command, which has the number of now.
-func (s *State) accept(call *api.Call) {
-	s.apply(call)
-	s.keep(call)
+// accept does an accepted command, which has the number of now, and compares the answer with that of the program. The state is locked.
+func (s *State) accept(call *api.Call, answer []byte) error {
+	defer s.keep(call)
+	if s.office == nil {
+		return nil
+	}
+	own, err := s.do(call)
+	if err == nil && !bytes.Equal(own, answer) {
+		err = fmt.Errorf("librbac answers %s to %s, and the program %s", own, call.Function, answer)
+	}
+	if err != nil {
+		s.put(nil)
+	}
+	return err
+}
+
+// do does a command, and follows the sessions that it makes or ends. The state is locked.
+func (s *State) do(call *api.Call) ([]byte, error) {
+	answer, err := s.office.Answer(call.Line)
+	if err != nil {
+		return nil, fmt.Errorf("librbac: %w", err)
+	}
+	if !api.IsAccepted(answer) {
+		return answer, nil
+	}
+	switch name := call.Session; call.Function {
+	case "createSession":
+		s.sessions[name] = s.newSession(name, call.User)
+	case "deleteSession":
+		delete(s.sessions, name)
+	case "addActiveRole", "dropActiveRole":
+		s.touch(call)
+	default:
+		s.graph.Store(nil)
+		err = s.endSessions()
+	}
+	return answer, err
+}
+
+// Try does commands in an office that follows no program, and returns the answers.
+func (s *State) Try(calls []*api.Call) (answers [][]byte, err error) {
+	s.lock()
+	defer s.unlock()
+	if s.office == nil {
+		return nil, api.Unavailable
+	}
+	answers = make([][]byte, len(calls))
+	for i, call := range calls {
+		if answers[i], err = s.do(call); err != nil {
+			return nil, err
+		}
+	}
+	return answers, nil
 }
 
 // wake tells those who watch that there are commands.
 func (s *State) wake() {
 	close(s.changed)
 	s.changed = make(chan struct{})
-}
-
-// reviewed follows what was asked about a session that may have ended, or about a role that an import may have assigned.
-func (s *State) reviewed(call *api.Call, answer []byte) {
-	switch call.Function {
-	case "sessionRoles":
-		const noSession = 26
-		if code, _ := api.CodeOf(answer); code == noSession {
-			s.end(call.Texts["session"])
-		}
-	case "assignedUsers":
-		var users []string
-		if api.ValueOf(answer, &users) == nil {
-			for _, user := range users {
-				s.assign.add(user, call.Texts["role"])
-			}
-		}
-	}
 }

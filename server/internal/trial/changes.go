@@ -1,10 +1,11 @@
 package trial
 
 import (
+	"context"
 	"math/bits"
 	"sort"
+	"strings"
 
-	"rbac-node/internal/api"
 	"rbac-node/internal/state"
 )
 
@@ -29,6 +30,9 @@ type Changes struct {
 type view struct {
 	permissions []state.Row
 	users       map[string]set
+	// sessions are those that there are, and isThere has their names.
+	sessions []state.Session
+	isThere  map[string]bool
 }
 
 // A set has permissions by their places.
@@ -57,81 +61,60 @@ func (s set) union(other set) set {
 	return s
 }
 
-// look asks the copy what users can do, or all users if none are named. The roles of each permission and of each user are answers of
-// its program. Which users are locked and which roles no session can have is known.
-func (a *asker) look(known *state.State, users []string) (*view, error) {
-	v := &view{permissions: known.Permissions(), users: map[string]set{}}
-	granted, err := a.grantedTo(v.permissions)
-	if err != nil {
-		return nil, err
+// look asks the clone what users can do, or all users if none are named, and which sessions there are. The roles of each permission and of
+// each user are its answers.
+func look(ctx context.Context, clone *state.State, users []string) (seen *view, err error) {
+	failed := clone.Look(func(v *state.View) {
+		seen = &view{permissions: v.Permissions(), users: map[string]set{}, sessions: v.Sessions(), isThere: map[string]bool{}}
+		for _, one := range seen.sessions {
+			seen.isThere[one.Name] = true
+		}
+		granted := seen.grants(v)
+		if users == nil {
+			users = v.Users()
+		}
+		same := map[string]set{} // Many users have the same roles.
+		for _, user := range users {
+			if err = ctx.Err(); err != nil {
+				return
+			}
+			if v.IsLocked(user) {
+				continue
+			}
+			roles := v.Names("authorizedRoles", "user", user) // A user that isn't there has none.
+			has, isKnown := same[strings.Join(roles, separator)]
+			if !isKnown {
+				for _, role := range roles {
+					has = has.union(granted[role])
+				}
+				same[strings.Join(roles, separator)] = has
+			}
+			seen.users[user] = has
+		}
+	})
+	if failed != nil {
+		return nil, failed
 	}
-	graph := known.Graph()
+	return seen, err
+}
+
+// separator is in no name.
+const separator = "\t"
+
+// grants returns the permissions that are granted to each role itself, except the roles that no session can have.
+func (seen *view) grants(v *state.View) map[string]set {
+	granted, graph := map[string]set{}, v.Graph()
+	for i, one := range seen.permissions {
+		for _, role := range v.Names("permissionRoles", "object", one[0], "operation", one[1]) {
+			granted[role] = granted[role].with(i)
+		}
+	}
 	for role := range granted {
 		if set, _ := graph.Blocked(role); set != "" {
 			delete(granted, role)
 		}
 	}
-	if users == nil {
-		users = known.Users()
-	}
-	var asked []string
-	var calls []*api.Call
-	for _, user := range users {
-		if known.IsLocked(user) {
-			continue
-		}
-		call, err := api.NewCall("authorizedRoles", "user", user)
-		if err != nil {
-			return nil, err
-		}
-		asked, calls = append(asked, user), append(calls, call)
-	}
-	// Many users have the same roles.
-	same := map[string]set{}
-	err = a.ask(calls, func(i int, answer []byte) {
-		has, isKnown := same[string(answer)]
-		if !isKnown {
-			has = permissionsOf(answer, granted)
-			same[string(answer)] = has
-		}
-		v.users[asked[i]] = has
-	})
-	return v, err
-}
-
-// grantedTo returns the permissions that are granted to each role itself.
-func (a *asker) grantedTo(permissions []state.Row) (map[string]set, error) {
-	calls := make([]*api.Call, len(permissions))
-	for i, one := range permissions {
-		var err error
-		if calls[i], err = api.NewCall("permissionRoles", "object", one[0], "operation", one[1]); err != nil {
-			return nil, err
-		}
-	}
-	granted := map[string]set{}
-	err := a.ask(calls, func(i int, answer []byte) {
-		for _, role := range namesOf(answer) {
-			granted[role] = granted[role].with(i)
-		}
-	})
-	return granted, err
-}
-
-// permissionsOf returns what the roles of an answer have. A user that isn't there has no role.
-func permissionsOf(answer []byte, granted map[string]set) (found set) {
-	for _, role := range namesOf(answer) {
-		found = found.union(granted[role])
-	}
-	return found
-}
-
-// namesOf returns the names that an answer lists.
-func namesOf(answer []byte) (names []string) {
-	if !api.IsAccepted(answer) {
-		return nil
-	}
-	_ = api.ValueOf(answer, &names) // The program writes lists of names.
-	return names
+	return granted
 }
 
 // changes returns what users can do in the second view and not in the first, and the other way round.

@@ -1,20 +1,20 @@
-// Package trial tries commands over a copy of an office, by a replay of the proved program that has nothing else to do, and says what
-// they would change: who could do what, and which sessions would end. Nothing of the office itself changes.
+// Package trial tries commands over a clone of an office, by librbac, and says what they would change: who could do what, and which
+// sessions would end. Nothing of the office itself changes.
 package trial
 
 import (
 	"context"
 	"encoding/json"
-	"errors"
 	"fmt"
+	"net/http"
+	"runtime/debug"
 	"time"
 
 	"rbac-node/internal/api"
-	"rbac-node/internal/office"
 	"rbac-node/internal/state"
 )
 
-// A Result is what has come of commands over the copy.
+// A Result is what has come of commands over the clone.
 type Result struct {
 	// Answers has the answer to each command.
 	Answers []json.RawMessage `json:"answers"`
@@ -23,7 +23,7 @@ type Result struct {
 	// Gained and Lost have what users could do in some session after the commands and not before, and the other way round.
 	Gained Changes `json:"gained"`
 	Lost   Changes `json:"lost"`
-	// Revision is that of the policy that was copied.
+	// Revision is that of the policy that was cloned.
 	Revision int64 `json:"revision"`
 }
 
@@ -33,116 +33,67 @@ type Session struct {
 	User    string `json:"user"`
 }
 
-// A Program runs the replays of trials.
-type Program struct {
-	Path string
-	// HangTimeout is how long a replay may answer nothing.
-	HangTimeout time.Duration
-}
+// timeout is how long commands may be tried, with the time until those before are.
+const timeout = 20 * time.Second
 
-// Try does commands over the copy of an office in a file. What is known of the copy is changed with it.
-func (p Program) Try(ctx context.Context, file string, known *state.State, commands []*api.Call) (*Result, error) {
-	replay, err := office.Start(p.Path, file, p.HangTimeout)
+// errOld refuses to try commands on an office of version 1, whose limits librbac doesn't have.
+var errOld = api.Refusal{Status: http.StatusConflict, Code: 51, Name: "Version"}
+
+// A Turn is held by whoever tries commands.
+type Turn chan struct{}
+
+// NewTurn returns a turn that nobody has.
+func NewTurn() Turn { return make(Turn, 1) }
+
+// Try does commands over a clone of an office, and returns what they would change. It calls a function when there is the clone. One who
+// tries waits for the one before.
+func (t Turn) Try(ctx context.Context, office *state.State, cloned func(), commands []*api.Call) (*Result, error) {
+	within, cancel := context.WithTimeout(ctx, timeout)
+	defer cancel()
+	select {
+	case t <- struct{}{}:
+		defer func() { <-t }()
+	case <-within.Done():
+		return nil, within.Err()
+	}
+	if !office.HasLocks() {
+		return nil, errOld
+	}
+	defer debug.FreeOSMemory() // At the limits the rows and the clone take more than the office.
+	clone, err := office.Clone()
 	if err != nil {
 		return nil, err
 	}
-	defer func() {
-		replay.Kill() // The copy is thrown away.
-		<-replay.Ended()
-	}()
-	ended, cancel := context.WithCancel(ctx)
-	defer cancel()
-	go func() { // Whoever waits for the replay goes on when it has ended.
-		<-ended.Done()
-		replay.Kill()
-	}()
-	a := &asker{ctx: ctx, replay: replay}
-	return a.try(known, commands)
+	defer clone.Forget()
+	cloned()
+	return try(within, clone, commands)
 }
 
-// An asker asks a replay for many things at once.
-type asker struct {
-	ctx    context.Context
-	replay *office.Replay
-}
-
-var errEnded = errors.New("the replay of a trial has ended early")
-
-// ask passes each answer on, in the order of the calls. The function must not wait.
-func (a *asker) ask(calls []*api.Call, each func(i int, answer []byte)) error {
-	if len(calls) == 0 {
-		return nil
-	}
-	done := make(chan struct{})
-	for i, call := range calls {
-		i := i
-		a.replay.Send(call.Line, func(answer []byte) {
-			each(i, answer)
-			if i == len(calls)-1 {
-				close(done)
-			}
-		})
-	}
-	a.replay.Flush()
-	select {
-	case <-done:
-		return nil
-	case <-a.replay.Ended():
-	}
-	select {
-	case <-done:
-		return nil
-	default:
-	}
-	if a.ctx.Err() != nil {
-		return a.ctx.Err()
-	}
-	if err := a.replay.Close(); err != nil {
-		return err
-	}
-	return errEnded
-}
-
-// try does the commands, and looks at the copy before and after them.
-func (a *asker) try(known *state.State, commands []*api.Call) (*Result, error) {
-	revision := known.Numbers().Policy
-	sessions, _ := known.Sessions()
-	users := usersOf(commands)
-	before, err := a.look(known, users)
+// try does commands over the clone of an office.
+func try(ctx context.Context, clone *state.State, commands []*api.Call) (*Result, error) {
+	users, result := usersOf(commands), &Result{Ended: []Session{}, Revision: clone.Numbers().Policy}
+	before, err := look(ctx, clone, users)
 	if err != nil {
 		return nil, fmt.Errorf("before the commands: %w", err)
 	}
-	answers, err := a.do(known, commands)
+	answers, err := clone.Try(commands)
 	if err != nil {
 		return nil, fmt.Errorf("the commands: %w", err)
 	}
-	after, err := a.look(known, users)
+	for _, answer := range answers {
+		result.Answers = append(result.Answers, answer)
+	}
+	after, err := look(ctx, clone, users)
 	if err != nil {
 		return nil, fmt.Errorf("after the commands: %w", err)
 	}
-	result := &Result{Answers: answers, Ended: []Session{}, Revision: revision}
-	for _, one := range sessions {
-		if _, isThere := known.Session(one.Name); !isThere {
+	for _, one := range before.sessions {
+		if !after.isThere[one.Name] {
 			result.Ended = append(result.Ended, Session{one.Digest, one.User})
 		}
 	}
 	result.Gained, result.Lost = changes(before, after)
 	return result, nil
-}
-
-// do does the commands, and asks behind them what they have changed that their answers don't say.
-func (a *asker) do(known *state.State, commands []*api.Call) ([]json.RawMessage, error) {
-	all := append(append([]*api.Call(nil), commands...), known.Review(commands)...)
-	answers := make([][]byte, len(all))
-	if err := a.ask(all, func(i int, answer []byte) { answers[i] = answer }); err != nil {
-		return nil, err
-	}
-	known.Answered(all, answers)
-	own := make([]json.RawMessage, len(commands))
-	for i := range own {
-		own[i] = answers[i]
-	}
-	return own, nil
 }
 
 // usersOf returns the only users that commands can give something or take it away, or nil if that can be any.
@@ -152,7 +103,7 @@ func usersOf(commands []*api.Call) []string {
 		switch call.Function {
 		case "addUser", "deleteUser", "lockUserAccount", "unlockUserAccount", "assignUser", "deassignUser",
 			"createSession", "deleteSession", "addActiveRole", "dropActiveRole":
-			if user := call.Texts["user"]; !has[user] {
+			if user := call.User; !has[user] {
 				has[user] = true
 				users = append(users, user)
 			}

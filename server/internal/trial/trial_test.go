@@ -2,16 +2,12 @@ package trial
 
 import (
 	"context"
+	"errors"
 	"fmt"
-	"os"
-	"os/exec"
-	"path/filepath"
 	"strings"
 	"testing"
-	"time"
 
 	"rbac-node/internal/api"
-	"rbac-node/internal/programtest"
 	"rbac-node/internal/state"
 )
 
@@ -34,25 +30,25 @@ func callsOf(t *testing.T, lines ...string) []*api.Call {
 	return calls
 }
 
-// copied returns a file that may be a copy of that office, and what is known of it.
-func copied(t *testing.T) (string, *state.State) {
+// cloned returns a clone of that office.
+func cloned(t *testing.T) *state.State {
 	t.Helper()
-	program, file := programtest.Path(t), filepath.Join(t.TempDir(), "office")
-	if said, err := exec.Command(program, "init", file).CombinedOutput(); err != nil {
-		t.Fatalf("%s", said)
+	s := state.New(state.Numbers{})
+	if err := s.Begin(nil, true); err != nil {
+		t.Fatal(err)
 	}
-	replay := exec.Command(program, "replay", file)
-	replay.Stdin = strings.NewReader(strings.Join(made, "\n") + "\n")
-	said, err := replay.Output()
+	defer s.Forget()
+	for _, call := range callsOf(t, made...) {
+		if _, err := s.Answered([]*api.Call{call}, [][]byte{[]byte(`{"ok":true}`)}); err != nil {
+			t.Fatal(err)
+		}
+	}
+	clone, err := s.Clone()
 	if err != nil {
 		t.Fatal(err)
 	}
-	known, answers := state.New(state.Numbers{All: 1, Policy: 1}), [][]byte{}
-	for _, answer := range strings.Split(strings.TrimSpace(string(said)), "\n") {
-		answers = append(answers, []byte(answer))
-	}
-	known.Answered(callsOf(t, made...), answers)
-	return file, known
+	t.Cleanup(clone.Forget)
+	return clone
 }
 
 func TestTry(t *testing.T) {
@@ -79,9 +75,7 @@ func TestTry(t *testing.T) {
 			`{"fn":"createDsdSet","set":"s","roles":["boss","clerk"],"cardinality":2}`}, ok + "," + ok, "", "ann close till", 0},
 	} {
 		t.Run(test.name, func(t *testing.T) {
-			file, known := copied(t)
-			program := Program{programtest.Path(t), time.Minute}
-			result, err := program.Try(context.Background(), file, known, callsOf(t, test.lines...))
+			result, err := try(context.Background(), cloned(t), callsOf(t, test.lines...))
 			if err != nil {
 				t.Fatal(err)
 			}
@@ -90,7 +84,7 @@ func TestTry(t *testing.T) {
 				answers = append(answers, string(answer))
 			}
 			given := []string{strings.Join(answers, ","), rowsOf(result.Gained), rowsOf(result.Lost), fmt.Sprint(len(result.Ended), result.Revision)}
-			wanted := []string{test.answers, test.gained, test.lost, fmt.Sprint(test.ended, 12)}
+			wanted := []string{test.answers, test.gained, test.lost, fmt.Sprint(test.ended, 11)}
 			if fmt.Sprint(given) != fmt.Sprint(wanted) {
 				t.Errorf("%q and not %q", given, wanted)
 			}
@@ -109,20 +103,18 @@ func rowsOf(c Changes) string {
 	return strings.Join(rows, ", ")
 }
 
-// A trial ends with its context, and with its replay.
+// A trial ends with its context, and without an office.
 func TestTryEnds(t *testing.T) {
-	file, known := copied(t)
+	clone := cloned(t)
 	ended, cancel := context.WithCancel(context.Background())
 	cancel()
 	calls := callsOf(t, `{"fn":"addRole","role":"x"}`)
-	if _, err := (Program{programtest.Path(t), time.Minute}).Try(ended, file, known, calls); err == nil {
-		t.Error("a context that has ended")
+	if _, err := try(ended, clone, calls); !errors.Is(err, context.Canceled) {
+		t.Errorf("a context that has ended: %v", err)
 	}
-	if _, err := (Program{"/bin/false", time.Minute}).Try(context.Background(), file, known, calls); err == nil {
-		t.Error("a program that ends")
-	}
-	if _, err := (Program{programtest.Path(t), time.Minute}).Try(context.Background(), file+"x", known, calls); err == nil {
-		t.Error("a file that isn't there")
+	clone.Forget()
+	if _, err := try(context.Background(), clone, calls); !errors.Is(err, api.Unavailable) {
+		t.Errorf("an office that is closed: %v", err)
 	}
 }
 
@@ -144,32 +136,5 @@ func TestChangesAreListedUpToALimit(t *testing.T) {
 	}
 	if last := gained.Rows[mostRows-1]; last != (Change{"o099", "p", "u3"}) {
 		t.Errorf("the last one: %v", last)
-	}
-}
-
-func TestFolders(t *testing.T) {
-	file := filepath.Join(t.TempDir(), "office")
-	if err := os.WriteFile(file, []byte("x"), 0o600); err != nil {
-		t.Fatal(err)
-	}
-	first, err := MakeFolder(file)
-	if err != nil {
-		t.Fatal(err)
-	}
-	second := file + ".what-if-2"
-	if err := os.Mkdir(second, 0o700); err != nil {
-		t.Fatal(err)
-	}
-	for _, other := range []string{file, file + "2.what-if-1", file + ".what-if"} {
-		_ = os.Mkdir(other, 0o700) // One of them is the office.
-	}
-	if err := Copy(file, filepath.Join(first, "office")); err != nil {
-		t.Fatal(err)
-	}
-	RemoveFolders(file)
-	for path, isThere := range map[string]bool{first: false, second: false, file: true, file + "2.what-if-1": true, file + ".what-if": true} {
-		if _, err := os.Stat(path); (err == nil) != isThere {
-			t.Errorf("%s: %v", path, err)
-		}
 	}
 }

@@ -1,5 +1,6 @@
 //! The functions of rbac.h.
 
+use std::os::raw::c_int;
 use std::ptr;
 
 pub const DONE: u32 = 0;
@@ -40,6 +41,20 @@ pub struct RowLengths {
 /// A decision about a holder, which is a session or a user.
 pub type Decision = unsafe extern "C" fn(*const Handle, *const u8, usize, *const u8, usize, *const u8, usize) -> i32;
 
+/// A reason about a holder, which is a session or a user.
+pub type Explanation = unsafe extern "C" fn(
+    *mut Handle,
+    *const u8,
+    usize,
+    *const u8,
+    usize,
+    *const u8,
+    usize,
+    *mut u8,
+    usize,
+    *mut RowLengths,
+) -> u32;
+
 #[link(name = "rbac")]
 extern "C" {
     pub fn rbac_open(office: *mut Handle) -> u32;
@@ -71,6 +86,66 @@ extern "C" {
         object: *const u8,
         object_length: usize,
     ) -> i32;
+    pub fn rbac_explain_user(
+        office: *mut Handle,
+        user: *const u8,
+        user_length: usize,
+        operation: *const u8,
+        operation_length: usize,
+        object: *const u8,
+        object_length: usize,
+        out: *mut u8,
+        out_length: usize,
+        reason: *mut RowLengths,
+    ) -> u32;
+    pub fn rbac_explain_session(
+        office: *mut Handle,
+        session: *const u8,
+        session_length: usize,
+        operation: *const u8,
+        operation_length: usize,
+        object: *const u8,
+        object_length: usize,
+        out: *mut u8,
+        out_length: usize,
+        reason: *mut RowLengths,
+    ) -> u32;
+    pub fn rbac_assignment_conflict(
+        office: *mut Handle,
+        user: *const u8,
+        user_length: usize,
+        role: *const u8,
+        role_length: usize,
+        index: usize,
+        out: *mut u8,
+        out_length: usize,
+        set: *mut RowLengths,
+    ) -> u32;
+    pub fn rbac_activation_conflict(
+        office: *mut Handle,
+        user: *const u8,
+        user_length: usize,
+        session: *const u8,
+        session_length: usize,
+        role: *const u8,
+        role_length: usize,
+        index: usize,
+        out: *mut u8,
+        out_length: usize,
+        set: *mut RowLengths,
+    ) -> u32;
+    pub fn rbac_inheritance_conflict(
+        office: *mut Handle,
+        of_sessions: c_int,
+        asc: *const u8,
+        asc_length: usize,
+        desc: *const u8,
+        desc_length: usize,
+        index: usize,
+        out: *mut u8,
+        out_length: usize,
+        set: *mut RowLengths,
+    ) -> u32;
     pub fn rbac_revision(office: *const Handle, revision: *mut u64) -> u32;
     pub fn rbac_rows(
         office: *mut Handle,
@@ -81,6 +156,14 @@ extern "C" {
         rows: *mut RowLengths,
         row_count: usize,
         count: *mut usize,
+    ) -> u32;
+    pub fn rbac_range(
+        office: *mut Handle,
+        table: u32,
+        first: *const u8,
+        first_length: usize,
+        start: *mut usize,
+        end: *mut usize,
     ) -> u32;
     pub fn rbac_add_row(
         office: *mut Handle,

@@ -24,6 +24,8 @@ use ffi::{Handle, RowLengths};
 const ROOM: usize = 4096;
 /// So many rows are read at once, at most.
 const ROWS: usize = 64;
+/// So many bytes are enough for two names.
+const NAMES: usize = 128;
 
 /// Why a call has no result.
 #[derive(Clone, Debug, PartialEq, Eq)]
@@ -47,13 +49,17 @@ impl Error {
     }
 }
 
-/// The name of a refusal of a decision or of a load.
+/// The name of a refusal of a question without a line, or of a load.
 fn name_of(code: u32) -> &'static str {
     match code {
         1 => "BadName",
         2 => "NoUser",
+        4 => "NoRole",
         6 => "NoObject",
+        16 => "Cycle",
         26 => "NoSession",
+        28 => "NotOwner",
+        29 => "NotAuthorized",
         32 => "TooMany",
         33 => "NoOperation",
         52 => "Damaged",
@@ -134,6 +140,56 @@ pub struct Row {
     pub names: [String; 3],
     /// The cardinality of a separation of duty set, otherwise 0.
     pub number: u32,
+}
+
+/// Why a decision is as it is. About a user it is the first that applies, from `Locked` on; about a session it is `NotGranted`,
+/// `NotActive` or `Allowed`.
+#[derive(Clone, Debug, PartialEq, Eq)]
+pub enum Reason {
+    /// There is access.
+    Allowed {
+        /// An assigned role, or one that was activated, which is the next role or a senior of it.
+        held: String,
+        /// The role that is granted the permission.
+        granted: String,
+    },
+    /// The user is locked.
+    Locked,
+    /// The permission is granted to no role.
+    NotGranted,
+    /// The user is authorized for no role to which it is granted.
+    NotAuthorized,
+    /// No session may have such a role.
+    Separated {
+        /// The first of these roles.
+        role: String,
+        /// The first dynamic set that it violates alone.
+        set: String,
+    },
+    /// The session has no role to which it is granted.
+    NotActive,
+}
+
+impl Reason {
+    /// The reason with this number and these names.
+    fn of(number: u32, first: String, second: String) -> Reason {
+        match number {
+            1 => Reason::Allowed { held: first, granted: second },
+            2 => Reason::Locked,
+            3 => Reason::NotGranted,
+            4 => Reason::NotAuthorized,
+            5 => Reason::Separated { role: first, set: second },
+            _ => Reason::NotActive,
+        }
+    }
+}
+
+/// A separation of duty set that an inheritance would violate, with the first user who would be authorized for too many of its
+/// roles, or with the first session that would have too many.
+#[derive(Clone, Debug, PartialEq, Eq)]
+pub struct Conflict {
+    pub set: String,
+    pub holder: String,
 }
 
 /// An office in memory.
@@ -250,6 +306,139 @@ impl Office {
         }
     }
 
+    /// Why `check` decides as it does: `Allowed` exactly if it returns true.
+    pub fn explain(&self, session: &str, operation: &str, object: &str) -> Result<Reason, Error> {
+        self.explain_holder(ffi::rbac_explain_session, session, operation, object)
+    }
+
+    /// Why `check_user` decides as it does: `Allowed` exactly if it returns true.
+    pub fn explain_user(&self, user: &str, operation: &str, object: &str) -> Result<Reason, Error> {
+        self.explain_holder(ffi::rbac_explain_user, user, operation, object)
+    }
+
+    /// The reason of the decision about the holder, which is a session or a user.
+    fn explain_holder(&self, explanation: ffi::Explanation, holder: &str, operation: &str, object: &str) -> Result<Reason, Error> {
+        let mut names = [0; NAMES];
+        let mut reason = RowLengths::default();
+        // SAFETY: the pointers and lengths are those of texts and of an array, and the lock is held.
+        let code = unsafe {
+            explanation(
+                &mut *self.lock(),
+                holder.as_ptr(),
+                holder.len(),
+                operation.as_ptr(),
+                operation.len(),
+                object.as_ptr(),
+                object.len(),
+                names.as_mut_ptr(),
+                names.len(),
+                &mut reason,
+            )
+        };
+        if code != ffi::DONE {
+            return Err(Error::of(code));
+        }
+        let (first, second) = two_names(&names, &reason);
+        Ok(Reason::of(reason.number, first, second))
+    }
+
+    /// The static separation of duty sets that would be violated if the user were assigned to the role, in byte order. If
+    /// assignUser is refused with StaticSeparation, it names the first.
+    pub fn assignment_conflicts(&self, user: &str, role: &str) -> Result<Vec<String>, Error> {
+        let found = self.conflicts(|handle, index, out, set| {
+            // SAFETY: the pointers and lengths are those of texts and of a slice, and the lock is held.
+            unsafe {
+                ffi::rbac_assignment_conflict(
+                    handle,
+                    user.as_ptr(),
+                    user.len(),
+                    role.as_ptr(),
+                    role.len(),
+                    index,
+                    out.as_mut_ptr(),
+                    out.len(),
+                    set,
+                )
+            }
+        })?;
+        Ok(found.into_iter().map(|one| one.set).collect())
+    }
+
+    /// The dynamic separation of duty sets that would be violated if the role were activated in the user's session, in byte
+    /// order. If addActiveRole is refused with DynamicSeparation, it names the first.
+    pub fn activation_conflicts(&self, user: &str, session: &str, role: &str) -> Result<Vec<String>, Error> {
+        let found = self.conflicts(|handle, index, out, set| {
+            // SAFETY: the pointers and lengths are those of texts and of a slice, and the lock is held.
+            unsafe {
+                ffi::rbac_activation_conflict(
+                    handle,
+                    user.as_ptr(),
+                    user.len(),
+                    session.as_ptr(),
+                    session.len(),
+                    role.as_ptr(),
+                    role.len(),
+                    index,
+                    out.as_mut_ptr(),
+                    out.len(),
+                    set,
+                )
+            }
+        })?;
+        Ok(found.into_iter().map(|one| one.set).collect())
+    }
+
+    /// The static separation of duty sets that would be violated if `asc` became an immediate ascendant of `desc`, in byte
+    /// order, each with the first user who would violate it. If addInheritance is refused with StaticSeparation, it names the
+    /// first.
+    pub fn static_conflicts(&self, asc: &str, desc: &str) -> Result<Vec<Conflict>, Error> {
+        self.inheritance_conflicts(false, asc, desc)
+    }
+
+    /// The dynamic sets that would be violated, each with the first session that would violate it. If addInheritance is refused
+    /// with DynamicSeparation, it names the first.
+    pub fn dynamic_conflicts(&self, asc: &str, desc: &str) -> Result<Vec<Conflict>, Error> {
+        self.inheritance_conflicts(true, asc, desc)
+    }
+
+    fn inheritance_conflicts(&self, of_sessions: bool, asc: &str, desc: &str) -> Result<Vec<Conflict>, Error> {
+        self.conflicts(|handle, index, out, set| {
+            // SAFETY: the pointers and lengths are those of texts and of a slice, and the lock is held.
+            unsafe {
+                ffi::rbac_inheritance_conflict(
+                    handle,
+                    of_sessions.into(),
+                    asc.as_ptr(),
+                    asc.len(),
+                    desc.as_ptr(),
+                    desc.len(),
+                    index,
+                    out.as_mut_ptr(),
+                    out.len(),
+                    set,
+                )
+            }
+        })
+    }
+
+    /// What a function of the library returns one by one, until there are no more.
+    fn conflicts(&self, at: impl Fn(&mut Handle, usize, &mut [u8], &mut RowLengths) -> u32) -> Result<Vec<Conflict>, Error> {
+        let mut found = Vec::new();
+        let mut handle = self.lock();
+        loop {
+            let mut names = [0; NAMES];
+            let mut lengths = RowLengths::default();
+            match at(&mut handle, found.len(), &mut names, &mut lengths) {
+                ffi::DONE => {
+                    let (set, holder) = two_names(&names, &lengths);
+                    found.push(Conflict { set, holder });
+                }
+                ffi::ABSENT => return Ok(found),
+                code => return Err(Error::of(code)),
+            }
+        }
+    }
+
     /// How many commands the office has accepted. A decision holds as long as this stays the same.
     pub fn revision(&self) -> Result<u64, Error> {
         let mut revision = 0;
@@ -276,6 +465,30 @@ impl Office {
         }
         Ok(rows)
     }
+
+    /// The rows of the table with this first name, in byte order.
+    pub fn rows_with(&self, table: Table, first: &str) -> Result<Vec<Row>, Error> {
+        let mut rows = Vec::new();
+        let (mut start, mut end) = (0, 0);
+        let mut handle = self.lock();
+        // SAFETY: the pointer and the length are those of a text, and the lock is held.
+        let code =
+            unsafe { ffi::rbac_range(&mut *handle, table as u32, first.as_ptr(), first.len(), &mut start, &mut end) };
+        if code != ffi::DONE {
+            return Err(Error::of(code));
+        }
+        while rows.len() < end - start {
+            append_rows(&mut handle, table, start + rows.len(), &mut rows)?;
+        }
+        rows.truncate(end - start);
+        Ok(rows)
+    }
+}
+
+/// The first two names of a row, which stand one directly after the other.
+fn two_names(names: &[u8], row: &RowLengths) -> (String, String) {
+    let (first, second) = names[..row.first + row.second].split_at(row.first);
+    (String::from_utf8_lossy(first).into_owned(), String::from_utf8_lossy(second).into_owned())
 }
 
 /// The answer to the last line, which has this length.
@@ -331,7 +544,7 @@ impl Drop for Office {
 
 #[cfg(test)]
 mod tests {
-    use super::{Error, Office, Row, Table};
+    use super::{Conflict, Error, Office, Reason, Row, Table};
     use std::thread;
 
     fn row(table: Table, first: &str, second: &str) -> Row {
@@ -376,6 +589,67 @@ mod tests {
         assert_eq!(office.revision(), Ok(7));
         assert_eq!(Office::load(&rows[2..], 0).unwrap_err(), refused(52, "Damaged"));
         assert_eq!(Office::load(&[row(Table::Users, "", "")], 0).unwrap_err(), refused(1, "BadName"));
+    }
+
+    fn shop() -> Office {
+        let office = Office::new().unwrap();
+        for line in [
+            r#"{"fn":"addUser","user":"ann"}"#,
+            r#"{"fn":"addUser","user":"bob"}"#,
+            r#"{"fn":"addRole","role":"buyer"}"#,
+            r#"{"fn":"addRole","role":"payer"}"#,
+            r#"{"fn":"addPermObj","object":"safe"}"#,
+            r#"{"fn":"addPermission","object":"safe","operation":"open"}"#,
+            r#"{"fn":"grantPermission","object":"safe","operation":"open","role":"buyer"}"#,
+            r#"{"fn":"createSsdSet","set":"s","roles":["buyer","payer"],"cardinality":2}"#,
+            r#"{"fn":"createDsdSet","set":"d","roles":["buyer","payer"],"cardinality":2}"#,
+            r#"{"fn":"assignUser","user":"ann","role":"buyer"}"#,
+            r#"{"fn":"createSession","user":"ann","session":"t","roles":["buyer"]}"#,
+            r#"{"fn":"createSession","user":"ann","session":"u","roles":[]}"#,
+        ] {
+            assert_eq!(office.answer(line.as_bytes()).unwrap(), br#"{"ok":true}"#, "{line}");
+        }
+        office
+    }
+
+    #[test]
+    fn decisions_are_explained() {
+        let office = shop();
+        let allowed = Reason::Allowed { held: "buyer".to_string(), granted: "buyer".to_string() };
+        assert_eq!(office.explain_user("ann", "open", "safe"), Ok(allowed.clone()));
+        assert_eq!(office.explain_user("bob", "open", "safe"), Ok(Reason::NotAuthorized));
+        assert_eq!(office.explain_user("eve", "open", "safe"), Err(refused(2, "NoUser")));
+        assert_eq!(office.explain("t", "open", "safe"), Ok(allowed));
+        assert_eq!(office.explain("u", "open", "safe"), Ok(Reason::NotActive));
+        assert_eq!(office.explain("v", "open", "safe"), Err(refused(26, "NoSession")));
+    }
+
+    #[test]
+    fn conflicts_are_named() {
+        let office = shop();
+        let conflict = |set: &str, holder: &str| Conflict { set: set.to_string(), holder: holder.to_string() };
+        assert_eq!(office.assignment_conflicts("ann", "payer"), Ok(vec!["s".to_string()]));
+        assert_eq!(office.assignment_conflicts("bob", "payer"), Ok(vec![]));
+        assert_eq!(office.activation_conflicts("ann", "t", "payer"), Err(refused(29, "NotAuthorized")));
+        assert_eq!(office.activation_conflicts("ann", "t", "buyer"), Ok(vec![]));
+        assert_eq!(office.static_conflicts("buyer", "payer"), Ok(vec![conflict("s", "ann")]));
+        assert_eq!(office.dynamic_conflicts("buyer", "payer"), Ok(vec![conflict("d", "t")]));
+        assert_eq!(office.static_conflicts("payer", "buyer"), Ok(vec![]));
+        assert_eq!(office.static_conflicts("payer", "payer"), Err(refused(16, "Cycle")));
+    }
+
+    #[test]
+    fn rows_are_found_by_their_first_name() {
+        let mut rows = vec![row(Table::Users, "ann", ""), row(Table::Users, "bob", ""), row(Table::Users, "cat", "")];
+        rows.extend((0..200).map(|number| row(Table::Roles, &format!("r{number:03}"), "")));
+        rows.push(row(Table::Assignments, "ann", "r007"));
+        rows.extend((0..200).map(|number| row(Table::Assignments, "bob", &format!("r{number:03}"))));
+        rows.push(row(Table::Assignments, "cat", "r007"));
+        let office = Office::load(&rows, 0).unwrap();
+        assert_eq!(office.rows_with(Table::Assignments, "bob").unwrap(), rows[204..404]);
+        assert_eq!(office.rows_with(Table::Assignments, "ann").unwrap(), rows[203..204]);
+        assert_eq!(office.rows_with(Table::Assignments, "bo").unwrap(), []);
+        assert_eq!(office.rows_with(Table::Users, "").unwrap(), []);
     }
 
     /// A thread decides while another one has the office for reading. It would wait forever for a lock that only one may have.

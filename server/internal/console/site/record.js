@@ -27,6 +27,9 @@ function whatOf({ request, answer, found }) {
         return ["The review ", name(request.review), ` has ended: ${request.kept} kept, ${request.removed} removed, ${request.open} open. SHA-256 of its list: `,
             h("span", { class: "mono" }, request.sha256), "."];
     }
+    if (request.record === "adopts" && request.restored) {
+        return h("span", { class: "quiet" }, "The backup ", name(request.restored), " was restored, by ", name(request.by), ".");
+    }
     if (request.record === "adopts" && request.by) {
         return h("span", { class: "quiet" }, "The record adopts the office as it is, by ", name(request.by), ".");
     }

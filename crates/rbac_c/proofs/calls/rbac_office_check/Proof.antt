@@ -1,5 +1,5 @@
 -- The office is read through a `&` to its place, for which the caller lends it.
-use Rattle.std.proofs.Common.{◌≡◌, ℕ, Bool, ◌<◌, ◌^◌, List, [], ◌∷◌, ◌++◌, length, refl, Bor, w32}
+use Rattle.std.proofs.Common.{ℕ, Bool, ◌<◌, ◌^◌, List, [], ◌∷◌, ◌++◌, length, refl, Bor, w32}
 use Rattle.std.specs.Prelude.{ℤ}
 use seplogic.Ra.Ura.{Ura}
 use mir.Syntax.{named}
@@ -17,14 +17,14 @@ use types.Run.{stop, of_opd, addr, no_more, and_then, returns, enter}
 use types.ByLocal.{alloc_all, pass_all, free_all, look_at, get, through, sets, lands_as}
 use sound.WpLaws.{FmC, fm_of, WpFn-mono}
 use denote.Exit.{yes}
-use denote.RattleType.{RattleType, owns}
+use denote.RattleType.{RattleType}
 use denote.Laws.{Is, shows}
 use denote.Opens.{hide}
 use denote.Signed.{sint_Lawful}
 use denote.Builtin.{i32, u8, bool, SliceRefOf}
 use denote.Plain.{bool_vals, bool_Tells}
 use denote.Slice.{ShrSlice, slice_val, shr_slice_vals, shr_slice_Tells}
-use denote.Signature.{plain, types_at}
+use denote.Signature.{plain}
 use contract.Lifetimes.{Lfts, Shares}
 use denote.Memory.{shared_of}
 use denote.RawPtr.{Ptr, block_ptr, null_ptr, block_of, count_of, RawPtr, rawptr_vals, rawptr_Tells}

@@ -1,10 +1,9 @@
 -- The office is read through a `&` to its place, for which the caller lends it.
 use Rattle.std.proofs.Common.{◌≡◌, ℕ, List, [], ◌∷◌, ◌++◌, refl, Bor, w64}
 use seplogic.Ra.Ura.{Ura}
-use mir.Syntax.{named}
 use mir.Val.{Val, vptr}
 use base.Logic.{SProp, ent, sep, via, fst∗, snd∗, never, never_e, id⊢, ex_e}
-use base.Fml.{Lft, Share, Fml, ftrue, flft}
+use base.Fml.{Lft, Share, ftrue, flft}
 use prog.Memory.{Memory}
 use prog.Routine.{Routine}
 use prog.Wp.{Calls, Loops, WpFn, Tables}

@@ -1,7 +1,7 @@
 use Rattle.std.proofs.Common.{Bor, List, ℕ, ap}
 use Rattle.std.specs.Prelude.{option_map}
 use Rattle.clap.specs.Words.{found_of, rows_of}
-use Rattle.role_cli.specs.CommandLine.{text_parser}
+use Rattle.role_cli.specs.private.GivenArguments.{text_parser}
 use Rattle.role_cli.proofs.Getters.{given_first}
 use Rattle.role_cli.proofs.choice.text_of.Goals as goal
 

@@ -2,7 +2,6 @@ use Rattle.std.proofs.Common.{ℕ, ◌≡◌, inl, inr, subst}
 use Rattle.std.specs.Prelude.{None}
 use Rattle.rbac_sets.specs.Stream.{HasRisen}
 use Rattle.role_cli.specs.Around.{IsUntouched}
-use Rattle.role_cli.specs.Hosts.{failed_in_folder}
 use Rattle.role_cli.specs.Leftovers.{NeverBegins}
 use Rattle.role_cli.specs.ProgramOutcome.{FailsSomehow, IsDoneSomehow, path_of}
 use Rattle.role_cli.proofs.Beginning.{fails_less}
@@ -15,7 +14,7 @@ returns-clause-done g c zero =
     let machine = c.new-machine.result in
     let now = c.run_with-status.new.host in
     elim (c.run_with-status.ensures.done zero) [
-      | inl (asks, same, _) ↦ inl (asks, same)
+      | inl (asks, same, _, _) ↦ inl (asks, same)
       | inr (choice, chooses, unread, _, is) ↦ inr (
         choice,
         chooses,
@@ -30,10 +29,10 @@ pub returns-clause-stopped : goal.returns-clause-stopped
 returns-clause-stopped g c one =
     let machine = c.new-machine.result in
     let now = c.run_with-status.new.host in
-    let calls = failed_in_folder c.run_with-status.new.folder in
+    let calls = c.run_with-status.new.folder.failed in
     let (failure, reported, why) = c.run_with-status.ensures.stopped one in
     elim why [
-      | inl (memory, kept) ↦ (failure, reported, inl (memory, kept.0, kept.1))
+      | inl (memory, kept, _) ↦ (failure, reported, inl (memory, kept.0, kept.1))
       | inr (choice, chooses, unread, _, fails) ↦ (
         failure,
         reported,

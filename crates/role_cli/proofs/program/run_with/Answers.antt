@@ -35,7 +35,7 @@ returns-in-Ok-clause-left g c =
 
 -- An allocation failed before anything was chosen.
 pub returns-in-Err-Memory-clause-stopped : goal.returns-in-Err-Memory-clause-stopped
-returns-in-Err-Memory-clause-stopped g c _ = (Refused Memory, (no_memory_line, inl refl, c.report_no_memory.ensures), inl (refl, (refl, refl, refl)))
+returns-in-Err-Memory-clause-stopped g c _ = (Refused Memory, (no_memory_line, inl refl, c.report_no_memory.ensures), inl (refl, (refl, refl, refl), (refl, refl)))
 
 pub returns-clause-stopped : goal.returns-clause-stopped
-returns-clause-stopped g c stopped = (Refused Memory, (no_memory_line, inl refl, c.explain.ensures.reported stopped), inl (refl, (refl, c.explain.ensures.refused (inr stopped), refl)))
+returns-clause-stopped g c stopped = (Refused Memory, (no_memory_line, inl refl, c.explain.ensures.reported stopped), inl (refl, (refl, c.explain.ensures.refused (inr stopped), refl), (refl, refl)))

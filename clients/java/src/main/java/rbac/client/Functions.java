@@ -28,8 +28,7 @@ public abstract class Functions {
             Map.entry(64, List.of(429)),
             Map.entry(65, List.of(403)),
             Map.entry(66, List.of(421)),
-            Map.entry(67, List.of(412)),
-            Map.entry(68, List.of(503)));
+            Map.entry(67, List.of(412)));
 
     /** The names of the refusals, by their codes. */
     static final Map<Integer, String> NAMES =
@@ -84,8 +83,7 @@ public abstract class Functions {
             Map.entry(64, "TooManyRequests"),
             Map.entry(65, "ForeignOrigin"),
             Map.entry(66, "ForeignHost"),
-            Map.entry(67, "Outdated"),
-            Map.entry(68, "Upgrading"));
+            Map.entry(67, "Outdated"));
 
     /** The commands that may be repeated if their answer was lost. The code, if it isn't 0, then says that it was done. */
     static final Map<String, Integer> AGAIN =

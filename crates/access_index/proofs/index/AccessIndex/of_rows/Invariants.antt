@@ -1,0 +1,7 @@
+use Rattle.std.proofs.Common.{take}
+use Rattle.admin_mgr.specs.StoredSets.{is_among}
+use Rattle.access_index.specs.Index.{Keeps}
+use Rattle.access_index.proofs.index.AccessIndex.of_rows.Given as goal
+
+abbrev pub invariant-loop-row : goal.invariant-loop-row
+invariant-loop-row l = Keeps l.index (is_among (take l.row-index l.rows))

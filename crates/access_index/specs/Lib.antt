@@ -1,0 +1,4 @@
+pub mod Decision
+pub mod Following
+pub mod Index
+pub mod private

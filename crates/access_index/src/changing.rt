@@ -1,0 +1,205 @@
+//! The changes of a plan.
+ghost use Rattle.std.specs.Prelude.{◌≡◌, ◌≢◌, true, None, OnOk, IfOk, IfErr, IfSome, IfNone};
+ghost use Rattle.rbac_sets.specs.declared.row.Change.TheVariants.{Put, Take};
+ghost use Rattle.rbac_sets.specs.declared.row.Row.TheVariants.{GrantRow, NameRow, PairRow};
+ghost use Rattle.rbac_sets.specs.Sets.{Bytes};
+ghost use Rattle.admin_mgr.specs.RbacState.{RbacState};
+ghost use Rattle.admin_mgr.specs.Changes.{Turns, is_taken};
+ghost use Rattle.admin_mgr.specs.Good.{IsGood};
+ghost use Rattle.admin_mgr.specs.RowChecks.{AreRowsOf};
+ghost use Rattle.access_index.specs.Following.{AreNumbers};
+ghost use Rattle.access_index.specs.Index.{Indexes, Keeps, Rows, is_used, number_of};
+ghost use Rattle.access_index.specs.private.Changing.{IsNowhere, rows_after, rows_by};
+
+use crate::index::AccessIndex;
+use bit_tables::Seed;
+use rbac_sets::{Change, Name, Refusal, Row};
+use std::alloc::Global;
+
+impl AccessIndex {
+    /// The index of the state that has these rows, each once and in any order.
+    ///
+    /// # Errors
+    ///
+    /// `Memory` if an allocation failed, or the rows have more than 1,024 roles, which those of no state have.
+    pub fn of_rows(alloc: Global, seed: Seed, rows: &[Row]) -> Result<AccessIndex, Refusal>
+        ensures ok { IfOk result (λ index. (S : RbacState) → AreRowsOf S rows.now → Indexes index S) }
+        ensures cause { IfErr result (λ refusal. refusal ≡ Refusal.Memory) }
+    {
+        let mut index = AccessIndex::empty(alloc, seed);
+        for row in rows {
+            index.put_row(alloc, row)?;
+        }
+        Ok(index)
+    }
+
+    /// Makes the changes of a plan, which leads from the state of the index to another: then the index is that of the other
+    /// state. A change of one row is one of one bit.
+    ///
+    /// # Errors
+    ///
+    /// `Memory` if an allocation failed, or there are more than 1,024 roles, which no state has. The index is of no use then.
+    pub fn follow(&mut self, alloc: Global, changes: &[Change]) -> Result<(), Refusal>
+        requires { (S : RbacState) × Indexes self.old S }
+        ensures ok { OnOk result ((S T : RbacState) → Indexes self.old S → Turns S changes.now T → IsGood T → Indexes self.new T) }
+        ensures freed { OnOk result ((role : Bytes) → is_taken changes.now (NameRow Row.ROLE role) ≡ true → number_of self.new role ≡ None) }
+        ensures cause { IfErr result (λ refusal. refusal ≡ Refusal.Memory) }
+    {
+        self.change_bits(alloc, changes)?;
+        self.free_numbers(changes);
+        Ok(())
+    }
+
+    // Changes the bits, one after the other.
+    fn change_bits(&mut self, alloc: Global, changes: &[Change]) -> Result<(), Refusal>
+        requires { (rows : Rows) × Keeps self.old rows }
+        ensures ok { OnOk result ((rows : Rows) → Keeps self.old rows → Keeps self.new (rows_after rows changes.now)) }
+        ensures cause { IfErr result (λ refusal. refusal ≡ Refusal.Memory) }
+    {
+        for change in changes {
+            self.change_bit(alloc, change)?;
+        }
+        Ok(())
+    }
+
+    // Frees the numbers of the roles that are taken.
+    fn free_numbers(&mut self, changes: &[Change])
+        requires { AreNumbers (number_of self.old) (is_used self.old) }
+        ensures keeps { (rows : Rows) → Keeps self.old rows → ((role : Bytes) → is_taken changes.now (NameRow Row.ROLE role) ≡ true → IsNowhere rows role) → Keeps self.new rows }
+        ensures freed { (role : Bytes) → is_taken changes.now (NameRow Row.ROLE role) ≡ true → number_of self.new role ≡ None }
+    {
+        for change in changes {
+            if let Some(role) = role_taken(change) {
+                self.free(role);
+            }
+        }
+    }
+
+    // Changes the bit of one row, if it has one.
+    fn change_bit(&mut self, alloc: Global, change: &Change) -> Result<(), Refusal>
+        requires { (rows : Rows) × Keeps self.old rows }
+        ensures ok { OnOk result ((rows : Rows) → Keeps self.old rows → Keeps self.new (rows_by rows change.now)) }
+        ensures cause { IfErr result (λ refusal. refusal ≡ Refusal.Memory) }
+    {
+        match change {
+            Change::Put(row) => self.put_row(alloc, row),
+            Change::Take(row) => self.take_row(row),
+        }
+    }
+
+    // Puts the bit of a row, if it has one.
+    pub(crate) fn put_row(&mut self, alloc: Global, row: &Row) -> Result<(), Refusal>
+        requires { (rows : Rows) × Keeps self.old rows }
+        ensures ok { OnOk result ((rows : Rows) → Keeps self.old rows → Keeps self.new (rows_by rows (Put row.now))) }
+        ensures cause { IfErr result (λ refusal. refusal ≡ Refusal.Memory) }
+    {
+        match row {
+            Row::PairRow(Row::ACTIVATED_ROLE, session, role) => self.put_activated(
+                alloc, session, role,
+            ),
+            Row::PairRow(Row::CLOSURE_PAIR, senior, junior) => self.put_pair(alloc, senior, junior),
+            Row::GrantRow(object, operation, role) => self.put_grant(
+                alloc, object, operation, role,
+            ),
+            _ => Ok(()),
+        }
+    }
+
+    // Takes the bit of a row, if it has one.
+    fn take_row(&mut self, row: &Row) -> Result<(), Refusal>
+        requires { (rows : Rows) × Keeps self.old rows }
+        ensures ok { OnOk result ((rows : Rows) → Keeps self.old rows → Keeps self.new (rows_by rows (Take row.now))) }
+        ensures cause { IfErr result (λ refusal. refusal ≡ Refusal.Memory) }
+    {
+        match row {
+            Row::PairRow(Row::ACTIVATED_ROLE, session, role) => self.take_activated(session, role),
+            Row::PairRow(Row::CLOSURE_PAIR, senior, junior) => {
+                self.take_pair(senior, junior);
+                Ok(())
+            }
+            Row::GrantRow(object, operation, role) => self.take_grant(object, operation, role),
+            _ => Ok(()),
+        }
+    }
+
+    fn put_activated(&mut self, alloc: Global, session: &Name, role: &Name) -> Result<(), Refusal>
+        requires { (rows : Rows) × Keeps self.old rows }
+        ensures ok { OnOk result ((rows : Rows) → Keeps self.old rows → Keeps self.new (rows_by rows (Put (PairRow Row.ACTIVATED_ROLE session.now role.now)))) }
+        ensures cause { IfErr result (λ refusal. refusal ≡ Refusal.Memory) }
+    {
+        let number = self.number_for(alloc, role)?;
+        self.sessions.put(alloc, session.as_str(), number)
+    }
+
+    fn take_activated(&mut self, session: &Name, role: &Name) -> Result<(), Refusal>
+        requires { (rows : Rows) × Keeps self.old rows }
+        ensures ok { OnOk result ((rows : Rows) → Keeps self.old rows → Keeps self.new (rows_by rows (Take (PairRow Row.ACTIVATED_ROLE session.now role.now)))) }
+        ensures cause { IfErr result (λ refusal. refusal ≡ Refusal.Memory) }
+    {
+        if let Some(number) = self.number(role) {
+            return self.sessions.take(session.as_str(), number);
+        }
+        Ok(())
+    }
+
+    fn put_grant(
+        &mut self,
+        alloc: Global,
+        object: &Name,
+        operation: &Name,
+        role: &Name,
+    ) -> Result<(), Refusal>
+        requires { (rows : Rows) × Keeps self.old rows }
+        ensures ok { OnOk result ((rows : Rows) → Keeps self.old rows → Keeps self.new (rows_by rows (Put (GrantRow object.now operation.now role.now)))) }
+        ensures cause { IfErr result (λ refusal. refusal ≡ Refusal.Memory) }
+    {
+        let number = self.number_for(alloc, role)?;
+        self.grants
+            .put(alloc, object.as_str(), operation.as_str(), number)
+    }
+
+    fn take_grant(&mut self, object: &Name, operation: &Name, role: &Name) -> Result<(), Refusal>
+        requires { (rows : Rows) × Keeps self.old rows }
+        ensures ok { OnOk result ((rows : Rows) → Keeps self.old rows → Keeps self.new (rows_by rows (Take (GrantRow object.now operation.now role.now)))) }
+        ensures cause { IfErr result (λ refusal. refusal ≡ Refusal.Memory) }
+    {
+        if let Some(number) = self.number(role) {
+            return self
+                .grants
+                .take(object.as_str(), operation.as_str(), number);
+        }
+        Ok(())
+    }
+
+    fn put_pair(&mut self, alloc: Global, senior: &Name, junior: &Name) -> Result<(), Refusal>
+        requires { (rows : Rows) × Keeps self.old rows }
+        ensures ok { OnOk result ((rows : Rows) → Keeps self.old rows → Keeps self.new (rows_by rows (Put (PairRow Row.CLOSURE_PAIR senior.now junior.now)))) }
+        ensures cause { IfErr result (λ refusal. refusal ≡ Refusal.Memory) }
+    {
+        let above = self.number_for(alloc, senior)?;
+        let below = self.number_for(alloc, junior)?;
+        self.put_junior(above, below)
+    }
+
+    fn take_pair(&mut self, senior: &Name, junior: &Name)
+        requires { (rows : Rows) × Keeps self.old rows }
+        ensures { (rows : Rows) → Keeps self.old rows → Keeps self.new (rows_by rows (Take (PairRow Row.CLOSURE_PAIR senior.now junior.now))) }
+    {
+        if let Some(above) = self.number(senior) {
+            if let Some(below) = self.number(junior) {
+                self.take_junior(above, below);
+            }
+        }
+    }
+}
+
+// The role that the change takes, if it takes one.
+fn role_taken(change: &Change) -> Option<&Name>
+    ensures role { IfSome result (λ role. change.now ≡ Take (NameRow Row.ROLE role.now)) }
+    ensures none { IfNone result ((role : Bytes) → change.now ≢ Take (NameRow Row.ROLE role)) }
+{
+    match change {
+        Change::Take(Row::NameRow(Row::ROLE, role)) => Some(role),
+        _ => None,
+    }
+}

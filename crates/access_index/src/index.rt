@@ -1,0 +1,127 @@
+//! The index.
+ghost use Rattle.std.specs.Prelude.{◌≡◌, ◌<◌, ◌≢◌, ℕ, IsTrue, false, Some, None, OnOk, IfOk, IfErr, vec_len};
+ghost use Rattle.rbac_sets.specs.Sets.{Bytes};
+ghost use Rattle.rbac_sets.specs.declared.row.Row.TheVariants.{PairRow, GrantRow};
+ghost use Rattle.admin_mgr.specs.RbacState.{empty_state};
+ghost use Rattle.access_index.specs.Following.{AreNumbers};
+ghost use Rattle.access_index.specs.Index.{Indexes, Keeps, Rows, is_below, is_used, number_of};
+ghost use Rattle.access_index.specs.private.Changing.{IsNowhere};
+
+use bit_rows::{BitRow, WIDTH};
+use bit_tables::{BitTable, PairTable, Seed};
+use rbac_sets::{Name, Refusal};
+use std::alloc::Global;
+use std::collections::HashMap;
+
+/// An index for decisions.
+#[derive(Drop)]
+pub struct AccessIndex {
+    // The number of each role.
+    pub(crate) numbers: HashMap<String, usize, Seed>,
+    // The numbers of roles.
+    pub(crate) used: BitRow,
+    // By the number of a role the numbers of its juniors, without its own.
+    pub(crate) juniors: Vec<BitRow>,
+    // By session the roles that were activated in it.
+    pub(crate) sessions: BitTable,
+    // By object and operation the roles that the permission is granted to.
+    pub(crate) grants: PairTable,
+}
+
+impl AccessIndex {
+    /// The index of an office without any row, such as a new one. It doesn't allocate.
+    pub fn empty(alloc: Global, seed: Seed) -> AccessIndex
+        ensures rows { Keeps result (λ row. false) }
+        ensures state { (version : ℕ) → Indexes result (empty_state version) }
+    {
+        AccessIndex {
+            numbers: HashMap::with_hasher(alloc, seed),
+            used: BitRow::empty(),
+            juniors: Vec::new(alloc),
+            sessions: BitTable::new(alloc, seed),
+            grants: PairTable::new(alloc, seed),
+        }
+    }
+
+    // The number of the role, if it has one.
+    pub(crate) fn number(&self, role: &Name) -> Option<usize>
+        ensures { result ≡ number_of self.now role.now }
+    {
+        self.numbers.get(role.as_str()).copied()
+    }
+
+    // The number of the role, which gets one if it has none.
+    pub(crate) fn number_for(&mut self, alloc: Global, role: &Name) -> Result<usize, Refusal>
+        requires { (rows : Rows) × Keeps self.old rows }
+        ensures keeps { OnOk result ((rows : Rows) → Keeps self.old rows → Keeps self.new rows) }
+        ensures number { IfOk result (λ n. number_of self.new role.now ≡ Some n) }
+        ensures within { IfOk result (λ n. n < WIDTH) }
+        ensures others { OnOk result ((other : Bytes) (n : ℕ) → number_of self.old other ≡ Some n → number_of self.new other ≡ Some n) }
+        ensures cause { IfErr result (λ refusal. refusal ≡ Refusal.Memory) }
+    {
+        if let Some(number) = self.number(role) {
+            return Ok(number);
+        }
+        let Some(number) = self.used.first_absent() else {
+            return Err(Refusal::Memory);
+        };
+        let key = String::from_str(alloc, role.as_str())?;
+        self.numbers.insert(key, number)?;
+        self.used.put(number);
+        Ok(number)
+    }
+
+    // Frees the number of a role that no row has.
+    pub(crate) fn free(&mut self, role: &Name)
+        requires { AreNumbers (number_of self.old) (is_used self.old) }
+        ensures numbers { AreNumbers (number_of self.new) (is_used self.new) }
+        ensures keeps { (rows : Rows) → Keeps self.old rows → IsNowhere rows role.now → Keeps self.new rows }
+        ensures freed { number_of self.new role.now ≡ None }
+        ensures others { (other : Bytes) → number_of self.old other ≡ None → number_of self.new other ≡ None }
+    {
+        if let Some(number) = self.numbers.remove(role.as_str()) {
+            self.used.take(number);
+        }
+    }
+
+    // Puts the second number into the row of the first.
+    pub(crate) fn put_junior(&mut self, senior: usize, junior: usize) -> Result<(), Refusal>
+        requires { junior < WIDTH }
+        ensures there { OnOk result (IsTrue (is_below self.new.juniors.items senior junior)) }
+        ensures others { OnOk result ((i j : ℕ) → (i ≡ senior → j ≢ junior) → is_below self.new.juniors.items i j ≡ is_below self.old.juniors.items i j) }
+        ensures rest { OnOk result (self.new ≡ record self.old { juniors = self.new.juniors }) }
+        ensures cause { IfErr result (λ refusal. refusal ≡ Refusal.Memory) }
+    {
+        reach(&mut self.juniors, senior)?;
+        let mut row = self.juniors[senior];
+        row.put(junior);
+        self.juniors[senior] = row;
+        Ok(())
+    }
+
+    // Takes the second number out of the row of the first.
+    pub(crate) fn take_junior(&mut self, senior: usize, junior: usize)
+        requires { junior < WIDTH }
+        ensures gone { is_below self.new.juniors.items senior junior ≡ false }
+        ensures others { (i j : ℕ) → (i ≡ senior → j ≢ junior) → is_below self.new.juniors.items i j ≡ is_below self.old.juniors.items i j }
+        ensures rest { self.new ≡ record self.old { juniors = self.new.juniors } }
+    {
+        if senior < self.juniors.len() {
+            let mut row = self.juniors[senior];
+            row.take(junior);
+            self.juniors[senior] = row;
+        }
+    }
+}
+
+// Appends empty rows until there is one of this number.
+fn reach(rows: &mut Vec<BitRow>, number: usize) -> Result<(), Refusal>
+    ensures within { OnOk result (number < vec_len rows.new) }
+    ensures same { OnOk result ((i j : ℕ) → is_below rows.new.items i j ≡ is_below rows.old.items i j) }
+    ensures cause { IfErr result (λ refusal. refusal ≡ Refusal.Memory) }
+{
+    while rows.len() <= number {
+        rows.push(BitRow::empty())?;
+    }
+    Ok(())
+}

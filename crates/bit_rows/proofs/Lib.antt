@@ -1,0 +1,3 @@
+pub mod Common
+pub mod RowLaws
+pub mod WordLaws

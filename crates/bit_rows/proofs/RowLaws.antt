@@ -1,0 +1,144 @@
+-- The numbers of a row, word by word.
+use Rattle.std.proofs.Common.{◌≡◌, ◌≢◌, ℕ, ◌+◌, ◌*◌, ◌/◌, ◌%◌, ◌<◌, ◌≤◌, true, false, List, length, refl, sym, ◌∙◌, ap, inl, inr, arith}
+use Rattle.std.specs.Prelude.{IsTrue, nat_eq, slice_index, slice_set}
+use Rattle.std.specs.Int.{bit_at}
+use Rattle.std.proofs.lemmas.Bool.{cases_eq, cases_lt, eq-eqb, ne_eqb, eqb-true, true≢false}
+use Rattle.std.proofs.lemmas.List.{get_or-set_same, get_or-set_other, get_or_past}
+use Rattle.std.proofs.lemmas.Nat.Bits.{bit_at-zero}
+use Rattle.bit_rows.specs.Rows.{HaveCommon, has_bit}
+
+-- ---- one number
+
+-- the row has the number if its word has the bit
+pub has_from_bit : (words : List ℕ) (n : ℕ) → bit_at (slice_index words (n / 64)) (n % 64) ≡ 1 → has_bit words n ≡ true
+unfolding has_bit
+has_from_bit words n is = eq-eqb _ _ is
+
+pub bit_from_has : (words : List ℕ) (n : ℕ) → has_bit words n ≡ true → bit_at (slice_index words (n / 64)) (n % 64) ≡ 1
+unfolding has_bit
+bit_from_has words n is = eqb-true _ _ is
+
+pub absent_from_bit : (words : List ℕ) (n : ℕ) → bit_at (slice_index words (n / 64)) (n % 64) ≡ 0 → has_bit words n ≡ false
+unfolding has_bit
+absent_from_bit words n is = ne_eqb _ _ (λ one. let differ : 0 ≡ 1 = sym is ∙ one in omega (arith, differ))
+
+-- the number at a bit of a word
+pub place_word : (i bit : ℕ) → bit < 64 → (i * 64 + bit) / 64 ≡ i
+place_word i bit low = omega (arith, low)
+
+pub place_bit : (i bit : ℕ) → bit < 64 → (i * 64 + bit) % 64 ≡ bit
+place_bit i bit low = omega (arith, low)
+
+-- a word's bit, at its number
+pub has_at_place : (words : List ℕ) (i bit : ℕ) → bit < 64 → bit_at (slice_index words i) bit ≡ 1 → has_bit words (i * 64 + bit) ≡ true
+has_at_place words i bit low is =
+    has_from_bit words (i * 64 + bit) (rw (place_word i bit low, place_bit i bit low) is)
+
+pub absent_at_place : (words : List ℕ) (i bit : ℕ) → bit < 64 → bit_at (slice_index words i) bit ≡ 0 → has_bit words (i * 64 + bit) ≡ false
+absent_at_place words i bit low is =
+    absent_from_bit words (i * 64 + bit) (rw (place_word i bit low, place_bit i bit low) is)
+
+-- ---- a word is written
+
+module _ (words : List ℕ) (number word : ℕ) (within : number / 64 < length words) where
+  written : (n : ℕ) → n / 64 ≡ number / 64 → slice_index (slice_set words (number / 64) word) (n / 64) ≡ word
+  written n same = ap (slice_index (slice_set words (number / 64) word)) same ∙ get_or-set_same words (number / 64) word 0 within
+
+  kept : (n : ℕ) → n / 64 ≢ number / 64 → slice_index (slice_set words (number / 64) word) (n / 64) ≡ slice_index words (n / 64)
+  kept n other = get_or-set_other words (number / 64) (n / 64) word 0 other
+
+  -- the bit of a number in the words after one was written in which only this number's bit may differ
+  module _ (others : (i : ℕ) → i < 64 → i ≢ number % 64 → bit_at word i ≡ bit_at (slice_index words (number / 64)) i) where
+    bit_other : (n : ℕ) → n ≢ number → bit_at (slice_index (slice_set words (number / 64) word) (n / 64)) (n % 64) ≡ bit_at (slice_index words (n / 64)) (n % 64)
+    bit_other n differ = elim (cases_eq (n / 64) (number / 64)) [
+      | inl same ↦
+          let rest : n % 64 ≢ number % 64 = λ e. differ (omega (arith, same, e)) in
+          ap (λ w. bit_at w (n % 64)) (written n same) ∙ others (n % 64) (omega arith) rest ∙ ap (λ k. bit_at (slice_index words k) (n % 64)) (sym same)
+      | inr other ↦ ap (λ w. bit_at w (n % 64)) (kept n other)
+    ]
+
+    pub has_other : (n : ℕ) → n ≢ number → has_bit (slice_set words (number / 64) word) n ≡ has_bit words n
+    unfolding has_bit
+    has_other n differ = ap (λ b. nat_eq b 1) (bit_other n differ)
+
+  -- the number itself has the new word's bit
+  pub has_here : bit_at word (number % 64) ≡ 1 → has_bit (slice_set words (number / 64) word) number ≡ true
+  has_here one = has_from_bit (slice_set words (number / 64) word) number (ap (λ w. bit_at w (number % 64)) (written number refl) ∙ one)
+
+  pub absent_here : bit_at word (number % 64) ≡ 0 → has_bit (slice_set words (number / 64) word) number ≡ false
+  absent_here none = absent_from_bit (slice_set words (number / 64) word) number (ap (λ w. bit_at w (number % 64)) (written number refl) ∙ none)
+
+-- ---- two rows
+
+-- no word up to here has a bit in common with the other's
+abbrev pub AreApart : List ℕ → List ℕ → ℕ → Type 0
+AreApart a b upto = (i : ℕ) → i < upto → HaveCommon (slice_index a i) (slice_index b i) → ⊥
+
+-- a number of both rows is a bit of both words
+pub common_word : (a b : List ℕ) (n : ℕ) → IsTrue (has_bit a n) → IsTrue (has_bit b n) → HaveCommon (slice_index a (n / 64)) (slice_index b (n / 64))
+common_word a b n in_a in_b = (n % 64, omega arith, bit_from_has a n in_a, bit_from_has b n in_b)
+
+pub common_number : (a b : List ℕ) (i : ℕ) → HaveCommon (slice_index a i) (slice_index b i) → (n : ℕ) × IsTrue (has_bit a n) × IsTrue (has_bit b n)
+common_number a b i (bit, low, in_a, in_b) = (i * 64 + bit, has_at_place a i bit low in_a, has_at_place b i bit low in_b)
+
+-- a number whose word is past the last isn't in the row
+pub absent_past : (words : List ℕ) (n : ℕ) → length words ≤ n / 64 → has_bit words n ≡ false
+absent_past words n past = absent_from_bit words n (ap (λ w. bit_at w (n % 64)) (get_or_past words (n / 64) 0 past) ∙ bit_at-zero (n % 64))
+
+-- ---- a row, word by word
+
+-- no number from the first on, below the place
+abbrev pub IsEmptyFrom : List ℕ → ℕ → ℕ → Type 0
+IsEmptyFrom words from place = (n : ℕ) → from ≤ n → n < place * 64 → has_bit words n ≡ false
+
+-- each number below the place
+abbrev pub IsFullTo : List ℕ → ℕ → Type 0
+IsFullTo words place = (n : ℕ) → n < place * 64 → has_bit words n ≡ true
+
+-- a word without a bit from this one on
+pub empty_word : (words : List ℕ) (from i bit : ℕ) → from ≡ i * 64 + bit → bit < 64 → ((k : ℕ) → bit ≤ k → bit_at (slice_index words i) k ≡ 0) → IsEmptyFrom words from (i + 1)
+empty_word words from i bit is low none n late below =
+    let at : n / 64 ≡ i = omega (arith, is, late, below, low) in
+    let past : bit ≤ n % 64 = omega (arith, is, late, below, low) in
+    absent_from_bit words n (ap (λ k. bit_at (slice_index words k) (n % 64)) at ∙ none (n % 64) past)
+
+-- one more word without a bit
+pub empty_more : (words : List ℕ) (from i : ℕ) → IsEmptyFrom words from i → ((k : ℕ) → 0 ≤ k → bit_at (slice_index words i) k ≡ 0) → IsEmptyFrom words from (i + 1)
+empty_more words from i before none n late below = elim (cases_lt n (i * 64)) [
+  | inl less ↦ before n late less
+  | inr past ↦
+      let at : n / 64 ≡ i = omega (arith, past, below) in
+      absent_from_bit words n (ap (λ k. bit_at (slice_index words k) (n % 64)) at ∙ none (n % 64) (omega arith))
+]
+
+pub empty_all : (words : List ℕ) (from i : ℕ) → length words ≤ i → IsEmptyFrom words from i → (n : ℕ) → from ≤ n → has_bit words n ≡ false
+empty_all words from i whole empty n late = elim (cases_lt n (i * 64)) [
+  | inl less ↦ empty n late less
+  | inr past ↦ absent_past words n (omega (arith, past, whole))
+]
+
+-- the first bit of a word is the first number after the words before it
+pub found_first : (words : List ℕ) (from i bit low : ℕ) → ((n : ℕ) → from ≤ n → n < i * 64 + low → has_bit words n ≡ false) → low ≤ bit → bit < 64
+    → ((k : ℕ) → low ≤ k → k < bit → bit_at (slice_index words i) k ≡ 0) → (n : ℕ) → from ≤ n → n < i * 64 + bit → has_bit words n ≡ false
+found_first words from i bit low before late within none n after below = elim (cases_lt n (i * 64 + low)) [
+  | inl less ↦ before n after less
+  | inr past ↦
+      let at : n / 64 ≡ i = omega (arith, past, below, within) in
+      absent_from_bit words n (ap (λ k. bit_at (slice_index words k) (n % 64)) at ∙ none (n % 64) (omega (arith, past, below, within)) (omega (arith, past, below, within)))
+]
+
+-- one more full word
+pub full_more : (words : List ℕ) (i : ℕ) → IsFullTo words i → ((k : ℕ) → k < 64 → bit_at (slice_index words i) k ≡ 1) → IsFullTo words (i + 1)
+full_more words i before full n below = elim (cases_lt n (i * 64)) [
+  | inl less ↦ before n less
+  | inr past ↦
+      let at : n / 64 ≡ i = omega (arith, past, below) in
+      has_from_bit words n (ap (λ k. bit_at (slice_index words k) (n % 64)) at ∙ full (n % 64) (omega arith))
+]
+
+-- two rows without a common bit in any word have no number in common
+pub none_past : (a b : List ℕ) (i : ℕ) → AreApart a b i → length a ≤ i → (n : ℕ) → IsTrue (has_bit a n) → IsTrue (has_bit b n) → ⊥
+none_past a b i apart whole n in_a in_b = elim (cases_lt (n / 64) i) [
+  | inl below ↦ apart (n / 64) below (common_word a b n in_a in_b)
+  | inr past ↦ true≢false (sym in_a ∙ absent_past a n (omega (arith, past, whole)))
+]

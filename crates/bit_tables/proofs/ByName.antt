@@ -1,0 +1,64 @@
+-- Maps by names, after one change.
+use Rattle.std.proofs.Common.{◌≡◌, ◌≢◌, Bool, ◌⊎◌, List, [], ◌∷◌, String, length, string_bytes, inl, inr, refl, sym, ◌∙◌, ap, arith}
+use Rattle.std.specs.Prelude.{Option, Some, None}
+use Rattle.std.specs.Str.{bytes_eq}
+use Rattle.std.specs.Map.{lookup, update}
+use Rattle.std.specs.Cmp.Lexicographic.{bytes_decides}
+use Rattle.std.proofs.lemmas.Bool.{cases_Bool, true≢false, false_from_ne_true, cond-true, cond-false}
+use Rattle.rbac_sets.specs.Sets.{Bytes, Pair}
+
+-- names are the same or not
+pub same_bytes : (a b : Bytes) → (a ≡ b) ⊎ (a ≢ b)
+same_bytes a b = elim (cases_Bool (bytes_eq a b)) [
+  | inl is ↦ inl ((bytes_decides a b).0 is)
+  | inr differ ↦ inr (λ same. true≢false (sym ((bytes_decides a b).1 same) ∙ differ))
+]
+
+-- and so are pairs of names
+pub same_pair : (a b : Pair) → (a ≡ b) ⊎ (a ≢ b)
+same_pair a b = elim (same_bytes a.0 b.0) [
+  | inl first ↦ elim (same_bytes a.1 b.1) [
+    | inl second ↦ inl (λ i. (first i, second i))
+    | inr differ ↦ inr (λ same. differ (ap (λ (p : Pair). p.1) same))
+  ]
+  | inr differ ↦ inr (λ same. differ (ap (λ (p : Pair). p.0) same))
+]
+
+module _ {A : Type 0} (f g : Bytes → Option A) (name : Bytes) (w : Option A) (changed : (other : Bytes) → g other ≡ update bytes_eq f name w other) where
+  -- at the name
+  pub updated_here : g name ≡ w
+  updated_here = changed name ∙ cond-true (bytes_eq name name) w (f name) ((bytes_decides name name).1 refl)
+
+  -- at any other
+  pub updated_other : (other : Bytes) → other ≢ name → g other ≡ f other
+  updated_other other differ =
+      changed other ∙ cond-false (bytes_eq name other) w (f other) (false_from_ne_true (bytes_eq name other) (λ is. differ (sym ((bytes_decides name other).0 is))))
+
+-- a value taken out and put back changed
+module _ {A : Type 0} (old mid new : Bytes → Option A) (name key : Bytes) (w : Option A) (is : key ≡ name)
+    (taken : (other : Bytes) → mid other ≡ update bytes_eq old name None other) (put : (other : Bytes) → new other ≡ update bytes_eq mid key w other) where
+  pub moved_here : new name ≡ w
+  moved_here = ap new (sym is) ∙ updated_here mid new key w put
+
+  pub moved_other : (other : Bytes) → other ≢ name → new other ≡ old other
+  moved_other other differ = updated_other mid new key w put other (λ same. differ (same ∙ is)) ∙ updated_other old mid name None taken other differ
+
+-- what is read of a map at any name, by what is read at the one name that changed
+pub read_others : {A : Type 0} (read : Option A → Bool) (old new : Bytes → Option A) (name other : Bytes) → ((x : Bytes) → x ≢ name → new x ≡ old x) → (other ≡ name → read (new name) ≡ read (old name)) → read (new other) ≡ read (old other)
+read_others read old new name other others at = elim (same_bytes other name) [
+  | inl same ↦ ap (λ x. read (new x)) same ∙ at same ∙ sym (ap (λ x. read (old x)) same)
+  | inr differ ↦ ap read (others other differ)
+]
+
+pub no_entries : {A : Type 0} (entries : List A) → length entries ≡ 0 → entries ≡ []
+no_entries [] none = refl
+no_entries (x ∷ entries) none = absurd (omega (arith, none))
+
+-- a map that has an entry has one at some name
+pub some_entry : {A Y : Type 0} (entries : List (String Y × A)) → (length entries ≡ 0 → ⊥) → (name : Bytes) × (lookup (λ k. bytes_eq name (string_bytes k)) entries ≢ None)
+some_entry [] some = absurd (some refl)
+some_entry (entry ∷ entries) some =
+    (string_bytes entry.0, λ none. some-none entry.1 (sym (cond-true (bytes_eq (string_bytes entry.0) (string_bytes entry.0)) (Some entry.1) (lookup (λ k. bytes_eq (string_bytes entry.0) (string_bytes k)) entries) ((bytes_decides (string_bytes entry.0) (string_bytes entry.0)).1 refl)) ∙ none))
+  where
+    some-none : {X : Type 0} (x : X) → Some x ≡ None → ⊥
+    some-none x e = cc

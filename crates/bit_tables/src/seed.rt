@@ -1,0 +1,35 @@
+//! The hasher of the names.
+ghost use Rattle.std.specs.Prelude.{◌≡◌, ◌++◌, fold};
+ghost use Rattle.core.specs.Hash.{u64};
+ghost use Rattle.core.specs.Hash.DefaultHasher as sip;
+
+use std::hash::{BuildHasher, DefaultHasher, Hasher};
+
+/// A secret by which names are hashed: SipHash, which begins with two secret numbers. Whoever doesn't know them can't choose
+/// names that collide.
+#[derive(Clone, Copy)]
+pub struct Seed {
+    start: DefaultHasher,
+}
+
+impl Seed {
+    /// The secret with these numbers, which should be random.
+    pub fn new(first: u64, second: u64) -> Seed
+        ensures { result.start ≡ fold sip.write sip.initial (u64 first ++ u64 second) }
+    {
+        let mut start = DefaultHasher::new();
+        start.write_u64(first);
+        start.write_u64(second);
+        Seed { start }
+    }
+}
+
+impl BuildHasher for Seed {
+    type Hasher = DefaultHasher;
+
+    ghost build_hasher = { λ seed. seed.start };
+
+    fn build_hasher(&self) -> DefaultHasher {
+        self.start
+    }
+}

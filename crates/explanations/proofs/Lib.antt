@@ -1,0 +1,9 @@
+mod Conflicting
+mod Finds
+mod InheritanceConflicts
+mod KeptNames
+mod Least
+mod ReasonLaws
+mod SessionReasonLaws
+mod SessionViolations
+mod ViolatedSets

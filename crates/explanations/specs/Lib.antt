@@ -1,0 +1,4 @@
+pub mod Conflicts
+pub mod SessionReasons
+pub mod UserReasons
+pub mod private

@@ -1,0 +1,147 @@
+//! The separation of duty sets that a command would violate by one more role of a user or a session.
+ghost use Rattle.std.specs.Prelude.{◌≡◌, ◌⊎◌, [], ◌∷◌, ◌++◌, None, Some, IfOk, IfErr, slice_get};
+ghost use Rattle.std.specs.Option.{option_map};
+ghost use Rattle.rbac_sets.specs.Sets.{pair_cmp};
+ghost use Rattle.rbac_sets.specs.SortedSet.{set_of};
+ghost use Rattle.rbac_sets.specs.declared.command.Command.TheVariants.{AddActiveRole, AssignUser};
+ghost use Rattle.admin_mgr.specs.After.{after};
+ghost use Rattle.admin_mgr.specs.Assignment.{after_assignment, assign_user_refusals};
+ghost use Rattle.admin_mgr.specs.Authorization.{is_authorized};
+ghost use Rattle.admin_mgr.specs.Refusals.{first};
+ghost use Rattle.admin_mgr.specs.Verdict.{add_active_role_refusals, verdict};
+ghost use Rattle.explanations.specs.Conflicts.{activation_refused, assignment_refused, dynamic_violations, static_violations};
+ghost use Rattle.explanations.specs.private.Found.{has_too_many_with, violated_with};
+
+use admin_mgr::{State, is_reached};
+use rbac_sets::{Name, PairSet, Refusal, has_first};
+use role_order::RoleOrder;
+use std::alloc::Global;
+
+/// The static separation of duty sets that the user would violate with one more role, in byte order. It is of no
+/// importance whether the user is assigned to the role already: the list is empty then.
+///
+/// # Errors
+///
+/// `NoUser` if there is no such user, otherwise `NoRole` if there is no such role. `Memory` if an allocation failed.
+pub fn violated_by_assignment(
+    alloc: Global,
+    state: &State,
+    user: &Name,
+    role: &Name,
+) -> Result<Vec<Name>, Refusal>
+    ensures answered { IfOk result (λ names. assignment_refused state.now.facts user.now role.now ≡ None) }
+    ensures value { IfOk result (λ names. names.items ≡ static_violations (after_assignment state.now.facts (user.now, role.now))) }
+    ensures verdict { IfOk result (λ names. verdict state.now.facts (AssignUser user.now role.now)
+        ≡ first (assign_user_refusals state.now.facts (user.now, role.now) ++ option_map Refusal.StaticSeparation (slice_get names.items 0) ∷ [])) }
+    ensures refused { IfErr result (λ refusal. (refusal ≡ Refusal.Memory) ⊎ (assignment_refused state.now.facts user.now role.now ≡ Some refusal)) }
+{
+    if !state.users().contains(user) {
+        return Err(Refusal::NoUser);
+    }
+    if !state.roles().contains(role) {
+        return Err(Refusal::NoRole);
+    }
+    let held = state.assignments().with_first(user);
+    let sets = state.ssd_cardinalities().as_slice();
+    state.recall_good();
+    violated_with(alloc, state.order(), held, role, state.ssd_members(), sets)
+}
+
+/// The dynamic separation of duty sets that the session would violate with one more role, in byte order. It is of no
+/// importance whether the role is active in the session already: the list is empty then.
+///
+/// # Errors
+///
+/// The first of these that applies: `NoUser`, `NoSession`, `NoRole` if there is none of this name, `NotOwner` if the session
+/// isn't the user's, `NotAuthorized` if the user isn't authorized for the role. `Memory` if an allocation failed.
+pub fn violated_by_activation(
+    alloc: Global,
+    state: &State,
+    user: &Name,
+    session: &Name,
+    role: &Name,
+) -> Result<Vec<Name>, Refusal>
+    ensures answered { IfOk result (λ names. activation_refused state.now.facts user.now session.now role.now ≡ None) }
+    ensures value { IfOk result (λ names. names.items ≡ dynamic_violations (after state.now.facts (AddActiveRole user.now session.now role.now))) }
+    ensures verdict { IfOk result (λ names. verdict state.now.facts (AddActiveRole user.now session.now role.now)
+        ≡ first (add_active_role_refusals state.now.facts user.now session.now role.now
+        ++ option_map Refusal.DynamicSeparation (slice_get names.items 0) ∷ [])) }
+    ensures refused { IfErr result (λ refusal. (refusal ≡ Refusal.Memory)
+        ⊎ (activation_refused state.now.facts user.now session.now role.now ≡ Some refusal)) }
+{
+    if let Some(refusal) = refuse_activation(state, user, session, role) {
+        return Err(refusal);
+    }
+    let held = state.active().with_first(session);
+    let sets = state.dsd_cardinalities().as_slice();
+    state.recall_good();
+    violated_with(alloc, state.order(), held, role, state.dsd_members(), sets)
+}
+
+// Why there is no answer for the activation of the role in the session.
+fn refuse_activation(state: &State, user: &Name, session: &Name, role: &Name) -> Option<Refusal>
+    ensures { result ≡ activation_refused state.now.facts user.now session.now role.now }
+{
+    if !state.users().contains(user) {
+        return Some(Refusal::NoUser);
+    }
+    if !has_first(state.sessions(), session) {
+        return Some(Refusal::NoSession);
+    }
+    if !state.roles().contains(role) {
+        return Some(Refusal::NoRole);
+    }
+    if !state.sessions().contains((session, user)) {
+        return Some(Refusal::NotOwner);
+    }
+    if !is_authorized(state, user, role) {
+        return Some(Refusal::NotAuthorized);
+    }
+    None
+}
+
+// Whether the user is authorized for the role.
+fn is_authorized(state: &State, user: &Name, role: &Name) -> bool
+    ensures { result ≡ is_authorized state.now.facts user.now role.now }
+{
+    let held = state.assignments().with_first(user);
+    is_reached(state.order(), held, role)
+}
+
+// The sets that a holder of these pairs violates with one more role.
+fn violated_with(
+    alloc: Global,
+    order: &RoleOrder,
+    held: &[(Name, Name)],
+    more: &Name,
+    members: &PairSet,
+    sets: &[(Name, u32)],
+) -> Result<Vec<Name>, Refusal>
+    ensures ok { IfOk result (λ names. names.items ≡ violated_with order.now.edges held.now more.now (set_of pair_cmp members.now) sets.now) }
+    ensures cause { IfErr result (λ refusal. refusal ≡ Refusal.Memory) }
+{
+    let mut names = Vec::new(alloc);
+    for set in sets {
+        if has_too_many_with(order, held, more, members.with_first(&set.0), set.1) {
+            names.push(set.0.copy(alloc)?)?;
+        }
+    }
+    Ok(names)
+}
+
+// Whether a holder of these pairs has no fewer of the members than the cardinality with one more role.
+pub(crate) fn has_too_many_with(
+    order: &RoleOrder,
+    held: &[(Name, Name)],
+    more: &Name,
+    members: &[(Name, Name)],
+    cardinality: u32,
+) -> bool
+    ensures { result ≡ has_too_many_with order.now.edges held.now more.now members.now cardinality }
+{
+    members
+        .iter()
+        .filter(|member| is_reached(order, held, &member.1) || order.geq(more, &member.1))
+        .count()
+        >= cardinality as usize
+}

@@ -1,0 +1,56 @@
+-- What a call from C returns that says why a user or a session may have access, or why not.
+use Rattle.std.specs.Prelude.{◌≡◌, ◌⊎◌, ℕ, List, [], Option, Some, None}
+use Rattle.rbac_sets.specs.Refusal.{code_of}
+use Rattle.rbac_sets.specs.declared.refusal.Refusal.{Refusal}
+use Rattle.admin_mgr.specs.RbacState.{RbacState}
+use Rattle.review_mgr.specs.Questions.{refused, user_refused}
+use Rattle.review_mgr.specs.declared.query.Query.TheVariants.{CheckAccess}
+use Rattle.explanations.specs.SessionReasons.{IsSessionReason, SessionReasonContent, UngrantedContent, InactiveContent, ActiveContent}
+use Rattle.explanations.specs.UserReasons.{IsUserReason, UserReasonContent, LockedContent, NotGrantedContent, NotAuthorizedContent, SeparatedContent, AllowedContent}
+use Rattle.role_lines.specs.Decision.{Refuses, RefusesUser}
+use Rattle.role_lines.specs.OfficeInMemory.{OfficeInMemory}
+use Rattle.role_lines.specs.StoredRow.{Parts, parts}
+use Rattle.rbac_c.specs.Calls.{CopiesParts}
+use Rattle.rbac_c.specs.declared.calls.RowLengths.{RowLengths}
+use Rattle.rbac_c.specs.declared.calls.TheConstants.{CLOSED}
+use Rattle.rbac_c.specs.declared.explaining.TheConstants.{ALLOWED, LOCKED, NOT_GRANTED, NOT_AUTHORIZED, SEPARATED, NOT_ACTIVE}
+
+-- the names of a reason, and its number
+abbrev pub reason_parts : UserReasonContent → Parts
+reason_parts (AllowedContent assigned granted) = parts assigned granted [] ALLOWED
+reason_parts LockedContent = parts [] [] [] LOCKED
+reason_parts NotGrantedContent = parts [] [] [] NOT_GRANTED
+reason_parts NotAuthorizedContent = parts [] [] [] NOT_AUTHORIZED
+reason_parts (SeparatedContent role set) = parts role set [] SEPARATED
+
+-- the question isn't refused, and this is the reason
+pub record HasUserReason (S : RbacState) (user operation object : List ℕ) (reason : UserReasonContent) : Type 0 where
+  pub unrefused : user_refused S user operation object ≡ None
+  pub reason_is : IsUserReason S user operation object reason
+
+-- the reason is copied, or the question is refused
+abbrev pub ExplainsUser : Option OfficeInMemory → List ℕ → List ℕ → List ℕ → List ℕ → RowLengths → ℕ → Type 0
+ExplainsUser None user operation object out lengths code = code ≡ CLOSED
+ExplainsUser (Some office) user operation object out lengths code =
+    ((reason : UserReasonContent) × (HasUserReason office.facts user operation object reason × CopiesParts (reason_parts reason) out lengths code))
+    ⊎ ((refusal : Refusal) × (RefusesUser office.facts user operation object refusal × (code ≡ code_of refusal)))
+
+-- ---- about a session
+
+-- the names of a reason, and its number
+abbrev pub session_reason_parts : SessionReasonContent → Parts
+session_reason_parts (ActiveContent active granted) = parts active granted [] ALLOWED
+session_reason_parts UngrantedContent = parts [] [] [] NOT_GRANTED
+session_reason_parts InactiveContent = parts [] [] [] NOT_ACTIVE
+
+-- the question isn't refused, and this is the reason
+pub record HasSessionReason (S : RbacState) (session operation object : List ℕ) (reason : SessionReasonContent) : Type 0 where
+  pub unrefused : refused S (CheckAccess session operation object) ≡ None
+  pub reason_is : IsSessionReason S session operation object reason
+
+-- the reason is copied, or the question is refused
+abbrev pub ExplainsSession : Option OfficeInMemory → List ℕ → List ℕ → List ℕ → List ℕ → RowLengths → ℕ → Type 0
+ExplainsSession None session operation object out lengths code = code ≡ CLOSED
+ExplainsSession (Some office) session operation object out lengths code =
+    ((reason : SessionReasonContent) × (HasSessionReason office.facts session operation object reason × CopiesParts (session_reason_parts reason) out lengths code))
+    ⊎ ((refusal : Refusal) × (Refuses office.facts session operation object refusal × (code ≡ code_of refusal)))

@@ -1,0 +1,172 @@
+//! A state with an index for its decisions.
+ghost use Rattle.std.specs.Prelude.{◌≡◌, ◌⊎◌, Some, None, IfSome, IfOk, IfErr, OnOk};
+ghost use Rattle.admin_mgr.specs.Changes.{Turns};
+ghost use Rattle.admin_mgr.specs.Good.{IsGood};
+ghost use Rattle.admin_mgr.specs.PlanEffect.{HasRoomFor, IsPlanOf, LeadsTo};
+ghost use Rattle.admin_mgr.specs.RbacState.{RbacState, empty_state};
+ghost use Rattle.admin_mgr.specs.RowChecks.{IsStateOf, RefusesRows};
+ghost use Rattle.admin_mgr.specs.Verdict.{verdict};
+ghost use Rattle.access_index.specs.Index.{Indexes};
+ghost use Rattle.role_lines.specs.Decision.{Decides, Refuses};
+
+use crate::deciding::decide;
+use access_index::AccessIndex;
+use admin_mgr::{Plan, Report, State};
+use bit_tables::Seed;
+use rbac_sets::{Change, Command, Refusal, Row};
+use std::alloc::Global;
+use std::marker::Model;
+use std::mem::replace;
+
+/// A state with an index, by which decisions are found in a time that doesn't depend on the state's size. If an allocation
+/// fails while the index follows a change, there is none from then on, and decisions are made by the state alone. In
+/// contracts it is the state.
+#[derive(Drop)]
+pub struct IndexedState {
+    state: State,
+    index: Option<AccessIndex>,
+}
+
+impl Model for IndexedState {
+    ghost use Rattle.std.specs.Prelude.{IfSome};
+    ghost use Rattle.admin_mgr.specs.StateWithRoom.{StateWithRoom, coded_state_with_room};
+    ghost use Rattle.access_index.specs.Index.{Indexes};
+
+    ghost Value = { StateWithRoom };
+
+    ghost coded = { coded_state_with_room };
+
+    ghost view = { λ indexed. indexed.state };
+
+    ghost invariant = { λ indexed. IfSome indexed.index (λ index. Indexes index indexed.state.facts) };
+}
+
+impl IndexedState {
+    /// The state of a new office of version 2. It doesn't allocate.
+    pub fn empty(alloc: Global, seed: Seed) -> IndexedState
+        ensures { result.facts ≡ empty_state 2 }
+    {
+        IndexedState {
+            state: State::empty(alloc),
+            index: Some(AccessIndex::empty(alloc, seed)),
+        }
+    }
+
+    /// The state that is stored as `rows`, as `State::of_rows` makes it.
+    ///
+    /// # Errors
+    ///
+    /// Those of `State::of_rows`.
+    pub fn of_rows(
+        alloc: Global,
+        seed: Seed,
+        version: u32,
+        rows: Vec<Row>,
+    ) -> Result<IndexedState, Refusal>
+        requires { (version ≡ 1) ⊎ (version ≡ 2) }
+        ensures ok { IfOk result (λ state. IsStateOf version rows.items state.facts) }
+        ensures err { IfErr result (λ refusal. RefusesRows version rows.items refusal) }
+    {
+        let index = AccessIndex::of_rows(alloc, seed, &rows).ok();
+        let state = State::of_rows(alloc, version, rows)?;
+        Ok(IndexedState { state, index })
+    }
+
+    /// The state alone.
+    pub fn state(&self) -> &State
+        ensures { result.now ≡ self.now }
+    {
+        &self.state
+    }
+
+    /// The plan of a command, as `State::plan` makes it.
+    ///
+    /// # Errors
+    ///
+    /// Those of `State::plan`.
+    pub fn plan(&self, alloc: Global, command: &Command) -> Result<Plan, Refusal>
+        ensures accepted { IfOk result (λ plan. verdict self.now.facts command.now ≡ None) }
+        ensures planned { IfOk result (IsPlanOf self.now.facts command.now) }
+        ensures refused { IfErr result (λ refusal. (refusal ≡ Refusal.Memory) ⊎ (verdict self.now.facts command.now ≡ Some refusal)) }
+    {
+        self.state.plan(alloc, command)
+    }
+
+    /// Makes room for a plan, as `State::make_room` does.
+    ///
+    /// # Errors
+    ///
+    /// `Memory` if an allocation failed.
+    pub fn make_room(&mut self, plan: &Plan) -> Result<(), Refusal>
+        ensures keeps { self.new.facts ≡ self.old.facts }
+        ensures room { OnOk result (HasRoomFor self.new plan.now) }
+        ensures cause { IfErr result (λ refusal. refusal ≡ Refusal.Memory) }
+    {
+        self.state.make_room(plan)
+    }
+
+    /// Makes the changes of a plan, as `State::commit` does, and has the index follow them.
+    pub fn commit(&mut self, alloc: Global, plan: Plan) -> Report
+        requires planned { (T : RbacState) × LeadsTo self.old.facts plan T }
+        requires room { HasRoomFor self.old plan }
+        ensures state { (T : RbacState) → LeadsTo self.old.facts plan T → self.new.facts ≡ T }
+        ensures report { result ≡ plan.report }
+    {
+        let index = replace(&mut self.index, None);
+        let index = followed(alloc, index, plan.changes());
+        let report = self.state.commit(plan);
+        self.index = index;
+        report
+    }
+
+    /// CheckAccess, as `decide` decides it: by the index, if the session has a role and the permission is granted to one.
+    ///
+    /// It doesn't allocate.
+    ///
+    /// # Errors
+    ///
+    /// Those of `decide`.
+    pub fn decide(&self, session: &[u8], operation: &[u8], object: &[u8]) -> Result<bool, Refusal>
+        ensures decided { IfOk result (λ access. Decides self.now.facts session.now operation.now object.now access) }
+        ensures refused { IfErr result (λ refusal. Refuses self.now.facts session.now operation.now object.now refusal) }
+    {
+        match self.found(session, operation, object) {
+            Some(access) => Ok(access),
+            None => decide(&self.state, session, operation, object),
+        }
+    }
+
+    // The decision by the index, if it has one.
+    fn found(&self, session: &[u8], operation: &[u8], object: &[u8]) -> Option<bool>
+        ensures { IfSome result (λ access. Decides self.now.facts session.now operation.now object.now access) }
+    {
+        let Some(index) = &self.index else {
+            return None;
+        };
+        let Ok(session) = str::from_utf8(session) else {
+            return None;
+        };
+        let Ok(operation) = str::from_utf8(operation) else {
+            return None;
+        };
+        let Ok(object) = str::from_utf8(object) else {
+            return None;
+        };
+        self.state.recall_good();
+        index.find(session, operation, object)
+    }
+}
+
+// The index after the changes, if there is one and no allocation failed.
+fn followed(alloc: Global, index: Option<AccessIndex>, changes: &[Change]) -> Option<AccessIndex>
+    requires { IfSome index (λ old. (S : RbacState) × Indexes old S) }
+    ensures { (S T : RbacState) → IfSome index (λ old. Indexes old S) → Turns S changes.now T → IsGood T → IfSome result (λ new. Indexes new T) }
+{
+    let Some(mut index) = index else {
+        return None;
+    };
+    match index.follow(alloc, changes) {
+        Ok(()) => Some(index),
+        Err(_) => None,
+    }
+}

@@ -1,0 +1,69 @@
+package single
+
+import (
+	"context"
+	"fmt"
+	"time"
+
+	"rbac/clients/go/rbacoffice"
+
+	"rbac-node/internal/state"
+)
+
+// The office in this process is compared with the file a minute after the last command, or an hour after the last comparison.
+const quietInterval, longestInterval = time.Minute, time.Hour
+
+// compareOften compares the office in this process with the file until the context ends. What fails, as on a full disk, is tried an hour
+// later.
+func (o *Office) compareOften(ctx context.Context) {
+	ticker := time.NewTicker(quietInterval)
+	defer ticker.Stop()
+	compared, before, last, hasFailed := o.numbers().All, o.numbers().All, time.Now(), false
+	for {
+		select {
+		case <-ticker.C:
+		case <-ctx.Done():
+			return
+		}
+		now, isLate := o.numbers().All, time.Since(last) >= longestInterval
+		if now != compared && (isLate || now == before && !hasFailed) {
+			err := o.compare(ctx)
+			if hasFailed = err != nil; hasFailed {
+				o.Log.Warn("the office wasn't compared with its file", "why", err)
+			}
+			compared, last = now, time.Now()
+		}
+		before = now
+	}
+}
+
+// compare compares all rows of the office in this process with those of the file, at one place in the order. If they differ, both begin
+// with the file again.
+func (o *Office) compare(ctx context.Context) error {
+	var own []rbacoffice.Row
+	copied := o.File + ".comparing"
+	defer state.RemoveCopy(copied)
+	err := o.inTurn(ctx, func(*turn) error {
+		return o.feed.Quietly(func() error {
+			if err := o.state.Look(func(v *state.View) { own = v.Rows() }); err != nil {
+				return err
+			}
+			return state.Copy(o.File, copied)
+		})
+	})
+	if err != nil {
+		return err
+	}
+	difference, err := state.Difference(ctx, own, copied)
+	if err == nil && difference != "" {
+		o.beginAgain(fmt.Errorf("%s", difference))
+	}
+	return err
+}
+
+// beginAgain says that the office in this process isn't that of the file, and lets both begin with the file.
+func (o *Office) beginAgain(why error) {
+	o.Log.Error("the office in this process isn't that of the file: the replay is ended, and both begin with the file", "why", why)
+	o.state.Forget()
+	o.feed.Kill()
+}
