@@ -1,10 +1,15 @@
 """deploy/why: each cause is made for real. The script names it, as the program reports, and changes nothing."""
 
+import contextlib
+import fcntl
+import importlib.machinery
 import os
 import re
 import shutil
 import subprocess
+import sys
 import tempfile
+from pathlib import Path
 from typing import NamedTuple
 
 import pytest
@@ -371,6 +376,35 @@ def check_cause(bench, case):
     bench.judge(f"{case.what}: nothing else is named", [] if is_one else [printed])
     bench.same(f"{case.what}: the status", status, "0" if "nothing is wrong" in case.says else "1")
     bench.same(f"{case.what}: nothing has changed", rest[0], "same")
+
+
+# Locks many files, and then now and again unlocks a hundred of them and locks them again.
+LOCKING = """import fcntl, os, random, sys
+files = [open(f"{sys.argv[1]}/{os.getpid()}.{i}", "w") for i in range(150)]
+for file in files:
+    fcntl.flock(file, fcntl.LOCK_EX)
+print("locked", flush=True)
+while True:
+    some = random.sample(files, 100)
+    for what in (fcntl.LOCK_UN, fcntl.LOCK_EX):
+        for file in some:
+            fcntl.flock(file, what)
+"""
+
+
+def check_busy_locks(bench):
+    """The lock of a front is found while others lock and unlock their files, so that Linux's list of locks is never read at one moment."""
+    why = importlib.machinery.SourceFileLoader("why", str(WHY)).load_module()
+    path, busy = bench.write("office.lock", b""), bench.path("busy")
+    os.mkdir(busy)
+    with contextlib.ExitStack() as kept:
+        for _ in range(2):
+            child = kept.enter_context(subprocess.Popen([sys.executable, "-c", LOCKING, busy], stdout=subprocess.PIPE))
+            kept.callback(child.kill)
+            child.stdout.readline()
+        fcntl.flock(kept.enter_context(open(path, "rb")), fcntl.LOCK_EX)
+        found = [why.locks_of(Path(path)) for _ in range(300)]
+    bench.same("how often it isn't found", found.count(set()), 0)
 
 
 def check_invalid_arguments(bench):

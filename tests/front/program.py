@@ -148,6 +148,10 @@ class Front(Asking):
         """The processes that the front has started: the office's replay, and those of what is tried over a copy."""
         return children(self.process.pid)
 
+    def settle(self):
+        """Waits until a command is answered, even if the replay has just been killed: what the front then knows is in the file."""
+        until(lambda: self.ask("deleteUser", {"user": "nobody has this name"})[0] != 503, "commands are answered again")
+
     def connection(self):
         """A connection to the front, which is not made yet."""
         if self.listen.startswith("unix:"):

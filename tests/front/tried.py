@@ -258,7 +258,7 @@ def check_kills(bench):
                 thread.join()
             if not turn % 2:
                 front.start()
-            until(lambda: has_user(front, "ann"), "it answers again")
+            front.settle()
             last = sent[-98:]
             known = [has_user(front, user) for user in last]
             status, found = what_if(front, [line("addUser", user=user) for user in last])

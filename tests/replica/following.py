@@ -103,6 +103,7 @@ class Writer:
 
     def find_out(self, lines):
         """After a kill: how many of the commands were done, by what is in the office now."""
+        self.front.settle()
         _, found = self.snapshot()
         states = self.drawn.states[self.done : self.done + len(lines) + 1]
         held = facts_of_lines(found)
@@ -115,6 +116,7 @@ class Writer:
 
     def begin_again(self):
         """After a kill the numbers go on from another one, even if the last batch was answered before."""
+        self.front.settle()
         self.epochs.append((self.number(), self.done))
 
     def state_at(self, number):

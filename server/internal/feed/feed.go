@@ -174,7 +174,6 @@ func (f *Feed) Run(ctx context.Context) error {
 			continue
 		}
 		f.halt()
-		f.lose()
 		if err := f.startAgain(ctx); err != nil {
 			f.endKeeping()
 			return nil
@@ -379,12 +378,20 @@ func (f *Feed) start(ctx context.Context) error {
 	f.resting.Lock()
 	defer f.resting.Unlock()
 	f.life.Add(1)
-	if f.Before != nil {
-		if err := f.Before(ctx); err != nil {
-			return err
-		}
+	if err := f.before(ctx); err != nil {
+		return err
 	}
 	return f.open(ctx)
+}
+
+// before does what comes before a start, and then tells those that wait for the replay of before that they get no answer: what was done
+// of their lines is known by then, so that none of it is seen later only.
+func (f *Feed) before(ctx context.Context) error {
+	defer f.lose()
+	if f.Before == nil {
+		return nil
+	}
+	return f.Before(ctx)
 }
 
 // open is start without what comes before it.

@@ -6,6 +6,7 @@ import (
 	"fmt"
 	"path/filepath"
 	"sync"
+	"sync/atomic"
 	"testing"
 	"time"
 
@@ -189,5 +190,25 @@ func TestLostReplay(t *testing.T) {
 	}
 	if fmt.Sprint(n.asked) != fmt.Sprint(n.kept) || fmt.Sprint(n.kept) != fmt.Sprint(n.seen) {
 		t.Errorf("asked %v, kept %v, seen %v", n.asked, n.kept, n.seen)
+	}
+}
+
+// TestLossIsToldLast ends the replay under a command. Whoever waits for it is told after what was done has been found out.
+func TestLossIsToldLast(t *testing.T) {
+	var starts, told atomic.Int32
+	b := kept(t, &notebook{}, many, func(context.Context) error {
+		if starts.Add(1) == 2 {
+			time.Sleep(50 * time.Millisecond)
+			if told.Load() > 0 {
+				t.Error("it is told before")
+			}
+		}
+		return nil
+	})
+	given := b.do("die")
+	told.Add(1)
+	until(t, "another replay", func() bool { return b.starts() == 2 })
+	if given != "lost" || starts.Load() != 2 {
+		t.Errorf("%s, %d starts", given, starts.Load())
 	}
 }
