@@ -5,7 +5,6 @@ import signal
 import time
 from collections import Counter
 
-from .machines import send
 from .networks import MACHINES
 
 
@@ -15,8 +14,6 @@ class Faults:
     def __init__(self, cluster, seed):
         self.cluster, self.random = cluster, random.Random(seed)
         self.counts, self.faults, self.left = Counter(), [], {}
-        # How long a node may take to end after its replay, and to have one, 0 if this is not checked.
-        self.patience = 30
 
     def run(self, kinds, count, between):
         """Causes `count` faults of these kinds, with about `between` seconds between them. Each kind comes as often as it is among them. One
@@ -30,16 +27,6 @@ class Faults:
                 left.extend(self.random.sample(kinds, len(kinds)))
             left.pop()(self, self.random.randrange(MACHINES))
             time.sleep(self.random.uniform(0.3, 1.7) * between)
-
-    def children(self, node, holds):
-        """The process of a node, and those that it has started of which something holds, once there is one: it may have just ended."""
-        deadline = time.monotonic() + self.patience
-        while True:
-            process = node.process
-            found = [child for child in node.children() if holds(child)]
-            if found and process is node.process or time.monotonic() > deadline:
-                return process, found
-            time.sleep(0.02)
 
     def did(self, what):
         self.counts[what] += 1
@@ -64,29 +51,6 @@ class Faults:
             self.cluster.members[j].send(signal.SIGKILL)
         self.did("pairs of members killed")
 
-    def kill_replay(self, i, busy=False):
-        """Ends the program. The node has to end too."""
-        node = self.cluster.nodes[i]
-        process, replays = self.children(node, is_replay)
-        for number in (signal.SIGSTOP, signal.SIGKILL) if busy else (signal.SIGKILL,):
-            for child in replays:
-                send(child, number)
-            if number == signal.SIGSTOP:
-                time.sleep(0.3)  # Lines wait for their answers then.
-        if not replays:
-            return
-        self.did("replays killed")
-        deadline = time.monotonic() + self.patience
-        while process.poll() is None and self.patience:
-            if time.monotonic() > deadline:
-                with open(node.log, encoding="utf-8") as log:
-                    self.faults.append(f"node {i} still runs after its replay has ended: {log.readlines()[-5:]}")
-                return
-            time.sleep(0.02)
-
-    def kill_busy_replay(self, i):
-        self.kill_replay(i, True)
-
     def end_node(self, i):
         """The node is asked to end, and has to end in order, unless it was about to start or had just failed."""
         status = self.cluster.nodes[i].stop(signal.SIGTERM)
@@ -108,13 +72,6 @@ class Faults:
 
     def pause_member(self, i):
         self.pause(self.cluster.members[i].send, "members paused")
-
-    def pause_replay(self, i):
-        def signals(number):
-            for child in self.cluster.nodes[i].children():
-                send(child, number)
-
-        self.pause(signals, "replays paused")
 
     # What happens once or twice.
 
@@ -142,25 +99,11 @@ class Faults:
         self.did("folders of members lost")
 
 
-def arguments_of(process):
-    """The arguments of a process that runs."""
-    try:
-        with open(f"/proc/{process}/cmdline", "rb") as words:
-            return words.read().split(b"\0")[1:-1]
-    except OSError:
-        return []
-
-
-def is_replay(process):
-    """Whether a process is the replay of the office, and no other run of the program."""
-    return arguments_of(process)[:1] == [b"replay"]
-
-
-KILLS = [Faults.kill_node, Faults.kill_member, Faults.kill_machine, Faults.kill_two_members, Faults.kill_replay]
-PAUSES = [Faults.pause_node, Faults.pause_member, Faults.pause_replay]
+KILLS = [Faults.kill_node, Faults.kill_member, Faults.kill_machine, Faults.kill_two_members]
+PAUSES = [Faults.pause_node, Faults.pause_member]
 # What happens often, and what each of it is called.
-OFTEN = KILLS + KILLS[:2] + PAUSES + [Faults.kill_busy_replay, Faults.end_node, Faults.reload_callers]
+OFTEN = KILLS + KILLS[:2] + PAUSES + [Faults.end_node, Faults.reload_callers]
 NAMES = (
-    "nodes killed", "members killed", "machines killed", "pairs of members killed", "replays killed",
-    "nodes paused", "members paused", "replays paused", "nodes ended by SIGTERM", "nodes told to read their callers again",
+    "nodes killed", "members killed", "machines killed", "pairs of members killed",
+    "nodes paused", "members paused", "nodes ended by SIGTERM", "nodes told to read their callers again",
 )  # fmt: skip

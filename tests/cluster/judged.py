@@ -110,8 +110,8 @@ WRONG = {
     "AppendsTwice": [Faults.pause_member],
     "AnswersByItself": [Faults.pause_node],
     "AnswersBeforeLog": [Faults.pause_member],
-    "TakesAnswersForNew": [Faults.pause_replay],
-    "OutlivesReplay": [Faults.kill_busy_replay],
+    "TakesAnswersForNew": [Faults.pause_node],
+    "AnswersTooEarly": [Faults.pause_node],
 }
 
 
@@ -120,7 +120,6 @@ def faults_of(folder, node, kinds, seed):
     folder.mkdir()
     with Cluster(folder, node, every=EVERY) as cluster:
         trial, faults = Trial(cluster, seed), Faults(cluster, seed)
-        faults.patience = 0
         time.sleep(2)
         faults.run(kinds, 8, 0.3)
         return [fault for fault in trial.judge(10) if not fault.startswith("not in 10 seconds")]

@@ -131,16 +131,18 @@ def tamper(path):
 
 
 def judge_damaged(bench, cluster):
-    """A node doesn't start from a snapshot that isn't what it was."""
+    """A node doesn't start from a snapshot that isn't what it was, but from the one before it, and comes to the rows of the others."""
+    cluster.until(lambda: len(revisions(cluster, 2)) > 1 or add_users(cluster, f"v{time.monotonic_ns()}-", EVERY), "there are two snapshots")
     cluster.nodes[2].stop()
-    newest = max(revisions(cluster, 2))
+    begin, newest = len(log_of(cluster, 2)), max(revisions(cluster, 2))
     tamper(snapshots_of(cluster, 2)[newest][1])
     cluster.nodes[2].start()
     cluster.until(lambda: f"snapshot {newest} has the digest" in log_of(cluster, 2), "the node reports it")
-    cluster.nodes[2].stop()
-    shutil.rmtree(cluster.data("node2"))
-    cluster.nodes[2].start()
     cluster.until(cluster.ready, "the node is ready")
+    bench.same("it has fetched a snapshot", "fetched a snapshot" in log_of(cluster, 2)[begin:], False)
+    cluster.until(lambda: evens(cluster), "all have registered a snapshot of one place")
+    digests = [snapshots_of(cluster, i)[max(revisions(cluster, i))][0]["digest"] for i in range(3)]
+    bench.same("the digests", digests, digests[:1] * 3)
 
 
 def registered(cluster, made=False):

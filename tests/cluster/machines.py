@@ -67,18 +67,6 @@ class Process:
             time.sleep(RESTART)
             self.start()
 
-    def children(self):
-        """The processes that this one has started."""
-        try:
-            path = f"/proc/{self.process.pid}/task"
-            return [
-                int(child)
-                for task in os.listdir(path)
-                for child in open(f"{path}/{task}/children", encoding="ascii").read().split()
-            ]
-        except OSError:
-            return []
-
 
 class Cluster:
     """The machines of one test, in a folder."""
@@ -268,8 +256,6 @@ class Cluster:
         for process in (*self.members, *self.nodes):
             process.start()
             process.send(signal.SIGCONT)
-            for child in process.children():
-                send(child, signal.SIGCONT)
 
     def heal(self, seconds=None):
         """Lets everything run, and waits until all nodes have applied the whole log."""
@@ -277,14 +263,6 @@ class Cluster:
         self.until(self.ready, "all nodes are ready again", seconds)
         same = lambda: len({self.status(i).get("revision") for i in range(MACHINES)}) == 1  # noqa: E731
         self.until(same, "all nodes have the same", seconds)
-
-
-def send(process, number):
-    """Sends a signal, if there still is such a process."""
-    try:
-        os.kill(process, number)
-    except ProcessLookupError:
-        pass
 
 
 def writer_of(key):

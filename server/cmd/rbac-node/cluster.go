@@ -24,7 +24,6 @@ import (
 	"rbac-node/internal/metrics"
 	"rbac-node/internal/node"
 	"rbac-node/internal/office"
-	"rbac-node/internal/single"
 	"rbac-node/internal/web"
 )
 
@@ -141,7 +140,6 @@ func (s *clusterSettings) adoptInto(ctx context.Context, shared *ledger.Ledger, 
 // open checks the settings, and opens the log in etcd.
 func (s *clusterSettings) open(common *settings) (*ledger.Ledger, *logs.Logger, func(), error) {
 	s.common, s.Program, s.AnswerTimeout, s.HangTimeout = common, common.program, common.answerTimeout, common.hangTimeout
-	s.Reads = single.MostReads
 	if err := s.check(); err != nil {
 		return nil, nil, nil, err
 	}

@@ -60,7 +60,9 @@ func (e *Endpoints) explain(r *request) (int, error) {
 	}
 	var seen facts
 	e.office.State().Touch([]*api.Call{base})
-	err = e.office.State().Look(func(v *state.View) { seen, at.Policy = factsOf(v, q, base), v.Numbers.Policy })
+	err = e.office.State().Look(func(v *state.View) {
+		seen, at.Policy, at.Revision = factsOf(v, q, base), v.Numbers.Policy, v.Numbers.Revision
+	})
 	if err != nil {
 		return 0, err
 	}

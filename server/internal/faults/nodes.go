@@ -8,10 +8,10 @@ const (
 	AnswersByItself = "answers from its own state"
 	// AnswersBeforeLog answers commands before the log has them.
 	AnswersBeforeLog = "answers before the log has the command"
-	// TakesAnswersForNew takes an answer to be as new as its question was.
-	TakesAnswersForNew = "takes an answer to be as new as its question"
-	// OutlivesReplay goes on after its replay has ended.
-	OutlivesReplay = "goes on after its replay has ended"
+	// TakesAnswersForNew takes an answer to be as new as the moment at which it is made.
+	TakesAnswersForNew = "takes an answer to be of now"
+	// AnswersTooEarly answers a question before it has done what the log has.
+	AnswersTooEarly = "answers before it has done what the log has"
 	// JudgesBeforeLog judges a condition when it writes the entry.
 	JudgesBeforeLog = "judges a condition before the log has the command"
 	// ForgetsCaller leaves a caller out of the record of one node.

@@ -5,6 +5,7 @@ import (
 	"errors"
 	"fmt"
 	"io"
+	"strings"
 	"sync"
 	"sync/atomic"
 	"testing"
@@ -13,10 +14,10 @@ import (
 	"github.com/prometheus/client_golang/prometheus"
 
 	"rbac-node/internal/api"
-	"rbac-node/internal/boottime"
 	"rbac-node/internal/ledger"
 	"rbac-node/internal/logs"
 	"rbac-node/internal/office"
+	"rbac-node/internal/state"
 )
 
 // A fakeLog is a log in memory. Its Register fails if it is full.
@@ -116,94 +117,34 @@ func (l *fakeLog) registrations() int {
 	return len(l.registered)
 }
 
-// A fakeReplay answers each line with its number, or what it is to say, as soon as it is not paused. It ends after the most reads, if that is not 0.
-type fakeReplay struct {
-	says        func(line string) string
-	most, reads int64
-	mutex       sync.Mutex
-	lines       []string
-	times       []boottime.Moment
-	waiting     []func([]byte)
-	isPaused    bool
-	ended       chan struct{}
-	once        sync.Once
-}
-
-func newFakeReplay() *fakeReplay { return &fakeReplay{ended: make(chan struct{})} }
-
-func (r *fakeReplay) Send(line []byte, answered func([]byte)) {
-	r.mutex.Lock()
-	defer r.mutex.Unlock()
-	r.lines, r.times = append(r.lines, string(line)), append(r.times, boottime.Now())
-	r.waiting = append(r.waiting, answered)
-	if r.reads += office.ReadsOf(line); r.most > 0 && r.reads > r.most {
-		r.once.Do(func() { close(r.ended) })
-		return
-	}
-	r.answer()
-}
-
-// answer answers all that waits, unless the replay is paused.
-func (r *fakeReplay) answer() {
-	for !r.isPaused && len(r.waiting) > 0 {
-		number := len(r.lines) - len(r.waiting)
-		text := fmt.Sprint(number)
-		if r.says != nil {
-			text = r.says(r.lines[number])
-		}
-		r.waiting[0]([]byte(text))
-		r.waiting = r.waiting[1:]
-	}
-}
-
-func (r *fakeReplay) pause(isPaused bool) {
-	r.mutex.Lock()
-	defer r.mutex.Unlock()
-	r.isPaused = isPaused
-	r.answer()
-}
-
-func (r *fakeReplay) sent() []string {
-	r.mutex.Lock()
-	defer r.mutex.Unlock()
-	return append([]string{}, r.lines...)
-}
-
-// sentAt returns when a line was sent.
-func (r *fakeReplay) sentAt(line string) (at boottime.Moment) {
-	r.mutex.Lock()
-	defer r.mutex.Unlock()
-	for i, text := range r.lines {
-		if text == line {
-			at = r.times[i]
-		}
-	}
-	return at
-}
-
-func (r *fakeReplay) Flush()                 {}
-func (r *fakeReplay) Ended() <-chan struct{} { return r.ended }
-
-func (r *fakeReplay) Close() error {
-	r.once.Do(func() { close(r.ended) })
-	return nil
-}
-
-// newNode returns a node with fakes, whose replay was started.
-func newNode(t *testing.T) (*Node, *fakeLog, *fakeReplay) {
-	log, first := newFakeLog(), newFakeReplay()
+// newNode returns a node over a fake log, with an empty office.
+func newNode(t *testing.T) (*Node, *fakeLog) {
+	log := newFakeLog()
 	n, err := New(Options{
 		Name: "a", Data: t.TempDir(), Scratch: t.TempDir(), Program: "/nonexistent",
 		SnapshotCommands: 1000, SnapshotBytes: 1 << 20, AnswerTimeout: 5 * time.Second, HangTimeout: time.Minute,
-		Reads: 1 << 40,
 	}, log, logs.New(io.Discard), prometheus.NewRegistry())
 	if err != nil {
 		t.Fatal(err)
 	}
-	n.replay = first
-	n.open = func() (replay, error) { return newFakeReplay(), nil }
-	return n, log, first
+	if err := n.state.Begin(nil, true); err != nil {
+		t.Fatal(err)
+	}
+	return n, log
 }
+
+// usersOf returns the users of the office of a node.
+func usersOf(t *testing.T, n *Node) string {
+	t.Helper()
+	var found []string
+	if err := n.state.Look(func(v *state.View) { found = v.Users() }); err != nil {
+		t.Fatal(err)
+	}
+	return strings.Join(found, " ")
+}
+
+// question asks for what any office knows.
+const question = `{"fn":"ssdRoleSets"}`
 
 // running runs parts of a node until the test ends.
 func running(t *testing.T, parts ...func(context.Context) error) {
@@ -226,17 +167,18 @@ func eventually(t *testing.T, what string, holds func() bool) {
 	}
 }
 
-func entry(revision int64, lines ...string) ledger.Entry {
-	u := ledger.Unit{}
-	for _, line := range lines {
-		u.Lines = append(u.Lines, []byte(line))
-	}
+// entry returns an entry that adds users.
+func entry(revision int64, names ...string) ledger.Entry { return entryOf(revision, users(names...)) }
+
+func entryOf(revision int64, lines [][]byte) ledger.Entry {
+	u := ledger.Unit{Lines: lines}
 	return ledger.Entry{Place: ledger.Place{Revision: revision, ID: fmt.Sprint(revision)}, Units: []ledger.Unit{u}}
 }
 
 // of returns a batch of one call.
 func of(kind api.Kind, line string) api.Batch {
-	call := &api.Call{Kind: kind, Line: []byte(line)}
+	call := callOf([]byte(line))
+	call.Kind = kind
 	if kind == api.Local {
 		call.Kind = api.Question
 	}

@@ -16,7 +16,7 @@ import (
 // maxReadyAge is how old the state of a ready node may be.
 const maxReadyAge = 3 * time.Second
 
-// A status is the condition of a node. It is ready if its replay has answered what the log had a short time ago.
+// A status is the condition of a node. It is ready if it has done what the log had a short time ago.
 type status struct {
 	Ready    bool   `json:"ready"`
 	Why      string `json:"why,omitempty"`
@@ -43,6 +43,8 @@ func (n *Node) status() status {
 	case n.heard.Load() < 0:
 		stage, _ := n.stage.Load().(string)
 		s.Why = "starting: " + stage
+	case !n.state.IsKnown():
+		s.Why = "the office in this process has failed"
 	case age > maxReadyAge:
 		s.Why = fmt.Sprintf("the state may be %.1f s old", s.Age)
 	default:
@@ -61,7 +63,7 @@ func (n *Node) ServeHealth(w http.ResponseWriter, _ *http.Request) {
 	_ = json.NewEncoder(w).Encode(s)
 }
 
-// IsAlive reports whether the goroutine that feeds the replay goes on, before the context ends.
+// IsAlive reports whether the goroutine that does entries goes on, before the context ends.
 func (n *Node) IsAlive(ctx context.Context) bool {
 	if !n.isFed.Load() {
 		return true // It has not been started yet.

@@ -74,7 +74,7 @@ func TestOtherSettings(t *testing.T) {
 
 // A node refuses to serve while its settings differ, and says what to do.
 func TestRefusesWithOtherSettings(t *testing.T) {
-	n, log, _ := newNode(t)
+	n, log := newNode(t)
 	other := ledger.Settings{Every: 7, EveryBytes: 1 << 20}
 	log.state.Lives = []ledger.Life{{Name: "b", Settings: other}, {Name: "c", Settings: other}}
 	if err := n.trimLog(context.Background()); err != nil {
@@ -120,7 +120,7 @@ func TestOutvoted(t *testing.T) {
 
 // A node that was outvoted stays outvoted, whatever the others have later, until it has another folder.
 func TestStaysOutvoted(t *testing.T) {
-	n, log, _ := newNode(t)
+	n, log := newNode(t)
 	own := func(s office.Snapshot) {
 		t.Helper()
 		if err := os.WriteFile(n.store.Path(s), nil, 0o600); err != nil {
@@ -169,7 +169,7 @@ func TestStaysOutvoted(t *testing.T) {
 
 // A node isn't judged by one that is outvoted, also if the third one is behind, and the log isn't kept for it.
 func TestNotJudgedByOutvoted(t *testing.T) {
-	n, log, _ := newNode(t)
+	n, log := newNode(t)
 	if err := os.WriteFile(n.store.Path(at(9)), nil, 0o600); err != nil {
 		t.Fatal(err)
 	}

@@ -3,7 +3,9 @@ package node
 import (
 	"context"
 	"errors"
+	"fmt"
 	"os"
+	"path/filepath"
 	"time"
 
 	"rbac-node/internal/ledger"
@@ -17,37 +19,69 @@ const (
 	checkTimeout = 10 * time.Minute
 )
 
-// A copied office is to become a snapshot.
-type copied struct {
-	file     string
+// A frozen office is to become a snapshot. The lines make it.
+type frozen struct {
+	lines    []byte
 	snapshot office.Snapshot
 }
 
-// takeSnapshot copies the office between two runs of the replay. What takes long is done in the background. If an
-// earlier snapshot isn't finished yet, or the copy fails, there is none of this place.
-func (n *Node) takeSnapshot() error {
-	if len(n.copies) == cap(n.copies) {
+// takeSnapshot keeps what is in the office. What takes long is done in the background. If an earlier snapshot isn't finished yet, there
+// is none of this place.
+func (n *Node) takeSnapshot() {
+	if len(n.frozen) == cap(n.frozen) {
 		n.log.Warn("no snapshot: the last one is not finished yet", "revision", n.revision)
-		return nil
+		return
 	}
 	if why := n.recordWaits(); why != "" {
 		n.noteSnapshot(n.revision, errors.New(why)) // It would take up room that a start needs.
-		return nil
+		return
 	}
-	if err := n.replay.Close(); err != nil {
-		return err
+	one, err := n.freeze()
+	if err != nil {
+		n.noteSnapshot(n.revision, err)
+		return
 	}
-	file, failed := n.store.Begin(n.file())
-	if err := n.reopen(); err != nil {
-		return err
+	n.frozen <- one
+}
+
+// freeze returns what is in the office after the last entry that was done, with its digest.
+func (n *Node) freeze() (one frozen, err error) {
+	one.snapshot = office.Snapshot{Revision: n.revision, Count: n.count, Record: n.head(), Policy: n.state.Numbers().Policy}
+	if one.snapshot.Digest, err = n.state.Digest(); err != nil {
+		return one, err
 	}
-	if failed != nil {
-		n.noteSnapshot(n.revision, failed)
-		return nil
+	all, err := n.state.Freeze()
+	if err == nil {
+		one.lines = all.OfficeLines()
 	}
-	made := office.Snapshot{Revision: n.revision, Count: n.count, Record: n.head(), Policy: n.order.numbers.Policy}
-	n.copies <- copied{file, made}
-	return nil
+	return one, err
+}
+
+// leaveOffice leaves the office in a file when the node has ended in order: whoever goes back to one machine may use it.
+func (n *Node) leaveOffice() {
+	within, cancel := context.WithTimeout(context.Background(), checkTimeout)
+	defer cancel()
+	one, err := n.freeze()
+	if err == nil {
+		err = n.makeFile(func() error {
+			return office.Make(within, n.options.Program, n.file(), one.lines, n.options.HangTimeout)
+		})
+	}
+	if err != nil {
+		n.log.Error("the office is left in no file", "why", err)
+	}
+}
+
+// makeFile makes the file of the office in an empty folder.
+func (n *Node) makeFile(do func() error) error {
+	folder := filepath.Dir(n.file())
+	if err := os.RemoveAll(folder); err != nil {
+		return fmt.Errorf("old office: %w", err)
+	}
+	if err := os.MkdirAll(folder, 0o700); err != nil {
+		return fmt.Errorf("office: %w", err)
+	}
+	return do()
 }
 
 // noteSnapshot notes whether the snapshot of a place was made. Without it the node goes on, and takes one at the next place.
@@ -69,10 +103,13 @@ func (n *Node) maintain(ctx context.Context) error {
 		}
 		n.attempt(ctx, "the log is not trimmed", n.trimLog)
 		select {
-		case one := <-n.copies:
+		case one := <-n.frozen:
 			err := n.finish(ctx, one)
 			if ctx.Err() != nil {
 				return nil
+			}
+			if errors.Is(err, office.ErrOther) {
+				return fmt.Errorf("the office in this process at revision %d: %w", one.snapshot.Revision, err)
 			}
 			n.noteSnapshot(one.snapshot.Revision, err)
 			n.isRegistered = n.isRegistered && err != nil
@@ -94,17 +131,17 @@ func (n *Node) attempt(ctx context.Context, otherwise string, do func(context.Co
 	return err == nil
 }
 
-// finish makes a copy of the office a snapshot.
-func (n *Node) finish(ctx context.Context, one copied) error {
+// finish makes what was in the office a snapshot, by the program. If its file has other rows, or it refuses a line, the office in this
+// process isn't one.
+func (n *Node) finish(ctx context.Context, one frozen) error {
 	within, cancel := context.WithTimeout(ctx, checkTimeout)
 	defer cancel()
 	if n.options.Record != nil && one.snapshot.Record != "" {
 		if err := n.options.Record.Keep(within, one.snapshot.Record); err != nil {
-			_ = os.Remove(one.file)
 			return err
 		}
 	}
-	s, err := n.store.Finish(within, one.file, one.snapshot)
+	s, err := n.store.Make(within, one.lines, one.snapshot, n.options.HangTimeout)
 	if err != nil {
 		return err
 	}

@@ -3,13 +3,13 @@ package node
 import (
 	"context"
 	"errors"
-	"os"
 	"path/filepath"
 	"strings"
 	"testing"
 
 	"rbac-node/internal/ledger"
 	"rbac-node/internal/office"
+	"rbac-node/internal/programtest"
 	"rbac-node/internal/recorded"
 )
 
@@ -34,33 +34,22 @@ func TestNeedless(t *testing.T) {
 	}
 }
 
-// officeOf makes a file where the office in use would be.
-func officeOf(t *testing.T, n *Node) {
-	if err := os.MkdirAll(filepath.Dir(n.file()), 0o700); err != nil {
-		t.Fatal(err)
-	}
-	if err := os.WriteFile(n.file(), []byte("rows"), 0o600); err != nil {
-		t.Fatal(err)
-	}
-}
-
 // All nodes take snapshots at the same places, by commands and by bytes, from whichever place they start.
 func TestPlaces(t *testing.T) {
-	line := strings.Repeat("x", 100)
+	line := []byte(strings.Repeat("x", 100))
 	var places []int64
 	for _, start := range []int64{0, 4, 10} { // Each of the last two is a place.
-		n, _, _ := newNode(t)
-		officeOf(t, n)
+		n, _ := newNode(t)
 		n.options.SnapshotCommands, n.options.SnapshotBytes = 10, 750
 		n.revision, n.count = start, 2*start
 		var found []int64
 		for revision := start + 1; revision <= 20; revision++ {
-			n.apply(entry(revision, line, line))
+			n.apply(entryOf(revision, [][]byte{line, line}))
 			if n.err != nil {
 				t.Fatal(n.err)
 			}
-			if len(n.copies) > 0 {
-				found = append(found, (<-n.copies).snapshot.Revision)
+			if len(n.frozen) > 0 {
+				found = append(found, (<-n.frozen).snapshot.Revision)
 			}
 		}
 		if places == nil {
@@ -80,77 +69,75 @@ func TestPlaces(t *testing.T) {
 	}
 }
 
-// While a snapshot is not finished none is made, and lines go to the replay that was started last.
+// While a snapshot is not finished none is made.
 func TestTakeSnapshot(t *testing.T) {
-	n, _, first := newNode(t)
-	officeOf(t, n)
+	n, _ := newNode(t)
 	n.options.SnapshotCommands = 2
 	n.apply(entry(1, "a", "b"))
-	second := n.replay.(*fakeReplay)
 	n.apply(entry(2, "c", "d"))
-	if len(first.sent()) != 2 || second == first || n.replay != second || len(second.sent()) != 2 {
-		t.Errorf("%v, then %v", first.sent(), second.sent())
+	one := <-n.frozen
+	if string(one.lines) != "{\"fn\":\"addUser\",\"user\":\"a\"}\n{\"fn\":\"addUser\",\"user\":\"b\"}\n" {
+		t.Errorf("the lines are %s", one.lines)
 	}
-	one := <-n.copies
-	if text, err := os.ReadFile(one.file); err != nil || string(text) != "rows" || one.snapshot.Revision != 1 || one.snapshot.Count != 2 {
-		t.Errorf("%+v has %s, %v", one.snapshot, text, err)
-	}
-}
-
-// If no replay can be started at a snapshot, the node ends with the reason.
-func TestTakeSnapshotWithoutReplay(t *testing.T) {
-	n, _, _ := newNode(t)
-	officeOf(t, n)
-	n.options.SnapshotCommands = 1
-	none := errors.New("too many open files")
-	n.open = func() (replay, error) { return nil, none }
-	n.tasks <- task{0, func() { n.apply(entry(1, "a")) }}
-	if err := n.feed(context.Background()); !errors.Is(err, none) {
-		t.Errorf("%v", err)
-	}
-	if err := n.replay.Close(); err != nil {
-		t.Errorf("the replay that has ended: %v", err)
+	if one.snapshot.Revision != 1 || one.snapshot.Count != 2 || n.err != nil || len(n.frozen) > 0 {
+		t.Errorf("%+v, %v", one.snapshot, n.err)
 	}
 }
 
-// A snapshot that fails ends no node: the office can't be copied, or what was copied can't be checked. The node says so until it has
-// one of a later place, and leaves nothing of what failed.
+// A snapshot that fails ends no node. The node says so until it has one of a later place, and leaves nothing of what failed.
 func TestFailedSnapshot(t *testing.T) {
-	n, log, _ := newNode(t)
+	n, log := newNode(t)
 	n.options.SnapshotCommands = 1
-	left := func() int {
-		t.Helper()
-		files, err := filepath.Glob(filepath.Join(office.FolderIn(n.options.Data), "*"))
-		if err != nil {
-			t.Fatal(err)
-		}
-		return len(files)
-	}
-	n.apply(entry(1, "a")) // There is no office to copy.
-	if n.err != nil || !n.isFailing.Load() || len(n.copies) > 0 {
-		t.Fatalf("%v", n.err)
-	}
-	officeOf(t, n)
-	n.isFailing.Store(false)
-	n.apply(entry(2, "b")) // There is no program to check the copy.
-	if n.err != nil || len(n.copies) != 1 {
+	n.apply(entry(1, "a")) // There is no program to make a file.
+	if n.err != nil || len(n.frozen) != 1 {
 		t.Fatalf("%v", n.err)
 	}
 	running(t, n.maintain)
 	eventually(t, "it has failed", n.isFailing.Load)
 	eventually(t, "it is registered", func() bool { return log.registrations() > 0 })
-	if left() > 0 {
-		t.Errorf("%d files are left", left())
-	}
-	if sent := n.replay.(*fakeReplay).sent(); len(sent) != 0 {
-		t.Errorf("sent was %v", sent)
+	if left, err := filepath.Glob(filepath.Join(office.FolderIn(n.options.Data), "*")); err != nil || len(left) > 0 {
+		t.Errorf("%v, %v is left", err, left)
 	}
 	n.isFailing.Store(false)
-	n.apply(entry(3, "c"))
-	if n.err != nil || n.applied.Load().revision != 3 {
+	n.apply(entry(2, "b"))
+	if n.err != nil || n.applied.Load().revision != 2 {
 		t.Errorf("it doesn't go on: %v", n.err)
 	}
 	eventually(t, "that of the next place is tried", n.isFailing.Load)
+}
+
+// A node whose office isn't what the program makes of its rows ends.
+func TestWrongOffice(t *testing.T) {
+	for name, spoil := range map[string]func(one *frozen){
+		"another digest":    func(one *frozen) { one.snapshot.Digest = strings.Repeat("0", 64) },
+		"a row of no user":  func(one *frozen) { one.lines = append(one.lines, `{"fn":"lockUserAccount","user":"x"}`...) },
+		"nothing is wrong ": nil,
+	} {
+		t.Run(name, func(t *testing.T) {
+			n, _ := newNode(t)
+			store, err := office.Open(t.TempDir(), programtest.Path(t))
+			if err != nil {
+				t.Fatal(err)
+			}
+			n.store, n.options.Program = store, programtest.Path(t)
+			n.apply(entry(1, "a"))
+			one, err := n.freeze()
+			if err != nil {
+				t.Fatal(err)
+			}
+			if spoil == nil {
+				if err := n.finish(context.Background(), one); err != nil {
+					t.Error(err)
+				}
+				return
+			}
+			spoil(&one)
+			n.frozen <- one
+			if err := n.maintain(context.Background()); !errors.Is(err, office.ErrOther) {
+				t.Errorf("%v", err)
+			}
+		})
+	}
 }
 
 // A record whose entries wait for room.
@@ -163,18 +150,17 @@ func (waitingRecord) Add(_ recorded.Command) {}
 
 // While entries of the record wait for room, no snapshot takes that up.
 func TestNoSnapshotWithoutRoom(t *testing.T) {
-	n, _, _ := newNode(t)
-	officeOf(t, n)
+	n, _ := newNode(t)
 	n.options.SnapshotCommands, n.options.Record = 1, waitingRecord{}
 	n.apply(entry(1, "a"))
-	if n.err != nil || !n.isFailing.Load() || len(n.copies) > 0 || n.status().Record == "" {
-		t.Errorf("%v, %d copies", n.err, len(n.copies))
+	if n.err != nil || !n.isFailing.Load() || len(n.frozen) > 0 || n.status().Record == "" {
+		t.Errorf("%v, %d offices", n.err, len(n.frozen))
 	}
 }
 
 // A full etcd refuses registrations: the node goes on, and registers as soon as it can.
 func TestKeepWithFullLog(t *testing.T) {
-	n, log, _ := newNode(t)
+	n, log := newNode(t)
 	log.setFull(true)
 	running(t, n.maintain)
 	eventually(t, "it is refused", func() bool { return log.refusals.Load() > 0 })

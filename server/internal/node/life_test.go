@@ -32,7 +32,7 @@ func entering(n *Node) chan error {
 
 // A start takes no part until most that run have its settings.
 func TestEnterWithOtherSettings(t *testing.T) {
-	n, log, _ := newNode(t)
+	n, log := newNode(t)
 	other := ledger.Settings{Every: 7}
 	log.state.Lives = []ledger.Life{{Name: "b", Settings: other}, {Name: "c", Settings: other}}
 	done := entering(n)
@@ -50,7 +50,7 @@ func TestEnterWithOtherSettings(t *testing.T) {
 
 // A start waits for the end of a node with its name, which may have ended a moment ago.
 func TestEnterWithTakenName(t *testing.T) {
-	n, log, _ := newNode(t)
+	n, log := newNode(t)
 	log.unnamed = ledger.ErrNameTaken
 	done := entering(n)
 	eventually(t, "it says why", func() bool { return strings.Contains(n.status().Why, "give each node another --name") })
@@ -68,7 +68,7 @@ func TestEnterWithTakenName(t *testing.T) {
 // A node whose name another one has got meanwhile ends. What etcd doesn't answer for a while ends none, and a full etcd keeps none from
 // starting.
 func TestLive(t *testing.T) {
-	n, log, _ := newNode(t)
+	n, log := newNode(t)
 	log.unnamed = ledger.ErrFull
 	if err := n.enter(context.Background()); err != nil {
 		t.Fatal(err)
@@ -88,8 +88,8 @@ func TestLive(t *testing.T) {
 
 // A folder keeps its identity, and each has another one.
 func TestIdentity(t *testing.T) {
-	n, log, _ := newNode(t)
-	other, _, _ := newNode(t)
+	n, log := newNode(t)
+	other, _ := newNode(t)
 	again, err := New(n.options, log, logs.New(io.Discard), prometheus.NewRegistry())
 	if err != nil {
 		t.Fatal(err)

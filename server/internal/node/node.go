@@ -1,12 +1,10 @@
 // Package node keeps one copy of an office that follows the log, and answers from it.
 //
-// One goroutine feeds the replay: the commands of the log in their order, and questions between them. So the state in
-// which a question is answered is that after the entries fed before it, and an answer is always the one that the
-// program returns.
+// One goroutine does the entries of the log in their order, by librbac in this process. Whoever asks a question looks at the office
+// between two entries. The log is the truth, and etcd keeps it: a node that ends makes its office of a snapshot and of the log.
 package node
 
 import (
-	"bytes"
 	"context"
 	"fmt"
 	"net/http"
@@ -20,7 +18,6 @@ import (
 
 	"rbac-node/internal/api"
 	"rbac-node/internal/boottime"
-	"rbac-node/internal/faults"
 	"rbac-node/internal/ledger"
 	"rbac-node/internal/logs"
 	"rbac-node/internal/office"
@@ -52,19 +49,12 @@ type Log interface {
 	UseLeader(ctx context.Context)
 }
 
-// A replay answers lines in their order.
-type replay interface {
-	Send(line []byte, answered func(answer []byte))
-	Flush()
-	Ended() <-chan struct{}
-	Close() error
-}
-
 // Options are what the command line sets for a node.
 type Options struct {
 	// Name is the name of this node, which no other has. Peer is the URL at which other nodes fetch its snapshots.
 	Name, Peer string
-	// Data is the folder of the snapshots, and Scratch that of the office in use.
+	// Data is the folder of the snapshots, and Scratch that of the office in a file, which is there while a node starts and once it has
+	// ended.
 	Data, Scratch string
 	// Program is the path of the proved program.
 	Program string
@@ -73,11 +63,8 @@ type Options struct {
 	SnapshotCommands, SnapshotBytes int64
 	// AnswerTimeout is how long a request waits for its answer.
 	AnswerTimeout time.Duration
-	// HangTimeout is how long a replay may leave lines without an answer before it is killed.
+	// HangTimeout is how long the program may answer nothing while it makes a file.
 	HangTimeout time.Duration
-	// Reads is after how many reads of its input a replay is started anew at a quiet moment. It ends by itself after
-	// 1,000,000,000 reads.
-	Reads int64
 	// Fetch is the client with which snapshots of other nodes are fetched.
 	Fetch *http.Client
 	// IsOpen says that everybody who can connect may do everything.
@@ -88,7 +75,7 @@ type Options struct {
 	Record recorded.Follower
 }
 
-// File returns the path of the office in use.
+// File returns the path of the office in a file.
 func (o *Options) File() string { return filepath.Join(o.Scratch, "office", "office") }
 
 // A Node is one copy of the office.
@@ -98,42 +85,34 @@ type Node struct {
 	shared  Log
 	log     *logs.Logger
 	start   time.Time
-	// open starts a replay of the office in use.
-	open func() (replay, error)
 	// asked has the requests that wait to be sent, by their kinds.
 	asked map[api.Kind]chan *request
-	// copies has the copies of the office that are to become snapshots.
-	copies chan copied
+	// frozen has the offices that are to become snapshots.
+	frozen chan frozen
 	// pending has the batches of this node that may come from the log, by their names.
 	pending sync.Map
-	// progress is that of the replay, order what its answers say, and state the office in this process, which follows them. unlike has why
-	// that isn't the one of the file.
-	progress progress
-	order    order
-	state    *state.State
-	unlike   chan error
+	// state is the office, and first the number before that of the first command of the log.
+	state *state.State
+	first int64
 
-	// tasks has what the goroutine that feeds the replay has to do. The other fields belong to that goroutine: held has
-	// the tasks that wait until entries are fed. revision and count are those of what was fed, bytes counts since the
-	// last place of a snapshot, reads are the most times that the replay can have read its input, and err is the reason
-	// why the goroutine has to end.
+	// tasks has what the goroutine that does entries has to do. The other fields belong to that goroutine: held has the tasks that wait
+	// until entries are done. revision and count are those of what was done, bytes counts since the last place of a snapshot, and err
+	// is the reason why the goroutine has to end.
 	tasks           chan task
-	replay          replay
 	held            []task
 	revision, count int64
-	bytes, reads    int64
+	bytes           int64
 	err             error
-	// isRecorded says that the log has had an entry, and resumed is the revision of the snapshot of the start.
+	// isRecorded says that the log has had an entry.
 	isRecorded bool
-	resumed    int64
 
 	// isFed is set when that goroutine runs.
 	isFed atomic.Bool
-	// applied is the place of the log up to which all entries have their answers.
+	// applied is the place of the log up to which all entries are done.
 	applied atomic.Pointer[place]
-	// done is the place of the last entry that was fed, or of the snapshot of the start.
+	// done is the place of the last entry that was done, or of the snapshot of the start.
 	done atomic.Pointer[ledger.Place]
-	// heard is the moment when the newest read of the log began whose entries all have their answers. Before the first one it is that of
+	// heard is the moment when the newest read of the log began whose entries are all done. Before the first one it is that of
 	// the start, below zero.
 	heard atomic.Int64
 	// snapshot is the revision of the newest snapshot, seen that of the newest entry that is known, and rank how many nodes come before
@@ -152,7 +131,7 @@ type Node struct {
 	differs atomic.Value
 }
 
-// A task is done by the goroutine that feeds the replay, once all entries up to the revision after are fed.
+// A task is done by the goroutine that does entries, once all of them up to the revision after are done.
 type task struct {
 	after int64
 	do    func()
@@ -169,14 +148,12 @@ func New(options Options, shared Log, log *logs.Logger, registry prometheus.Regi
 	}
 	n := &Node{
 		options: options, store: store, shared: shared, log: log, start: time.Now(),
-		copies: make(chan copied, 1), unlike: make(chan error, 1), tasks: make(chan task, maxBatchLines),
+		frozen: make(chan frozen, 1), tasks: make(chan task, maxBatchLines),
 		asked: map[api.Kind]chan *request{
 			api.Command:  make(chan *request, maxBatchLines),
 			api.Question: make(chan *request, maxBatchLines),
-			api.Local:    make(chan *request, maxBatchLines),
 		},
 	}
-	n.open = func() (replay, error) { return office.Start(options.Program, n.file(), options.HangTimeout) }
 	n.state = state.New(state.Numbers{})
 	n.heard.Store(-int64(boottime.Now()))
 	n.applied.Store(&place{})
@@ -219,11 +196,9 @@ func (n *Node) work(life context.Context) error {
 		group.Go(func() error { return part(ctx) })
 	}
 	err := group.Wait()
-	closed := n.replay.Close()
-	if failed := n.closeRecord(); closed == nil {
-		closed = failed
-	}
+	closed := n.closeRecord()
 	if life.Err() != nil {
+		n.leaveOffice()
 		return closed
 	}
 	return err
@@ -236,7 +211,7 @@ func (n *Node) readLog(ctx context.Context) error {
 	})
 }
 
-// submit makes the goroutine that feeds the replay do a task, unless the context ends before it can begin.
+// submit makes the goroutine that does entries do a task, unless the context ends before it can begin.
 func (n *Node) submit(ctx context.Context, one task) error {
 	select {
 	case n.tasks <- one:
@@ -246,82 +221,23 @@ func (n *Node) submit(ctx context.Context, one task) error {
 	}
 }
 
-// feed passes all work to the replay until the context or the replay ends.
+// feed does what comes until the context ends or something fails.
 func (n *Node) feed(ctx context.Context) error {
 	n.isFed.Store(true)
-	for {
+	for n.err == nil {
 		select {
 		case one := <-n.tasks:
 			n.perform(one)
-		case r := <-n.asked[api.Local]:
-			n.sendQuestions(r)
-		case <-n.replay.Ended():
-			// Nobody knows which of the lines were done.
-			if faults.Has(faults.OutlivesReplay) {
-				if n.replay, n.err = n.open(); n.err == nil {
-					continue
-				}
-			}
-			if err := n.replay.Close(); err != nil {
-				return err
-			}
-			return errReplayEnded
-		case err := <-n.unlike:
-			return err
 		case <-n.recordFailed():
 			return n.options.Record.Failure()
 		case <-ctx.Done():
 			return nil
 		}
-		if n.err != nil {
-			return n.err
-		}
-		isQuiet := len(n.tasks)+len(n.asked[api.Local]) == 0
-		if isQuiet {
-			n.replay.Flush()
-		}
-		if n.reads >= n.options.Reads && (isQuiet || n.reads >= n.options.Reads+n.options.Reads/10) {
-			if err := n.renew(); err != nil {
-				return err
-			}
-		}
 	}
+	return n.err
 }
 
-// send passes a line to the replay.
-func (n *Node) send(line []byte, answered func(answer []byte)) {
-	if faults.Has(faults.LeavesOut) && n.options.Name == "n2" && bytes.Contains(line, []byte(`"user":"lost`)) {
-		line = []byte(api.Placeholder)
-	}
-	n.reads += office.ReadsOf(line)
-	n.progress.send()
-	n.replay.Send(line, func(text []byte) {
-		answered(text)
-		n.progress.answer()
-	})
-}
-
-// renew starts another replay when the one there is has answered everything.
-func (n *Node) renew() error {
-	n.log.Info("starting the replay anew", "reads", n.reads)
-	if err := n.replay.Close(); err != nil {
-		return err
-	}
-	return n.reopen()
-}
-
-// reopen starts a replay of the office in use, which no other one has open. One that has ended stays in place if that
-// fails.
-func (n *Node) reopen() error {
-	started, err := n.open()
-	if err != nil {
-		return err
-	}
-	n.replay, n.reads = started, 0
-	return nil
-}
-
-// perform does a task, or holds it until the entries before it are fed.
+// perform does a task, or holds it until the entries before it are done.
 func (n *Node) perform(one task) {
 	if one.after > n.revision {
 		n.held = append(n.held, one)
@@ -330,32 +246,7 @@ func (n *Node) perform(one task) {
 	one.do()
 }
 
-// sendQuestions sends questions to the replay. The age of an answer counts until the client gets it, however long the replay
-// takes.
-func (n *Node) sendQuestions(questions ...*request) {
-	revision := n.revision
-	for _, q := range questions {
-		if !q.isWaiting() {
-			continue
-		}
-		q, texts := q, make([][]byte, len(q.batch.Calls))
-		newest, posed := n.newest(), boottime.Now()
-		for i, call := range q.batch.Calls {
-			i := i
-			n.ask(call, func(text []byte) {
-				if texts[i] = text; i == len(texts)-1 {
-					at := api.Point{Revision: revision, Newest: n.newest(), Policy: n.order.numbers.Policy}
-					if faults.Has(faults.TakesAnswersForNew) {
-						at.Newest = newest + boottime.Now() - posed
-					}
-					q.reply <- replyOf(texts, at)
-				}
-			})
-		}
-	}
-}
-
-// newest returns the last moment at which the state after the last answer is known to have been the newest one.
+// newest returns the last moment at which the state is known to have been the newest one.
 func (n *Node) newest() boottime.Moment {
 	heard := n.heard.Load()
 	if heard < 0 {
@@ -364,5 +255,5 @@ func (n *Node) newest() boottime.Moment {
 	return boottime.Moment(heard)
 }
 
-// file is the office in use.
+// file is the office in a file.
 func (n *Node) file() string { return n.options.File() }

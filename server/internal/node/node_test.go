@@ -6,57 +6,76 @@ import (
 	"fmt"
 	"io"
 	"strings"
-	"sync"
 	"testing"
 	"time"
 
 	"github.com/prometheus/client_golang/prometheus"
 
 	"rbac-node/internal/api"
+	"rbac-node/internal/boottime"
 	"rbac-node/internal/ledger"
 	"rbac-node/internal/logs"
 	"rbac-node/internal/office"
 )
 
-// The age of an answer counts from the newest state that it may be of to the answer, however long the replay takes.
+// The age of an answer counts from the newest state that it may be of.
 func TestAgeOfAnswers(t *testing.T) {
-	const pause = 300 * time.Millisecond
-	for _, kind := range []api.Kind{api.Local, api.Question} {
-		t.Run(string(kind), func(t *testing.T) {
-			n, _, first := newNode(t)
-			running(t, n.feed, n.confirm)
-			eventually(t, "it is ready", func() bool { return n.status().Ready })
-			first.pause(true)
-			time.AfterFunc(pause, func() { first.pause(false) })
-			answer, err := n.Do(context.Background(), of(kind, "q"))
-			if err != nil {
-				t.Fatal(err)
-			}
-			if sent := first.sentAt("q"); sent == 0 || answer.Newest > sent {
-				t.Errorf("an answer of a state of %v after the question", time.Duration(answer.Newest-sent))
-			}
-		})
+	n, log := newNode(t)
+	running(t, n.feed, n.confirm)
+	eventually(t, "it is ready", func() bool { return n.status().Ready })
+	change(log, func() { log.lost = errFull })
+	time.Sleep(2 * readInterval)
+	before := boottime.Now()
+	time.Sleep(100 * time.Millisecond)
+	answer, err := n.Do(context.Background(), of(api.Local, question))
+	if err != nil || answer.Newest == 0 || answer.Newest > before {
+		t.Errorf("%v, an answer of a state of %v after it was heard of", err, time.Duration(answer.Newest-before))
 	}
 }
 
-// A node whose replay answers nothing is not ready, and says how old its state is.
-func TestHealthOfHungReplay(t *testing.T) {
-	n, _, first := newNode(t)
-	running(t, n.feed, n.confirm, n.confirm)
-	eventually(t, "it is ready", func() bool { return n.status().Ready })
-	first.pause(true)
-	n.tasks <- task{0, func() { n.apply(entry(1, "a", "b")) }}
-	eventually(t, "the lines are sent", func() bool { return strings.Contains(strings.Join(first.sent(), " "), "a b") })
-	if s := n.status(); s.Revision != 0 || s.Count != 0 {
-		t.Errorf("it says that it has applied %d commands", s.Count)
+// A question waits until all is done that the log has when it comes.
+func TestQuestionWaits(t *testing.T) {
+	n, log := newNode(t)
+	running(t, n.feed, n.confirm)
+	change(log, func() { log.revision = 1 })
+	answers := make(chan api.Answers)
+	go func() {
+		answer, err := n.Do(context.Background(), of(api.Question, `{"fn":"assignedRoles","user":"a"}`))
+		if err != nil {
+			t.Error(err)
+		}
+		answers <- answer
+	}()
+	select {
+	case answer := <-answers:
+		t.Fatalf("it was answered: %s", answer.Texts)
+	case <-time.After(100 * time.Millisecond):
 	}
-	eventually(t, "it is not ready", func() bool { s := n.status(); return !s.Ready && s.Age > maxReadyAge.Seconds() })
-	first.pause(false)
-	eventually(t, "it is ready again", func() bool { s := n.status(); return s.Ready && s.Revision == 1 && s.Count == 2 })
+	n.tasks <- task{0, func() { n.apply(entry(1, "a")) }}
+	if answer := <-answers; len(answer.Texts) != 1 || string(answer.Texts[0]) != `{"ok":true,"value":[]}` || answer.Revision != 1 {
+		t.Errorf("%s at %+v", answer.Texts, answer.Point)
+	}
+}
+
+// A node whose office has failed answers nothing, says so, and ends with the next entry.
+func TestFailedOffice(t *testing.T) {
+	n, _ := newNode(t)
+	n.hear(boottime.Now())
+	n.state.Forget()
+	if s := n.status(); s.Ready || !strings.Contains(s.Why, "has failed") {
+		t.Errorf("%+v", s)
+	}
+	if _, err := n.Do(context.Background(), of(api.Local, question)); !errors.Is(err, api.Unavailable) {
+		t.Errorf("a question: %v", err)
+	}
+	n.tasks <- task{0, func() { n.apply(entry(1, "a")) }}
+	if err := n.feed(context.Background()); err == nil || n.applied.Load().revision != 0 {
+		t.Errorf("it goes on: %v", err)
+	}
 }
 
 func TestIsAlive(t *testing.T) {
-	n, _, _ := newNode(t)
+	n, _ := newNode(t)
 	if !n.IsAlive(context.Background()) {
 		t.Error("a node that recovers is not alive")
 	}
@@ -75,27 +94,18 @@ func TestIsAlive(t *testing.T) {
 	close(stuck)
 }
 
-func TestFeedEndsWithReplay(t *testing.T) {
-	n, _, first := newNode(t)
-	_ = first.Close()
-	if err := n.feed(context.Background()); err == nil {
-		t.Error("it has ended without a reason")
-	}
-}
-
-// An entry is applied once, and what waits for it comes after it, in the order of the log.
+// An entry is done once, and what waits for it comes after it, in the order of the log.
 func TestApply(t *testing.T) {
-	n, _, first := newNode(t)
-	n.perform(task{2, func() { n.sendQuestions(newRequest(nil, of(api.Question, "q2"))) }})
+	n, _ := newNode(t)
+	asked := ""
+	n.perform(task{2, func() { asked = usersOf(t, n) }})
 	n.perform(task{1, func() { n.apply(entry(2, "c")) }})
-	n.perform(task{0, func() { n.apply(entry(1, "a", "", strings.Repeat("x", office.MaxLineBytes+1), "b")) }})
-	n.perform(task{0, func() { n.apply(entry(1, "a")) }})
-	n.perform(task{0, func() { n.apply(entry(2, "c")) }})
-	over, cancel := context.WithCancel(context.Background())
-	cancel()
-	n.sendQuestions(newRequest(over.Done(), of(api.Question, "nobody waits")))
-	if sent := strings.Join(first.sent(), " "); sent != "a b c q2" || len(n.held) > 0 {
-		t.Errorf("sent was %s, and %d wait", sent, len(n.held))
+	lines := append(users("a"), nil, []byte(strings.Repeat("x", office.MaxLineBytes+1)))
+	n.perform(task{0, func() { n.apply(entryOf(1, append(lines, users("b")...))) }})
+	n.perform(task{0, func() { n.apply(entry(1, "d")) }})
+	n.perform(task{0, func() { n.apply(entry(2, "d")) }})
+	if asked != "a b c" || usersOf(t, n) != asked || len(n.held) > 0 || n.err != nil {
+		t.Errorf("the users were %s, then %s, and %d wait: %v", asked, usersOf(t, n), len(n.held), n.err)
 	}
 	if at := n.applied.Load(); at.revision != 2 || at.count != 5 {
 		t.Errorf("applied is %+v", at)
@@ -104,7 +114,7 @@ func TestApply(t *testing.T) {
 
 // A node ends when the log no longer has what it has done, whoever asks.
 func TestLogWentBack(t *testing.T) {
-	n, log, _ := newNode(t)
+	n, log := newNode(t)
 	running(t, n.feed)
 	done := entry(7, "a")
 	n.tasks <- task{0, func() { n.apply(done) }}
@@ -120,11 +130,11 @@ func TestLogWentBack(t *testing.T) {
 
 // Each command gets the answer of its own line, and its place.
 func TestCommands(t *testing.T) {
-	n, log, _ := newNode(t)
+	n, log := newNode(t)
 	running(t, n.feed, n.appendCommands)
 	for i := 1; i <= 3; i++ {
-		answer, err := n.Do(context.Background(), of(api.Command, "c"))
-		if err != nil || answer.Revision != int64(i) || answer.Place != 0 {
+		answer, err := n.Do(context.Background(), of(api.Command, fmt.Sprintf(`{"fn":"addUser","user":"u%d"}`, i)))
+		if err != nil || string(answer.Texts[0]) != `{"ok":true}` || answer.Revision != int64(i) || answer.Place != 0 {
 			t.Fatalf("%+v, %v", answer, err)
 		}
 	}
@@ -141,13 +151,13 @@ func TestCommands(t *testing.T) {
 
 // A node that differs refuses everything, and one that hasn't heard of the log yet local questions.
 func TestAskRefuses(t *testing.T) {
-	n, _, _ := newNode(t)
-	if _, err := n.Do(context.Background(), of(api.Local, "q")); !errors.Is(err, api.Unavailable) {
+	n, _ := newNode(t)
+	if _, err := n.Do(context.Background(), of(api.Local, question)); !errors.Is(err, api.Unavailable) {
 		t.Errorf("%v", err)
 	}
 	n.differs.Store("at revision 9")
 	for _, kind := range []api.Kind{api.Command, api.Question, api.Local} {
-		if _, err := n.Do(context.Background(), of(kind, "q")); !errors.Is(err, api.Diverged) {
+		if _, err := n.Do(context.Background(), of(kind, question)); !errors.Is(err, api.Diverged) {
 			t.Errorf("%s: %v", kind, err)
 		}
 	}
@@ -155,51 +165,20 @@ func TestAskRefuses(t *testing.T) {
 
 // A node that turns out to differ while a request waits refuses it too, such as one that comes while the node recovers.
 func TestAskRefusesWhatWaited(t *testing.T) {
-	n, _, _ := newNode(t)
+	n, _ := newNode(t)
 	for _, kind := range []api.Kind{api.Command, api.Question} {
 		failed := make(chan error)
 		go func() {
-			_, err := n.Do(context.Background(), of(kind, "q"))
+			_, err := n.Do(context.Background(), of(kind, question))
 			failed <- err
 		}()
 		waiting := <-n.asked[kind]
 		n.differs.Store("at revision 9")
-		waiting.reply <- reply{answers: api.Answers{Texts: [][]byte{[]byte("wrong")}}}
+		waiting.reply <- reply{}
 		if err := <-failed; !errors.Is(err, api.Diverged) {
 			t.Errorf("%s: %v", kind, err)
 		}
 		n.differs.Store("")
-	}
-}
-
-// A replay is started anew before it has read as often as it may, whether requests come one by one or all at once.
-func TestRenewed(t *testing.T) {
-	const reads, room, questions = 1000, 300, 2000
-	for _, clients := range []int{1, 50} {
-		t.Run(fmt.Sprint(clients, " clients"), func(t *testing.T) {
-			n, _, first := newNode(t)
-			n.options.Reads, first.most = reads, reads+room
-			n.open = func() (replay, error) {
-				another := newFakeReplay()
-				another.most = reads + room
-				return another, nil
-			}
-			running(t, n.feed, n.confirm)
-			var group sync.WaitGroup
-			for client := 0; client < clients; client++ {
-				group.Add(1)
-				go func() {
-					defer group.Done()
-					for i := 0; i < questions/clients; i++ {
-						if _, err := n.Do(context.Background(), of(api.Question, "q")); err != nil {
-							t.Error(err)
-							return
-						}
-					}
-				}()
-			}
-			group.Wait()
-		})
 	}
 }
 

@@ -14,12 +14,14 @@ import (
 	"rbac-node/internal/state"
 )
 
-// refusing answers lines with "no" in them by a refusal.
-func refusing(line string) string {
-	if strings.Contains(line, "no") {
-		return `{"code":3,"error":"UserExists"}`
+// withOffice returns a node with an office in which a user "no" can't be added, and a user u may activate the role b.
+func withOffice(t *testing.T) *Node {
+	n, _ := newNode(t)
+	n.apply(entryOf(1, append(users("no", "u"), []byte(`{"fn":"addRole","role":"b"}`), []byte(`{"fn":"assignUser","user":"u","role":"b"}`))))
+	if n.revision, n.count = 0, 0; n.err != nil {
+		t.Fatal(n.err)
 	}
-	return `{"ok":true}`
+	return n
 }
 
 // users returns lines that add users.
@@ -46,7 +48,7 @@ func TestRules(t *testing.T) {
 		name  string
 		rule  *api.Rule
 		lines [][]byte
-		// done has the places of the lines that are sent.
+		// done has the places of the lines that are done.
 		done   []int
 		policy int64
 	}{
@@ -64,18 +66,19 @@ func TestRules(t *testing.T) {
 		{"what isn't", &api.Rule{IsOpening: true, Expected: `{"ok":false}`}, append(users("a"), opening("b")...), []int{0}, 1001},
 	} {
 		t.Run(test.name, func(t *testing.T) {
-			n, _, replay := newNode(t)
-			replay.says = refusing
+			n := withOffice(t)
 			n.begin(office.Snapshot{Policy: first}, first)
-			n.apply(ledger.Entry{Place: ledger.Place{Revision: 1, ID: "x"}, Units: []ledger.Unit{{Rule: test.rule, Lines: test.lines}}})
-			var wanted []string
-			for _, place := range test.done {
-				wanted = append(wanted, string(test.lines[place]))
+			var given reply
+			parts := n.partsOf(ledger.Entry{Units: []ledger.Unit{{Rule: test.rule, Lines: test.lines}}}, nil)
+			err := n.state.Change(1, first+int64(len(test.lines)), func(c state.Change) (err error) {
+				given, err = n.do(c, &parts[0], 0)
+				return err
+			})
+			if err != nil || len(given.answers.Texts) != len(test.done) || (given.err != nil) != (test.done == nil) {
+				t.Errorf("%v, %v, the answers are %s", err, given.err, given.answers.Texts)
 			}
-			if sent := replay.sent(); len(sent)+len(wanted) > 0 && !reflect.DeepEqual(sent, wanted) {
-				t.Errorf("sent was %s", sent)
-			}
-			if given := n.order.numbers; given != (state.Numbers{All: first + int64(len(test.lines)), Policy: test.policy}) {
+			wanted := state.Numbers{All: first + int64(len(test.lines)), Policy: test.policy, Revision: 1}
+			if given := n.state.Numbers(); given != wanted {
 				t.Errorf("%+v", given)
 			}
 		})
@@ -93,18 +96,17 @@ func TestSameNumbers(t *testing.T) {
 		entries = append(entries, ledger.Entry{Place: ledger.Place{Revision: int64(i), ID: name}, Units: []ledger.Unit{{Lines: users(name)}}})
 	}
 	numbers := func(s office.Snapshot) (after []state.Numbers) {
-		n, _, replay := newNode(t)
-		replay.says = refusing
+		n := withOffice(t)
 		n.begin(s, 1000)
 		n.revision, n.count = s.Revision, s.Count
 		for _, entry := range entries {
 			if n.apply(entry); entry.Revision > 4 {
-				after = append(after, n.order.numbers)
+				after = append(after, n.state.Numbers())
 			}
 		}
 		return after
 	}
-	wanted := []state.Numbers{{All: 1005, Policy: 1005}, {All: 1006, Policy: 1005}}
+	wanted := []state.Numbers{{All: 1005, Policy: 1005, Revision: 5}, {All: 1006, Policy: 1005, Revision: 6}}
 	for _, s := range []office.Snapshot{{}, {Revision: 2, Count: 2, Policy: 1001}, {Revision: 3, Count: 3, Policy: 1003}, {Revision: 4, Count: 4, Policy: 1003}} {
 		if given := numbers(s); !reflect.DeepEqual(given, wanted) {
 			t.Errorf("from %+v: %+v", s, given)
@@ -114,7 +116,7 @@ func TestSameNumbers(t *testing.T) {
 
 // A node refuses what the log has no room for.
 func TestRefusedBatches(t *testing.T) {
-	n, _, _ := newNode(t)
+	n, _ := newNode(t)
 	if _, err := n.Do(context.Background(), of(api.Command, strings.Repeat("c", maxUnitBytes+1))); err == nil || errors.Is(err, api.Unavailable) {
 		t.Errorf("a long batch: %v", err)
 	}

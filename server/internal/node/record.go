@@ -19,36 +19,30 @@ func (n *Node) beginRecord(entry ledger.Entry) error {
 	}
 	within, cancel := context.WithTimeout(context.Background(), checkTimeout)
 	defer cancel()
-	if n.revision == n.resumed {
-		return n.options.Record.Begin(within, entry.Units[0].At, true)
-	}
-	if err := n.replay.Close(); err != nil {
-		return err
-	}
-	if err := n.options.Record.Begin(within, entry.Units[0].At, false); err != nil {
-		return err
-	}
-	return n.reopen()
+	return n.options.Record.Begin(within, entry.Units[0].At)
 }
 
-// recording returns what records the answer to a command of the log, if there is a record and a function.
-func (n *Node) recording(unit ledger.Unit, call *api.Call) func(answer []byte) {
-	record := n.options.Record
-	if record == nil || !n.isRecorded || call.Function == "" {
-		return func([]byte) {}
+// room waits until the record has room for the commands of an entry.
+func (n *Node) room() {
+	if n.options.Record != nil {
+		n.options.Record.Room()
 	}
-	record.Room()
+}
+
+// record records a command of the log with its answer, if there is a record and a function.
+func (n *Node) record(unit ledger.Unit, call *api.Call, answer []byte) {
+	if n.options.Record == nil || call.Function == "" {
+		return
+	}
 	if faults.Has(faults.ForgetsCaller) && n.options.Name == "n1" && unit.Caller == "token:desk" {
 		unit.Caller = ""
 	}
-	return func(answer []byte) {
-		record.Add(recorded.Command{
-			Call: call, Caller: unit.Caller, At: unit.At, Reason: unit.Reason, Answer: answer, IsBounded: unit.Bounds,
-		})
-	}
+	n.options.Record.Add(recorded.Command{
+		Call: call, Caller: unit.Caller, At: unit.At, Reason: unit.Reason, Answer: answer, IsBounded: unit.Bounds,
+	})
 }
 
-// head returns the head of the record, when all that was sent has been answered.
+// head returns the head of the record after all that was done.
 func (n *Node) head() string {
 	if n.options.Record == nil && n.isRecorded {
 		return office.NoRecord
@@ -59,9 +53,9 @@ func (n *Node) head() string {
 	return n.options.Record.Added()
 }
 
-// resumeRecord goes on with the record after a snapshot, of which the office in use was made.
+// resumeRecord goes on with the record after a snapshot, of which the file was made.
 func (n *Node) resumeRecord(ctx context.Context, base office.Snapshot) error {
-	n.isRecorded, n.resumed = base.Record != "", base.Revision
+	n.isRecorded = base.Record != ""
 	if n.options.Record == nil {
 		return nil
 	}

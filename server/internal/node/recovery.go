@@ -14,15 +14,11 @@ import (
 	"rbac-node/internal/office"
 )
 
-// recoverOffice makes the office in use from the newest snapshot. It writes nothing to etcd, which may be full,
+// recoverOffice makes the office from the newest snapshot that is good. It writes nothing to etcd, which may be full,
 // but the number of the first command, if the log has none yet.
 func (n *Node) recoverOffice(ctx context.Context) error {
 	base, err := n.startSnapshot(ctx)
 	if err != nil {
-		return err
-	}
-	n.stage.Store(fmt.Sprintf("the office is made from the snapshot at revision %d", base.Revision))
-	if err := n.makeOffice(ctx, base); err != nil {
 		return err
 	}
 	if err := n.resumeRecord(ctx, base); err != nil {
@@ -39,8 +35,8 @@ func (n *Node) recoverOffice(ctx context.Context) error {
 	if err := n.state.Load(ctx, n.file()); err != nil {
 		return err
 	}
-	if err := n.reopen(); err != nil {
-		return err
+	if err := os.RemoveAll(filepath.Dir(n.file())); err != nil { // Soon it would be an old one.
+		return fmt.Errorf("office: %w", err)
 	}
 	n.revision, n.count = base.Revision, base.Count
 	n.applied.Store(&place{base.Revision, base.Count})
@@ -54,50 +50,57 @@ func (n *Node) recoverOffice(ctx context.Context) error {
 	return n.judgeNodes(state)
 }
 
-// makeOffice makes the office in use from a snapshot, or an empty one.
+// makeOffice makes the file of the office from a snapshot, or an empty one.
 func (n *Node) makeOffice(ctx context.Context, base office.Snapshot) error {
-	folder := filepath.Dir(n.file())
-	if err := os.RemoveAll(folder); err != nil {
-		return fmt.Errorf("old office: %w", err)
-	}
-	if err := os.MkdirAll(folder, 0o700); err != nil {
-		return fmt.Errorf("office: %w", err)
-	}
+	n.stage.Store(fmt.Sprintf("the office is made from the snapshot at revision %d", base.Revision))
 	within, cancel := context.WithTimeout(ctx, checkTimeout)
 	defer cancel()
-	if base.Digest == "" {
-		return office.Run(within, n.options.Program, "init", n.file())
-	}
-	return n.store.Restore(within, base, n.file())
+	return n.makeFile(func() error {
+		if base.Digest == "" {
+			return office.Run(within, n.options.Program, "init", n.file())
+		}
+		return n.store.Restore(within, base, n.file())
+	})
 }
 
-// startSnapshot returns the snapshot from which the log is to be followed. Without a digest it is the empty office at the
-// beginning.
-func (n *Node) startSnapshot(ctx context.Context) (newest office.Snapshot, err error) {
+// startSnapshot returns the snapshot from which the log is to be followed, of which it has made the file. Without a digest it is the
+// empty office at the beginning. A snapshot that is damaged is set aside.
+func (n *Node) startSnapshot(ctx context.Context) (base office.Snapshot, err error) {
 	state, err := n.shared.State(ctx)
 	if err != nil {
-		return newest, err
+		return base, err
 	}
 	found, err := n.store.List()
 	if err != nil {
-		return newest, err
+		return base, err
 	}
-	if len(found) > 0 {
-		newest = found[0]
+	if len(found) > 0 && found[0].Revision > state.Revision {
+		return base, fmt.Errorf("the snapshot is at revision %d and etcd only at %d: etcd was restored to an earlier time, "+
+			"so move the snapshots of all nodes that are newer away", found[0].Revision, state.Revision)
 	}
-	if newest.Revision > state.Revision {
-		return newest, fmt.Errorf("the snapshot is at revision %d and etcd only at %d: etcd was restored to an earlier time, "+
-			"so move the snapshots of all nodes that are newer away", newest.Revision, state.Revision)
+	for _, base = range append(found, office.Snapshot{}) {
+		switch {
+		case base.Record == office.NoRecord && n.options.Record != nil:
+			n.log.Info("this node was without a record, which it can't go on with")
+		case base.Revision < state.Floor:
+			n.log.Info("the log no longer has what this node lacks", "floor", state.Floor)
+		default:
+			err := n.makeOffice(ctx, base)
+			if !errors.Is(err, office.ErrOther) {
+				return base, err
+			}
+			n.log.Error("a snapshot is damaged, and isn't used", "why", err)
+			if err := n.store.SetAside(base); err != nil {
+				return base, err
+			}
+			continue
+		}
+		break
 	}
-	switch {
-	case newest.Record == office.NoRecord && n.options.Record != nil:
-		n.log.Info("this node was without a record, which it can't go on with")
-	case newest.Revision >= state.Floor:
-		return newest, nil
-	default:
-		n.log.Info("the log no longer has what this node lacks", "floor", state.Floor)
+	if base, err = n.fetch(ctx); err != nil {
+		return base, err
 	}
-	return n.fetch(ctx)
+	return base, n.makeOffice(ctx, base)
 }
 
 // fetch returns a snapshot that it has fetched from another node. It asks all nodes until one has a snapshot that will

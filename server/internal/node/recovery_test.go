@@ -2,7 +2,9 @@ package node
 
 import (
 	"context"
+	"errors"
 	"fmt"
+	"os"
 	"testing"
 	"time"
 
@@ -13,7 +15,7 @@ import (
 
 // A node starts without writing anything to etcd.
 func TestResumeWithFullLog(t *testing.T) {
-	n, log, _ := newNode(t)
+	n, log := newNode(t)
 	log.setFull(true)
 	n.options.Program = programtest.Path(t)
 	within, cancel := context.WithTimeout(context.Background(), 20*time.Second)
@@ -23,6 +25,58 @@ func TestResumeWithFullLog(t *testing.T) {
 	}
 	if log.registrations() > 0 {
 		t.Error("it was registered")
+	}
+}
+
+// A node starts from the newest snapshot that is good. It sets those aside that are not, and leaves no file of the office.
+func TestDamagedSnapshot(t *testing.T) {
+	for _, damaged := range []int{0, 1, 2} {
+		t.Run(fmt.Sprint(damaged), func(t *testing.T) {
+			n, log := newNode(t)
+			store, err := office.Open(n.options.Data, programtest.Path(t))
+			if err != nil {
+				t.Fatal(err)
+			}
+			n.store, n.options.Program, log.state.Revision = store, programtest.Path(t), 9
+			for i, name := range []string{"a", "b"} {
+				n.apply(entry(int64(i+1), name))
+				one, err := n.freeze()
+				if err == nil {
+					err = n.finish(context.Background(), one)
+				}
+				if err != nil {
+					t.Fatal(err)
+				}
+			}
+			found, err := store.List()
+			if err != nil || len(found) != 2 {
+				t.Fatalf("%v, %v", found, err)
+			}
+			for i, text := range []string{"no office", ""} {
+				if i < damaged {
+					if err := os.WriteFile(store.Path(found[i]), []byte(text), 0o600); err != nil {
+						t.Fatal(err)
+					}
+				}
+			}
+			if err := n.recoverOffice(context.Background()); err != nil {
+				t.Fatal(err)
+			}
+			wanted := []string{"a b", "a", ""}[damaged]
+			if given := usersOf(t, n); given != wanted || n.revision != int64(2-damaged) {
+				t.Errorf("the users are %q at %d", given, n.revision)
+			}
+			if left, err := store.List(); err != nil || len(left) != 2-damaged {
+				t.Errorf("%v, %v", left, err)
+			}
+			if _, err := os.Stat(n.file()); !errors.Is(err, os.ErrNotExist) {
+				t.Errorf("the file of the office: %v", err)
+			}
+			n.leaveOffice()
+			if err := office.Run(context.Background(), n.options.Program, "check", n.file()); err != nil {
+				t.Error(err)
+			}
+		})
 	}
 }
 
@@ -55,7 +109,7 @@ func TestAccept(t *testing.T) {
 		{"the log begins later", 10, members(member("b", at(9))), at(9), false},
 	} {
 		t.Run(one.name, func(t *testing.T) {
-			n, log, _ := newNode(t)
+			n, log := newNode(t)
 			log.state = ledger.State{Floor: one.floor, Members: one.members}
 			if err := n.accept(context.Background(), "b", one.offered); (err == nil) != one.accepts {
 				t.Errorf("%v", err)
@@ -66,7 +120,7 @@ func TestAccept(t *testing.T) {
 
 // Other nodes are asked for their newest snapshots, and then for earlier ones after which the log continues.
 func TestOffers(t *testing.T) {
-	n, _, _ := newNode(t)
+	n, _ := newNode(t)
 	state := ledger.State{Floor: 5, Members: members(member("a", at(9)), member("b", at(9), at(7), at(3)), member("c", at(8), at(5)), member("d"))}
 	said := ""
 	for _, one := range n.offers(state) {

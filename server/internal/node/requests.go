@@ -46,20 +46,10 @@ func newRequest(over <-chan struct{}, b api.Batch) *request {
 	return r
 }
 
-// A reply has the answers to a request, or why there are none.
+// A reply has the answers to a request for commands, or why there are none. That to a question says that it can be answered.
 type reply struct {
 	answers api.Answers
 	err     error
-}
-
-// replyOf returns a reply with some answers, unless one of them is missing.
-func replyOf(texts [][]byte, at api.Point) reply {
-	for _, text := range texts {
-		if text == nil {
-			return reply{err: api.Unavailable}
-		}
-	}
-	return reply{answers: api.Answers{Texts: texts, Point: at}}
 }
 
 // isWaiting reports whether somebody waits for the answer.
@@ -72,40 +62,55 @@ func (r *request) isWaiting() bool {
 	}
 }
 
-// Do does a batch. The answers to commands are those of this node's replay at their place in the log.
+// Do does a batch. The answers to commands are those at their place in the log.
 func (n *Node) Do(ctx context.Context, b api.Batch) (api.Answers, error) {
-	switch {
-	case n.differs.Load() != "":
+	within, cancel := context.WithTimeout(ctx, n.options.AnswerTimeout)
+	defer cancel()
+	if b.Kind == api.Command {
+		return n.command(within, b)
+	}
+	newest, err := n.await(within, b.Kind)
+	if err != nil {
+		return api.Answers{}, err
+	}
+	texts, at, err := n.state.Ask(b.Calls...)
+	if faults.Has(faults.TakesAnswersForNew) {
+		newest = boottime.Now()
+	}
+	return api.Answers{Texts: texts, Point: api.Point{Revision: at.Revision, Newest: newest, Policy: at.Policy}}, err
+}
+
+// command does a batch with commands.
+func (n *Node) command(ctx context.Context, b api.Batch) (api.Answers, error) {
+	if n.differs.Load() != "" {
 		return api.Answers{}, api.Diverged
-	case b.Kind == api.Local && n.heard.Load() < 0:
-		return api.Answers{}, api.Unavailable
 	}
 	if err := n.admit(b); err != nil {
 		return api.Answers{}, err
 	}
-	if faults.Has(faults.AnswersByItself) && b.Kind == api.Question {
-		b.Kind = api.Local
-	}
-	if faults.Has(faults.JudgesBeforeLog) && b.Kind == api.Command && b.Rule.Policy > 0 {
+	if faults.Has(faults.JudgesBeforeLog) && b.Rule.Policy > 0 {
 		if b.Rule.Policy != n.state.Numbers().Policy {
 			return api.Answers{}, api.Outdated
 		}
 		b.Rule.Policy = 0
 	}
 	n.state.Touch(b.Calls)
-	within, cancel := context.WithTimeout(ctx, n.options.AnswerTimeout)
-	defer cancel()
-	r := newRequest(within.Done(), b)
+	r := newRequest(ctx.Done(), b)
 	if r.size > maxUnitBytes {
 		return api.Answers{}, api.BadRequest(http.StatusRequestEntityTooLarge)
 	}
-	if faults.Has(faults.AnswersBeforeLog) && b.Kind == api.Command {
-		r.over = ctx.Done()
+	if faults.Has(faults.AnswersBeforeLog) {
+		r.over = nil
 		return n.guess(r), nil
 	}
+	return n.wait(ctx, r)
+}
+
+// wait passes a request on, and returns the reply to it.
+func (n *Node) wait(ctx context.Context, r *request) (api.Answers, error) {
 	select {
-	case n.asked[b.Kind] <- r:
-	case <-within.Done():
+	case n.asked[r.batch.Kind] <- r:
+	case <-ctx.Done():
 		return api.Answers{}, api.Unavailable
 	}
 	select {
@@ -115,7 +120,7 @@ func (n *Node) Do(ctx context.Context, b api.Batch) (api.Answers, error) {
 			return api.Answers{}, api.Diverged
 		}
 		return found.answers, found.err
-	case <-within.Done():
+	case <-ctx.Done():
 		return api.Answers{}, api.Unavailable
 	}
 }
@@ -130,10 +135,28 @@ func (n *Node) guess(r *request) api.Answers {
 	return api.Answers{Texts: texts, Point: api.Point{Revision: n.applied.Load().revision + 1}}
 }
 
+// await returns when the state has all that questions of a kind have to see, with a moment at which it was the newest one.
+func (n *Node) await(ctx context.Context, kind api.Kind) (boottime.Moment, error) {
+	switch {
+	case n.differs.Load() != "":
+		return 0, api.Diverged
+	case kind == api.Local && n.heard.Load() < 0:
+		return 0, api.Unavailable
+	case kind == api.Local || faults.Has(faults.AnswersByItself):
+		return n.newest(), nil
+	}
+	if _, err := n.wait(ctx, newRequest(ctx.Done(), api.Batch{Kind: kind})); err != nil {
+		return 0, err
+	}
+	return n.newest(), nil
+}
+
 // Await returns when the state has all that questions of a kind have to see.
 func (n *Node) Await(ctx context.Context, kind api.Kind) (api.Point, error) {
-	answers, err := n.Do(ctx, api.NewBatch(kind, &api.Call{Kind: api.Question, Line: []byte(api.Placeholder)}))
-	return answers.Point, err
+	within, cancel := context.WithTimeout(ctx, n.options.AnswerTimeout)
+	defer cancel()
+	newest, err := n.await(within, kind)
+	return api.Point{Newest: newest}, err
 }
 
 // State returns what is known of the office.
@@ -214,7 +237,7 @@ func (n *Node) appendCommands(ctx context.Context) error {
 	}
 }
 
-// appendBatch appends a batch and feeds it. It needn't be read from the log if the entries before it are fed.
+// appendBatch appends a batch and does it. It needn't be read from the log if the entries before it are done.
 func (n *Node) appendBatch(ctx context.Context, id string, b *batch) error {
 	units, at := make([]ledger.Unit, len(b.requests)), time.Now().UTC().Format(recorded.TimeLayout)
 	for i, r := range b.requests {
@@ -239,9 +262,8 @@ func (n *Node) appendBatch(ctx context.Context, id string, b *batch) error {
 }
 
 // confirm reads the newest revision of the log through a quorum. One read is for all questions that wait when it
-// begins; those that come during the read wait for the next one. With each read the replay is probed, so that it is
-// known what it has answered, and that it answers. If the log no longer has what the replay has done, the node ends: so no question
-// is answered from what was taken back.
+// begins; those that come during the read wait for the next one. They are answered once the entries up to that revision are done. If
+// the log no longer has what the node has done, the node ends: so no question is answered from what was taken back.
 func (n *Node) confirm(ctx context.Context) error {
 	for ctx.Err() == nil {
 		waiting, end := context.WithTimeout(ctx, readInterval)
@@ -252,9 +274,14 @@ func (n *Node) confirm(ctx context.Context) error {
 		head, err := n.shared.Head(within, *n.done.Load())
 		if err == nil { // Otherwise the askers have waited long enough.
 			n.seen.Store(head)
+			if faults.Has(faults.AnswersTooEarly) {
+				head = 0
+			}
 			_ = n.submit(within, task{head, func() {
-				n.send([]byte(api.Placeholder), func([]byte) { n.hear(read) })
-				n.sendQuestions(questions...)
+				n.hear(read)
+				for _, q := range questions {
+					q.reply <- reply{}
+				}
 			}})
 		}
 		cancel()
@@ -268,6 +295,6 @@ func (n *Node) confirm(ctx context.Context) error {
 // hear notes that the state was the newest one at a moment.
 func (n *Node) hear(read boottime.Moment) {
 	if int64(read) > n.heard.Load() {
-		n.heard.Store(int64(read)) // Nobody else does, as answers come one after another.
+		n.heard.Store(int64(read)) // Nobody else does.
 	}
 }

@@ -5,6 +5,7 @@ import (
 	"context"
 	"crypto/sha256"
 	"encoding/hex"
+	"errors"
 	"fmt"
 	"io"
 	"net/http"
@@ -16,6 +17,7 @@ import (
 	"sort"
 	"strconv"
 	"strings"
+	"time"
 )
 
 const (
@@ -23,6 +25,8 @@ const (
 	maxSnapshots = 3
 	// unfinishedPrefix is the prefix of the name of an unfinished snapshot.
 	unfinishedPrefix = "making-"
+	// damagedPrefix is the prefix of the name of a snapshot that was set aside.
+	damagedPrefix = "damaged-"
 	// policyMark is before the revision of the policy in the name of a snapshot.
 	policyMark = "-policy"
 	// recordMark is before the head of the record in the name of a snapshot.
@@ -86,6 +90,14 @@ type Snapshot struct {
 	Policy int64 `json:"policy,omitempty"`
 	// Copied says that another node has made it, so that it is no second witness for its rows.
 	Copied bool `json:"copied,omitempty"`
+}
+
+// ErrOther reports that an office isn't what it has to be.
+var ErrOther = errors.New("it is another office")
+
+// other reports that a snapshot has another digest.
+func other(s Snapshot, digest string) error {
+	return fmt.Errorf("%w: snapshot %d has the digest %s and not %s", ErrOther, s.Revision, digest, s.Digest)
 }
 
 // NoRecord is in place of the head of a record that a node doesn't keep.
@@ -201,6 +213,63 @@ func (s *Store) Begin(file string) (string, error) {
 	return s.save(source)
 }
 
+// Make makes an office of lines, which the program has to accept one by one. After an error there may be an unfinished file.
+func Make(ctx context.Context, program, file string, lines []byte, hangTimeout time.Duration) error {
+	if err := Run(ctx, program, "init", file); err != nil {
+		return err
+	}
+	replay, err := Start(program, file, hangTimeout)
+	if err != nil {
+		return err
+	}
+	ended := make(chan struct{})
+	defer close(ended)
+	go func() {
+		select {
+		case <-ctx.Done():
+			replay.Kill()
+		case <-ended:
+		}
+	}()
+	var refused error
+	for len(lines) > 0 {
+		line, rest, _ := bytes.Cut(lines, []byte("\n"))
+		replay.Send(line, func(answer []byte) {
+			if refused == nil && !bytes.HasPrefix(answer, []byte(`{"ok":true`)) {
+				refused = fmt.Errorf("%w: the program answers %s to %s", ErrOther, answer, line)
+			}
+		})
+		lines = rest
+	}
+	if err := replay.Close(); err != nil {
+		return err
+	}
+	return refused
+}
+
+// Make makes a snapshot of an office that lines make, which has to have the digest.
+func (s *Store) Make(ctx context.Context, lines []byte, snapshot Snapshot, hangTimeout time.Duration) (Snapshot, error) {
+	folder, err := os.MkdirTemp(s.dir.Name(), unfinishedPrefix)
+	if err != nil {
+		return snapshot, fmt.Errorf("snapshot: %w", err)
+	}
+	defer os.RemoveAll(folder)
+	made := filepath.Join(folder, "office")
+	if err := Make(ctx, s.program, made, lines, hangTimeout); err != nil {
+		return snapshot, fmt.Errorf("snapshot: %w", err)
+	}
+	file, err := s.Begin(made)
+	if err != nil {
+		return snapshot, err
+	}
+	return s.Finish(ctx, file, snapshot)
+}
+
+// SetAside gives a snapshot a name by which nobody takes it for one.
+func (s *Store) SetAside(snapshot Snapshot) error {
+	return os.Rename(s.Path(snapshot), filepath.Join(s.dir.Name(), damagedPrefix+nameOf(snapshot)))
+}
+
 // save writes a file that is to become a snapshot.
 func (s *Store) save(from io.Reader) (string, error) {
 	file, err := os.CreateTemp(s.dir.Name(), unfinishedPrefix)
@@ -233,7 +302,7 @@ func (s *Store) Finish(ctx context.Context, file string, snapshot Snapshot) (Sna
 		return snapshot, err
 	}
 	if snapshot.Digest != "" && snapshot.Digest != digest {
-		return snapshot, fmt.Errorf("snapshot %d has the digest %s and not %s", snapshot.Revision, digest, snapshot.Digest)
+		return snapshot, other(snapshot, digest)
 	}
 	snapshot.Digest = digest
 	if err := os.Rename(file, s.Path(snapshot)); err != nil {
@@ -262,11 +331,15 @@ func (s *Store) deleteOld() error {
 // Restore copies a snapshot to a file, unless the snapshot has changed.
 func (s *Store) Restore(ctx context.Context, snapshot Snapshot, file string) error {
 	digest, err := Digest(ctx, s.Path(snapshot))
+	var failed *exec.ExitError
+	if errors.As(err, &failed) && ctx.Err() == nil {
+		return fmt.Errorf("%w: snapshot %d: %v", ErrOther, snapshot.Revision, err)
+	}
 	if err != nil {
 		return err
 	}
 	if digest != snapshot.Digest {
-		return fmt.Errorf("snapshot %d has the digest %s and not %s: delete it", snapshot.Revision, digest, snapshot.Digest)
+		return other(snapshot, digest)
 	}
 	text, err := os.ReadFile(s.Path(snapshot))
 	if err != nil {

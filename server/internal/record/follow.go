@@ -75,7 +75,7 @@ func NewFollower(options Options) *Follower {
 	return f
 }
 
-// Resume goes on after the head that a snapshot has, from which the office in use was made. No head means that nothing was recorded
+// Resume goes on after the head that a snapshot has, from which the office in the file was made. No head means that nothing was recorded
 // before it. A record that ends before a fetched snapshot becomes an earlier part.
 func (f *Follower) Resume(ctx context.Context, head string, isFetched bool) error {
 	if err := f.resume(ctx, head, isFetched); err != nil {
@@ -93,11 +93,11 @@ func (f *Follower) resume(ctx context.Context, text string, isFetched bool) erro
 	if err != nil {
 		return err
 	}
-	if text == "" && has {
-		return f.openAt(ctx, Head{})
-	}
 	if text == "" {
-		return f.prepare(ctx)
+		if err := f.prepare(ctx, has); err != nil || !has {
+			return err
+		}
+		return f.openAt(ctx, Head{})
 	}
 	head, err := ParseHead(text)
 	if err != nil {
@@ -171,31 +171,25 @@ func (f *Follower) HasBegun() bool {
 }
 
 // prepare makes the copy of the office with which the record begins if no command comes before, so that the first command that is
-// recorded doesn't wait for it.
-func (f *Follower) prepare(ctx context.Context) error {
+// recorded doesn't wait for it. One that there is has begun with such a copy.
+func (f *Follower) prepare(ctx context.Context, has bool) error {
 	if err := os.Mkdir(f.dir, 0o700); err != nil && !errors.Is(err, os.ErrExist) {
 		return err
 	}
 	return f.withCopy(ctx, f.Office, func(copied, rows string) error {
 		f.prepared = part{first: 1, why: beginning, rows: rows}
+		if has {
+			return nil
+		}
 		return copyFile(copied, filepath.Join(f.dir, preparedName))
 	})
 }
 
-// Begin begins the record with the office as it is now, which no program has open unless it is as it was at Resume. If an earlier run
-// has begun it, it has to have begun in the same way.
-func (f *Follower) Begin(ctx context.Context, at string, isAsAtResume bool) error {
-	p := part{first: 1, why: beginning}
-	note := func(_, rows string) error { p.rows = rows; return nil }
-	var err error
-	switch {
-	case f.db != nil:
-		err = f.withCopy(ctx, f.Office, note)
-	case isAsAtResume:
-		p = f.prepared
+// Begin begins the record with the office as it was at Resume. If an earlier run has begun it, it has to have begun in the same way.
+func (f *Follower) Begin(ctx context.Context, at string) (err error) {
+	p := f.prepared
+	if f.db == nil {
 		err = makeFile(f.dir, p, at, filepath.Join(f.dir, preparedName))
-	default:
-		err = f.beginWith(ctx, p, at, refuseNone, note)
 	}
 	_ = os.Remove(filepath.Join(f.dir, preparedName)) // It may never have been there.
 	if err == nil && f.db == nil {

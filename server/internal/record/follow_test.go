@@ -26,8 +26,6 @@ type machine struct {
 	*testing.T
 	*Follower
 	data string
-	// isPrepared says that the record has begun with the copy that was made before.
-	isPrepared bool
 	// isWhole says that the log wants long requests that are refused to be recorded whole.
 	isWhole bool
 }
@@ -78,9 +76,7 @@ func (m *machine) resume(head string, isFetched bool) {
 // begin begins the record at a time that all machines have from the log.
 func (m *machine) begin() {
 	m.Helper()
-	// The office is as it was at the start: whether that is made use of makes no difference.
-	m.isPrepared = !m.isPrepared
-	if err := m.Begin(context.Background(), "2026-11-27T09:00:00.000Z", m.isPrepared); err != nil {
+	if err := m.Begin(context.Background(), "2026-11-27T09:00:00.000Z"); err != nil {
 		m.Fatal(err)
 	}
 }
@@ -162,7 +158,6 @@ func TestFollow(t *testing.T) {
 	first, second := newMachine(t, ""), newMachine(t, "")
 	before := []string{addAnn, `{"fn":"addUser","user":"bob"}`}
 	after := []string{addRole, login, assign, login, login}
-	second.isPrepared = true
 	for _, m := range []*machine{first, second} {
 		m.resume("", false)
 		if m.HasBegun() || m.Added() != "" {

@@ -90,12 +90,11 @@ type Command struct {
 
 // A Follower is the record of a node, which gets the commands of the log in their order.
 type Follower interface {
-	// Resume goes on after the head that the office in use has, which a snapshot gave. That may have been fetched from another node.
+	// Resume goes on after the head that the office in the file has, which a snapshot gave. That may have been fetched from another node.
 	Resume(ctx context.Context, head string, isFetched bool) error
-	// HasBegun reports whether there is a record, and Begin begins one with the office in use. No program has that open, unless it is as
-	// it was at Resume.
+	// HasBegun reports whether there is a record, and Begin begins one with the office as it was at Resume.
 	HasBegun() bool
-	Begin(ctx context.Context, at string, isAsAtResume bool) error
+	Begin(ctx context.Context, at string) error
 	// Admit refuses a command that can't be recorded.
 	Admit(call *api.Call) error
 	// Add adds a command. It doesn't wait; Room waits until there is room for many more.

@@ -15,6 +15,8 @@ type Numbers struct {
 	// machines a refused command counts for All too, and Policy is what All was at the last such command: so all nodes have the same
 	// numbers, whichever snapshot they began with.
 	All, Policy int64
+	// Revision is that of the last entry of the log that was done. On one machine it is 0.
+	Revision int64
 }
 
 // After returns the numbers after a command with a number of its own.

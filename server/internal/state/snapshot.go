@@ -8,7 +8,12 @@ import (
 )
 
 // Lines returns the lines that make an office with what is in this one, in which sessions have their digests for names.
-func (f *Frozen) Lines() []byte {
+func (f *Frozen) Lines() []byte { return f.lines(func(one Session) string { return one.Digest }) }
+
+// OfficeLines is Lines with the names that sessions have in the office.
+func (f *Frozen) OfficeLines() []byte { return f.lines(func(one Session) string { return one.Name }) }
+
+func (f *Frozen) lines(nameOf func(Session) string) []byte {
 	w := &writer{}
 	for _, one := range []struct {
 		function string
@@ -36,7 +41,7 @@ func (f *Frozen) Lines() []byte {
 		w.begin("createSession")
 		w.text("user", one.User)
 		w.texts("roles", one.Active)
-		w.text("session", one.Digest)
+		w.text("session", nameOf(one))
 		w.end()
 	}
 	return w.Bytes()

@@ -2,6 +2,7 @@ package state
 
 import (
 	"context"
+	"crypto/sha256"
 	"database/sql"
 	"encoding/hex"
 	"errors"
@@ -11,6 +12,8 @@ import (
 	"os"
 	"runtime/debug"
 	"sort"
+	"strconv"
+	"strings"
 
 	_ "github.com/mattn/go-sqlite3" // It reads the rows.
 	"golang.org/x/crypto/sha3"
@@ -38,6 +41,34 @@ const rowsQuery = `
 	SELECT kind + 2, a, b, '', 0 FROM pair_row WHERE kind <> 4 UNION ALL
 	SELECT 11, ob, op, role, 0 FROM grant_row UNION ALL
 	SELECT kind + 11, name, '', '', n FROM set_row`
+
+// digested says how the rows of a table are written for a digest: the name of their table in a file, and their kind there, if there is one.
+var digested = [...]struct{ name, kind string }{
+	{"name_row", "1\t"}, {"name_row", "2\t"}, {"name_row", "3\t"}, {"pair_row", "1\t"}, {"pair_row", "2\t"}, {"pair_row", "3\t"},
+	{"pair_row", "4\t"}, {"pair_row", "5\t"}, {"pair_row", "6\t"}, {"pair_row", "7\t"}, {"pair_row", "8\t"}, {"grant_row", ""},
+	{"set_row", "1\t"}, {"set_row", "2\t"}, {"locked_row", ""},
+}
+
+// Digest returns the digest of the rows that office.Digest returns for a file with the same rows.
+func (s *State) Digest() (string, error) {
+	hash := sha256.New()
+	hash.Write([]byte("meta_row\trbac\t2\n"))
+	err := s.Look(func(v *View) {
+		for table, of := range digested {
+			var line []byte
+			v.each(rbacoffice.Table(table), 0, func(row *rbacoffice.Row) bool {
+				line = append(append(append(line[:0], of.name...), '\t'), of.kind...)
+				line = append(line, strings.TrimRight(strings.Join(row.Names[:], "\t"), "\t")...)
+				if row.Number > 0 {
+					line = strconv.AppendUint(append(line, '\t'), uint64(row.Number), 10)
+				}
+				hash.Write(append(line, '\n'))
+				return true
+			})
+		}
+	})
+	return hex.EncodeToString(hash.Sum(nil)), err
+}
 
 // Load makes the office of the file of one that no program writes now, as Begin does. Commands that were kept are forgotten.
 func (s *State) Load(ctx context.Context, path string) error {

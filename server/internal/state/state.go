@@ -1,5 +1,5 @@
 // Package state has the office in this process, by librbac. It begins with the rows of the office's file, and does each command that
-// the program has accepted, in the one order. So it answers the questions of the office, and what no function of the office lists. Beside
+// the program has accepted, or that the log of several machines has, in the one order. So it answers the questions of the office, and what no function of the office lists. Beside
 // it are kept the numbers of the order, the newest commands for those who watch, and the times of sessions: nothing else is known twice.
 //
 // What it concludes itself is how roles, sets and holders belong together, for explanations and reports (Graph, Conflicts).
@@ -156,18 +156,6 @@ func (s *State) Answered(calls []*api.Call, answers [][]byte) (numbers Numbers, 
 	return s.numbers, err
 }
 
-// Follow follows a command with its answer, which the numbers are those after. The error is that of Answered.
-func (s *State) Follow(numbers Numbers, call *api.Call, answer []byte) (err error) {
-	s.lock()
-	defer s.unlock()
-	s.numbers = numbers
-	if api.IsAccepted(answer) {
-		err = s.accept(call, answer)
-		s.wake()
-	}
-	return err
-}
-
 // Advance says that there are no commands up to some numbers.
 func (s *State) Advance(numbers Numbers) {
 	s.lock()
@@ -212,6 +200,45 @@ func (s *State) do(call *api.Call) ([]byte, error) {
 		err = s.endSessions()
 	}
 	return answer, err
+}
+
+// A Change does what an entry of the log has, while nobody else has the office.
+type Change struct{ state *State }
+
+// Change calls a function that does what the entry of a revision has, after which commands have this number: nobody sees a part of it.
+// After an error it isn't known any more what is in the office.
+func (s *State) Change(revision, number int64, do func(c Change) error) error {
+	s.lock()
+	defer s.unlock()
+	if s.office == nil {
+		return api.Unavailable
+	}
+	if err := do(Change{s}); err != nil {
+		s.put(nil)
+		return err
+	}
+	s.numbers.Revision, s.numbers.All = revision, number
+	s.wake()
+	return nil
+}
+
+// Policy is the revision of the policy after what was done.
+func (c Change) Policy() int64 { return c.state.numbers.Policy }
+
+// Do does a command, which has a number, or answers a question, and returns the answer.
+func (c Change) Do(call *api.Call, number int64) ([]byte, error) {
+	if call.Kind == api.Question {
+		return c.state.answer(call)
+	}
+	answer, err := c.state.do(call)
+	if err != nil {
+		return nil, err
+	}
+	c.state.numbers = c.state.numbers.After(number, call, api.IsAccepted(answer))
+	if api.IsAccepted(answer) {
+		c.state.keep(call)
+	}
+	return answer, nil
 }
 
 // Try does commands in an office that follows no program, and returns the answers.

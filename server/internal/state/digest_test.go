@@ -1,0 +1,45 @@
+package state
+
+import (
+	"context"
+	"path/filepath"
+	"testing"
+	"time"
+
+	"rbac-node/internal/office"
+	"rbac-node/internal/programtest"
+)
+
+// The program makes an office with the same rows of the lines of an office, with every kind of row, and it has the same digest.
+func TestOfficeLines(t *testing.T) {
+	s := begun(t, `{"fn":"addUser","user":"ann"}`, `{"fn":"addUser","user":"zoë 日本 \"'\\"}`, `{"fn":"addRole","role":"clerk"}`,
+		`{"fn":"addRole","role":"teller"}`, `{"fn":"addAscendant","asc":"head","desc":"clerk"}`,
+		`{"fn":"addAscendant","asc":"chief","desc":"head"}`, `{"fn":"addPermObj","object":"safe"}`,
+		`{"fn":"addPermission","object":"safe","operation":"open"}`, `{"fn":"grantPermission","object":"safe","operation":"open","role":"clerk"}`,
+		`{"fn":"assignUser","user":"ann","role":"head"}`, `{"fn":"assignUser","user":"ann","role":"teller"}`,
+		`{"fn":"createSsdSet","set":"s","roles":["chief","teller"],"cardinality":2}`,
+		`{"fn":"createDsdSet","set":"d","roles":["clerk","teller","chief"],"cardinality":3}`,
+		`{"fn":"lockUserAccount","user":"zoë 日本 \"'\\"}`, `{"fn":"createSession","user":"ann","roles":["clerk","teller"],"session":"secret"}`)
+	frozen, err := s.Freeze()
+	if err != nil {
+		t.Fatal(err)
+	}
+	file := filepath.Join(t.TempDir(), "office")
+	if err := office.Make(context.Background(), programtest.Path(t), file, frozen.OfficeLines(), time.Minute); err != nil {
+		t.Fatal(err)
+	}
+	own, err := s.Digest()
+	if err != nil {
+		t.Fatal(err)
+	}
+	if made, err := office.Digest(context.Background(), file); err != nil || made != own {
+		t.Errorf("%v, the file has the digest %s and not %s", err, made, own)
+	}
+	again := New(Numbers{})
+	if err := again.Load(context.Background(), file); err != nil {
+		t.Fatal(err)
+	}
+	if given, err := again.Digest(); err != nil || given != own {
+		t.Errorf("%v, what is read has the digest %s and not %s", err, given, own)
+	}
+}
