@@ -2,11 +2,14 @@
 
 import http.client
 import random
+import shutil
+import signal
 
 from front.program import Asking
 
 from .machines import SECONDS
 from .networks import MACHINES
+from .rows import offices
 
 
 class Anywhere:
@@ -37,8 +40,8 @@ class Node(Asking):
     def __init__(self, cluster, machine):
         self.host, port = cluster.network.address(machine, 8080).split(":")
         self.port = int(port)
-        # The office in use.
-        self.office = cluster.data(f"node{machine}/office/office")
+        # The office that a node has left: see Nodes.leave.
+        self.office = cluster.data("left")
 
     def connection(self):
         return http.client.HTTPConnection(self.host, self.port, timeout=SECONDS)
@@ -48,7 +51,15 @@ class Nodes(Asking):
     """All nodes of a cluster. Each request goes to any of them."""
 
     def __init__(self, cluster):
+        self.cluster = cluster
         self.each = [Node(cluster, machine) for machine in range(MACHINES)]
+
+    def leave(self, machine):
+        """One node ends in order, and starts again. All have the rows of the office that it leaves in a file, as long as nobody changes it."""
+        self.cluster.heal()
+        self.cluster.nodes[machine].stop(signal.SIGTERM)
+        shutil.copy(offices(self.cluster)[machine], self.each[machine].office)
+        self.cluster.heal()
 
     def connection(self):
         return Anywhere(self.each)

@@ -88,8 +88,8 @@ def fill(disk):
 
 @pytest.mark.needs("mounts")
 def check_full_disk(bench):
-    """A node whose disk is full starts, answers questions, and does what is asked of others. Its entries wait until there is room. If there
-    is none for the office either, it ends, and goes on later without a loss."""
+    """A node whose disk is full starts, answers questions, and does what is asked of others, also if there is no room at all. Its entries
+    wait until there is room, and none is lost."""
     with Disks(bench.folder, build(bench.shared), every=EVERY) as cluster:
         data = Path(cluster.data("node1"))
         add_users(cluster, "before", EVERY + 10)
@@ -113,7 +113,8 @@ def check_full_disk(bench):
         ended = cluster.nodes[1].ends
         fill(cluster.disk("node", 1))
         add_users(cluster, "without room", MEANWHILE)
-        cluster.until(lambda: cluster.nodes[1].ends > ended, "the node ends without room for the office")
+        judge_answers(bench, cluster, f"without room{MEANWHILE - 1}")
+        bench.same("without any room: the node goes on", cluster.nodes[1].ends, ended)
         filler.unlink()
         cluster.until(lambda: same_head(cluster), "all have the same head")
         add_users(cluster, "after", EVERY)

@@ -132,7 +132,7 @@ def tamper(path):
 
 def judge_damaged(bench, cluster):
     """A node doesn't start from a snapshot that isn't what it was, but from the one before it, and comes to the rows of the others."""
-    cluster.until(lambda: len(revisions(cluster, 2)) > 1 or add_users(cluster, f"v{time.monotonic_ns()}-", EVERY), "there are two snapshots")
+    cluster.until(lambda: evens(cluster) and revisions(cluster, 2)[-2] > floor(cluster), "the log has what comes after two snapshots")
     cluster.nodes[2].stop()
     begin, newest = len(log_of(cluster, 2)), max(revisions(cluster, 2))
     tamper(snapshots_of(cluster, 2)[newest][1])

@@ -21,6 +21,7 @@ from .callers import read
 from .fronts import Nodes
 from .machines import SECONDS, Cluster
 from .networks import MACHINES
+from .rows import offices
 from .running import build
 
 # How many random offices the lists and the sessions are judged in.
@@ -55,20 +56,21 @@ def check_lists(bench, seed):
         front = Nodes(cluster)
         ended = {}
         for number in range(OFFICES):
-            draws, kept = Draws(seed + number), front.connection()
-            for _ in range(2):
+            draws = Draws(seed + number)
+            for turn in range(2):
+                kept = front.connection()
                 work(draws, front, kept, ended)
-                cluster.heal()
+                kept.close()
+                front.leave((number + turn) % MACHINES)
                 for machine, node in enumerate(front.each):
                     same_lists(bench, node, f"of office {number} at node {machine}", draws.random.choice([3, 7, 1_000]))
             if number == 1:
-                kept.close()
                 cluster.nodes[1].stop()
                 cluster.lose_node(2)
                 cluster.heal()
-                kept = front.connection()
                 for machine in (1, 2):
                     same_lists(bench, front.each[machine], f"of office {number} after a start of node {machine}")
+            kept = front.connection()
             forget(front, draws.state, kept)
             kept.close()
         bench.same("sessions were ended by some command", len(ended) > 2, True)
@@ -107,7 +109,7 @@ def check_batches(bench):
         long = [{"fn": "importAssignments", "csv": "user,role\n" + "a,b\n" * 9_000}] * 20
         bench.same("a batch that is too long for etcd", batch(front, long)[0], 413)
         judge_greedy(bench, front, SESSION_OFFICES)
-        cluster.heal()
+        front.leave(0)
         for machine, node in enumerate(front.each):
             same_lists(bench, node, f"after that at node {machine}")
 
@@ -162,7 +164,7 @@ def check_followers(bench, seed):
         bench.same("the snapshots of all nodes", len({snapshot(node) for node in front.each}), 1)
         for node in cluster.nodes:
             bench.same("the end of a node", node.stop(signal.SIGTERM), 0)
-        wanted = with_digests(all_rows(front.each[0].office))
+        wanted = with_digests(all_rows(offices(cluster)[0]))
     for follower in followers:
         bench.same(f"the rows of follower {follower.number}", follower.rows() == wanted, True)
         bench.judge(f"follower {follower.number}", follower.faults[:3])

@@ -26,7 +26,7 @@ func (s *clusterSettings) define(flags *flag.FlagSet) {
 	host, _ := os.Hostname()
 	flags.StringVar(&s.Name, "name", host, "`name` of this node, which no other has")
 	flags.StringVar(&s.Data, "data", "", "`folder` for the snapshots")
-	flags.StringVar(&s.Scratch, "scratch", "", "`folder` for the office in use, made anew at each start (default: that of --data)")
+	flags.StringVar(&s.Scratch, "scratch", "", "`folder` for the file of the office, which is there during a start and after an end (default: that of --data)")
 	flags.StringVar(&s.peer, "peer", "127.0.0.1:8081", "where other nodes fetch snapshots, and metrics are, as `HOST:PORT`")
 	flags.StringVar(&s.Peer, "advertise", "", "`URL` of --peer for other nodes (default: made of --peer)")
 	flags.StringVar(&s.prefix, "prefix", "rbac", "`prefix` of the keys in etcd")

@@ -17,6 +17,8 @@ const (
 	lookInterval, lookTimeout = time.Second, 10 * time.Second
 	// checkTimeout is how long the checks and the digest of one office may take.
 	checkTimeout = 10 * time.Minute
+	// leaveFileTimeout is how long the end of a node may take to leave its office in a file: the service is killed some time later.
+	leaveFileTimeout = 15 * time.Second
 )
 
 // A frozen office is to become a snapshot. The lines make it.
@@ -59,12 +61,16 @@ func (n *Node) freeze() (one frozen, err error) {
 
 // leaveOffice leaves the office in a file when the node has ended in order: whoever goes back to one machine may use it.
 func (n *Node) leaveOffice() {
-	within, cancel := context.WithTimeout(context.Background(), checkTimeout)
+	within, cancel := context.WithTimeout(context.Background(), leaveFileTimeout)
 	defer cancel()
 	one, err := n.freeze()
 	if err == nil {
 		err = n.makeFile(func() error {
-			return office.Make(within, n.options.Program, n.file(), one.lines, n.options.HangTimeout)
+			making := n.file() + ".making"
+			if err := office.Make(within, n.options.Program, making, one.lines, n.options.HangTimeout); err != nil {
+				return err
+			}
+			return os.Rename(making, n.file())
 		})
 	}
 	if err != nil {

@@ -99,27 +99,17 @@ func (n *Node) apply(entry ledger.Entry) {
 	n.room()
 	found, _ := n.pending.LoadAndDelete(entry.ID)
 	own, _ := found.(*batch)
-	before, count := n.count, int64(0)
-	for _, u := range entry.Units {
-		for _, line := range u.Lines {
-			n.bytes += int64(len(line))
-			count++
-		}
+	parts, before := n.partsOf(entry, own), n.count
+	for _, line := range entry.Lines() {
+		n.bytes += int64(len(line))
+		n.count++
 	}
-	parts := n.partsOf(entry, own)
-	replies := make([]reply, len(parts))
-	n.err = n.state.Change(entry.Revision, n.first+before+count, func(c state.Change) (err error) {
-		for i := 0; i < len(parts) && err == nil; i++ {
-			replies[i], err = n.do(c, &parts[i], before)
-			replies[i].answers.Revision = entry.Revision
-		}
-		return err
-	})
-	if n.err != nil {
-		n.err = fmt.Errorf("the office in this process: %w", n.err)
+	replies, err := n.change(entry.Revision, parts, before)
+	if err != nil {
+		n.err = fmt.Errorf("the office in this process: %w", err)
 		return
 	}
-	n.revision, n.count = entry.Revision, before+count
+	n.revision = entry.Revision
 	n.done.Store(&entry.Place)
 	n.applied.Store(&place{n.revision, n.count})
 	for i, p := range parts {
@@ -141,8 +131,19 @@ func (n *Node) apply(entry ledger.Entry) {
 	}
 }
 
-// do does the calls of a part as its rule says, and returns the answers. The number of commands before its entry is that before its
-// first place.
+// change does the parts of an entry with nothing of others between them. The number of commands is that before the entry.
+func (n *Node) change(revision int64, parts []part, before int64) ([]reply, error) {
+	replies := make([]reply, len(parts))
+	return replies, n.state.Change(revision, n.first+n.count, func(c state.Change) (err error) {
+		for i := 0; i < len(parts) && err == nil; i++ {
+			replies[i], err = n.do(c, &parts[i], before)
+			replies[i].answers.Revision = revision
+		}
+		return err
+	})
+}
+
+// do does the calls of a part as its rule says, and returns the answers.
 func (n *Node) do(c state.Change, p *part, before int64) (reply, error) {
 	if p.rule.Policy > 0 && p.rule.Policy != c.Policy() {
 		return reply{err: api.Outdated}, nil
