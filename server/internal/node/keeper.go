@@ -65,13 +65,7 @@ func (n *Node) leaveOffice() {
 	defer cancel()
 	one, err := n.freeze()
 	if err == nil {
-		err = n.makeFile(func() error {
-			making := n.file() + ".making"
-			if err := office.Make(within, n.options.Program, making, one.lines, n.options.HangTimeout); err != nil {
-				return err
-			}
-			return os.Rename(making, n.file())
-		})
+		err = n.makeFile(func() error { return n.store.Leave(within, one.lines, n.file(), n.options.HangTimeout) })
 	}
 	if err != nil {
 		n.log.Error("the office is left in no file", "why", err)

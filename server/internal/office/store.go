@@ -17,6 +17,7 @@ import (
 	"sort"
 	"strconv"
 	"strings"
+	"syscall"
 	"time"
 )
 
@@ -37,6 +38,10 @@ const (
 	digester = "sqlite3"
 	// nameField is the field in the head of a reply that names the snapshot.
 	nameField = "Snapshot"
+	// memory is a folder of files in memory, since the program syncs often, which takes long on a disk. spareMemory is how much room there
+	// has to be besides some copies of an office.
+	memory              = "/dev/shm"
+	spareMemory, copies = 64 << 20, 4
 	// revisionQuery is how another snapshot than the newest one is asked for.
 	revisionQuery = "revision"
 )
@@ -114,6 +119,8 @@ func (s Snapshot) IsSame(other Snapshot) bool {
 type Store struct {
 	dir     *os.File
 	program string
+	// making begins the names of folders in memory in which offices are made.
+	making string
 }
 
 // FolderIn returns the folder of the snapshots of a node whose folder this is.
@@ -129,8 +136,14 @@ func Open(data, program string) (*Store, error) {
 	if err := os.MkdirAll(folder, 0o700); err != nil {
 		return nil, fmt.Errorf("snapshots: %w", err)
 	}
+	absolute, err := filepath.Abs(folder)
+	if err != nil {
+		return nil, fmt.Errorf("snapshots: %w", err)
+	}
+	making := fmt.Sprintf("rbac-node-%d-%x-", os.Getuid(), sha256.Sum256([]byte(absolute)))
 	left, _ := filepath.Glob(filepath.Join(folder, unfinishedPrefix+"*"))
-	for _, file := range left {
+	inMemory, _ := filepath.Glob(filepath.Join(memory, making+"*"))
+	for _, file := range append(left, inMemory...) {
 		if err := os.RemoveAll(file); err != nil {
 			return nil, fmt.Errorf("snapshots: %w", err)
 		}
@@ -139,7 +152,7 @@ func Open(data, program string) (*Store, error) {
 	if err != nil {
 		return nil, fmt.Errorf("snapshots: %w", err)
 	}
-	return &Store{dir, program}, nil
+	return &Store{dir, program, making}, nil
 }
 
 // nameOf and parse write and read the name of a snapshot.
@@ -249,20 +262,52 @@ func Make(ctx context.Context, program, file string, lines []byte, hangTimeout t
 
 // Make makes a snapshot of an office that lines make, which has to have the digest.
 func (s *Store) Make(ctx context.Context, lines []byte, snapshot Snapshot, hangTimeout time.Duration) (Snapshot, error) {
-	folder, err := os.MkdirTemp(s.dir.Name(), unfinishedPrefix)
+	return snapshot, s.build(ctx, lines, hangTimeout, func(made string) error {
+		file, err := s.Begin(made)
+		if err == nil {
+			snapshot, err = s.Finish(ctx, file, snapshot)
+		}
+		return err
+	})
+}
+
+// Leave makes an office of lines, and leaves it in a file.
+func (s *Store) Leave(ctx context.Context, lines []byte, file string, hangTimeout time.Duration) error {
+	return s.build(ctx, lines, hangTimeout, func(made string) error {
+		text, err := os.ReadFile(made)
+		if err == nil {
+			err = os.WriteFile(file+".making", text, 0o600)
+		}
+		if err != nil {
+			return err
+		}
+		return os.Rename(file+".making", file)
+	})
+}
+
+// build makes an office of lines in a folder of its own, for as long as somebody uses it.
+func (s *Store) build(ctx context.Context, lines []byte, hangTimeout time.Duration, use func(made string) error) error {
+	folder, err := s.scratch(len(lines))
 	if err != nil {
-		return snapshot, fmt.Errorf("snapshot: %w", err)
+		return fmt.Errorf("office: %w", err)
 	}
 	defer os.RemoveAll(folder)
 	made := filepath.Join(folder, "office")
 	if err := Make(ctx, s.program, made, lines, hangTimeout); err != nil {
-		return snapshot, fmt.Errorf("snapshot: %w", err)
+		return fmt.Errorf("office: %w", err)
 	}
-	file, err := s.Begin(made)
-	if err != nil {
-		return snapshot, err
+	return use(made)
+}
+
+// scratch returns an empty folder, in memory if there is room for an office of lines that have this many bytes.
+func (s *Store) scratch(size int) (string, error) {
+	var about syscall.Statfs_t
+	if err := syscall.Statfs(memory, &about); err == nil && int64(about.Bavail)*about.Bsize > int64(spareMemory+copies*size) {
+		if folder, err := os.MkdirTemp(memory, s.making); err == nil {
+			return folder, nil
+		}
 	}
-	return s.Finish(ctx, file, snapshot)
+	return os.MkdirTemp(s.dir.Name(), unfinishedPrefix)
 }
 
 // SetAside gives a snapshot a name by which nobody takes it for one.
