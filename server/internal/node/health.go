@@ -35,8 +35,8 @@ type status struct {
 func (n *Node) status() status {
 	age, at := boottime.Since(n.newest()), n.applied.Load()
 	s := status{
-		Open: n.options.IsOpen, Revision: at.revision, Count: at.count, Snapshot: n.snapshot.Load(), Age: age.Seconds(),
-		Newest: n.seen.Load(), Record: n.recordWaits(),
+		Open: n.options.IsOpen, Revision: at.Revision, Count: at.count, Snapshot: n.snapshot.Load(), Age: age.Seconds(),
+		Newest: n.seen.Load(), Record: n.options.Record.Why(),
 	}
 	switch s.Why, _ = n.differs.Load().(string); {
 	case s.Why != "":

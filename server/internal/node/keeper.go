@@ -34,7 +34,7 @@ func (n *Node) takeSnapshot() {
 		n.log.Warn("no snapshot: the last one is not finished yet", "revision", n.revision)
 		return
 	}
-	if why := n.recordWaits(); why != "" {
+	if why := n.options.Record.Why(); why != "" {
 		n.noteSnapshot(n.revision, errors.New(why)) // It would take up room that a start needs.
 		return
 	}
@@ -65,7 +65,7 @@ func (n *Node) leaveOffice() {
 	defer cancel()
 	one, err := n.freeze()
 	if err == nil {
-		err = n.makeFile(func() error { return n.store.Leave(within, one.lines, n.file(), n.options.HangTimeout) })
+		err = n.makeFile(func() error { return n.store.Leave(within, one.lines, n.options.File(), n.options.HangTimeout) })
 	}
 	if err != nil {
 		n.log.Error("the office is left in no file", "why", err)
@@ -74,7 +74,7 @@ func (n *Node) leaveOffice() {
 
 // makeFile makes the file of the office in an empty folder.
 func (n *Node) makeFile(do func() error) error {
-	folder := filepath.Dir(n.file())
+	folder := filepath.Dir(n.options.File())
 	if err := os.RemoveAll(folder); err != nil {
 		return fmt.Errorf("old office: %w", err)
 	}
@@ -136,7 +136,7 @@ func (n *Node) attempt(ctx context.Context, otherwise string, do func(context.Co
 func (n *Node) finish(ctx context.Context, one frozen) error {
 	within, cancel := context.WithTimeout(ctx, checkTimeout)
 	defer cancel()
-	if n.options.Record != nil && one.snapshot.Record != "" {
+	if one.snapshot.Record != "" {
 		if err := n.options.Record.Keep(within, one.snapshot.Record); err != nil {
 			return err
 		}
@@ -147,7 +147,7 @@ func (n *Node) finish(ctx context.Context, one frozen) error {
 	}
 	n.log.Info("snapshot", "revision", s.Revision, "commands", s.Count,
 		"digest", s.Digest, "record", s.Record)
-	if n.options.Record != nil && s.Record != "" {
+	if s.Record != "" {
 		n.options.Record.Divide(within, n.store.Path(s), s.Record)
 	}
 	return nil

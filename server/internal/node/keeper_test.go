@@ -100,7 +100,7 @@ func TestFailedSnapshot(t *testing.T) {
 	}
 	n.isFailing.Store(false)
 	n.apply(entry(2, "b"))
-	if n.err != nil || n.applied.Load().revision != 2 {
+	if n.err != nil || n.applied.Load().Revision != 2 {
 		t.Errorf("it doesn't go on: %v", n.err)
 	}
 	eventually(t, "that of the next place is tried", n.isFailing.Load)

@@ -108,10 +108,8 @@ type Node struct {
 
 	// isFed is set when that goroutine runs.
 	isFed atomic.Bool
-	// applied is the place of the log up to which all entries are done.
+	// applied is the place of the last entry that was done, or of the snapshot of the start.
 	applied atomic.Pointer[place]
-	// done is the place of the last entry that was done, or of the snapshot of the start.
-	done atomic.Pointer[ledger.Place]
 	// heard is the moment when the newest read of the log began whose entries are all done. Before the first one it is that of
 	// the start, below zero.
 	heard atomic.Int64
@@ -137,14 +135,20 @@ type task struct {
 	do    func()
 }
 
-// A place in the log is a revision, and how many commands there are up to it.
-type place struct{ revision, count int64 }
+// A place in the log is that of an entry, and how many commands there are up to it.
+type place struct {
+	ledger.Place
+	count int64
+}
 
 // New returns a node over a log. It does nothing until Run is called.
 func New(options Options, shared Log, log *logs.Logger, registry prometheus.Registerer) (*Node, error) {
 	store, err := office.Open(options.Data, options.Program)
 	if err != nil {
 		return nil, err
+	}
+	if options.Record == nil {
+		options.Record = noRecord{}
 	}
 	n := &Node{
 		options: options, store: store, shared: shared, log: log, start: time.Now(),
@@ -157,7 +161,6 @@ func New(options Options, shared Log, log *logs.Logger, registry prometheus.Regi
 	n.state = state.New(state.Numbers{})
 	n.heard.Store(-int64(boottime.Now()))
 	n.applied.Store(&place{})
-	n.done.Store(&ledger.Place{})
 	n.differs.Store("")
 	n.stage.Store("etcd is asked")
 	n.addMetrics(registry)
@@ -196,7 +199,7 @@ func (n *Node) work(life context.Context) error {
 		group.Go(func() error { return part(ctx) })
 	}
 	err := group.Wait()
-	closed := n.closeRecord()
+	closed := n.options.Record.Close()
 	if life.Err() != nil {
 		n.leaveOffice()
 		return closed
@@ -206,7 +209,7 @@ func (n *Node) work(life context.Context) error {
 
 // readLog feeds the entries of the log.
 func (n *Node) readLog(ctx context.Context) error {
-	return n.shared.Follow(ctx, n.applied.Load().revision, func(entry ledger.Entry) error {
+	return n.shared.Follow(ctx, n.applied.Load().Revision, func(entry ledger.Entry) error {
 		return n.submit(ctx, task{0, func() { n.apply(entry) }})
 	})
 }
@@ -228,7 +231,7 @@ func (n *Node) feed(ctx context.Context) error {
 		select {
 		case one := <-n.tasks:
 			n.perform(one)
-		case <-n.recordFailed():
+		case <-n.options.Record.Failed():
 			return n.options.Record.Failure()
 		case <-ctx.Done():
 			return nil
@@ -254,6 +257,3 @@ func (n *Node) newest() boottime.Moment {
 	}
 	return boottime.Moment(heard)
 }
-
-// file is the office in a file.
-func (n *Node) file() string { return n.options.File() }

@@ -69,7 +69,7 @@ func TestFailedOffice(t *testing.T) {
 		t.Errorf("a question: %v", err)
 	}
 	n.tasks <- task{0, func() { n.apply(entry(1, "a")) }}
-	if err := n.feed(context.Background()); err == nil || n.applied.Load().revision != 0 {
+	if err := n.feed(context.Background()); err == nil || n.applied.Load().Revision != 0 {
 		t.Errorf("it goes on: %v", err)
 	}
 }
@@ -107,7 +107,7 @@ func TestApply(t *testing.T) {
 	if asked != "a b c" || usersOf(t, n) != asked || len(n.held) > 0 || n.err != nil {
 		t.Errorf("the users were %s, then %s, and %d wait: %v", asked, usersOf(t, n), len(n.held), n.err)
 	}
-	if at := n.applied.Load(); at.revision != 2 || at.count != 5 {
+	if at := n.applied.Load(); at.Revision != 2 || at.count != 5 {
 		t.Errorf("applied is %+v", at)
 	}
 }
@@ -118,7 +118,7 @@ func TestLogWentBack(t *testing.T) {
 	running(t, n.feed)
 	done := entry(7, "a")
 	n.tasks <- task{0, func() { n.apply(done) }}
-	eventually(t, "it is done", func() bool { return n.applied.Load().revision == 7 })
+	eventually(t, "it is done", func() bool { return n.applied.Load().Revision == 7 })
 	log.lost = ledger.ErrWentBack
 	if err := n.confirm(context.Background()); !errors.Is(err, ledger.ErrWentBack) {
 		t.Errorf("%v", err)

@@ -96,7 +96,7 @@ func (n *Node) apply(entry ledger.Entry) {
 	if n.err = n.beginRecord(entry); n.err != nil {
 		return
 	}
-	n.room()
+	n.options.Record.Room()
 	found, _ := n.pending.LoadAndDelete(entry.ID)
 	own, _ := found.(*batch)
 	parts, before := n.partsOf(entry, own), n.count
@@ -110,8 +110,7 @@ func (n *Node) apply(entry ledger.Entry) {
 		return
 	}
 	n.revision = entry.Revision
-	n.done.Store(&entry.Place)
-	n.applied.Store(&place{n.revision, n.count})
+	n.applied.Store(&place{entry.Place, n.count})
 	for i, p := range parts {
 		if p.own != nil {
 			p.own.reply <- replies[i]

@@ -14,7 +14,7 @@ import (
 // beginRecord begins the record before the first entry of the log.
 func (n *Node) beginRecord(entry ledger.Entry) error {
 	n.isRecorded = true
-	if n.options.Record == nil || n.options.Record.HasBegun() {
+	if n.options.Record.HasBegun() {
 		return nil
 	}
 	within, cancel := context.WithTimeout(context.Background(), checkTimeout)
@@ -22,16 +22,9 @@ func (n *Node) beginRecord(entry ledger.Entry) error {
 	return n.options.Record.Begin(within, entry.Units[0].At)
 }
 
-// room waits until the record has room for the commands of an entry.
-func (n *Node) room() {
-	if n.options.Record != nil {
-		n.options.Record.Room()
-	}
-}
-
-// record records a command of the log with its answer, if there is a record and a function.
+// record records a command of the log with its answer, if it has a function.
 func (n *Node) record(unit ledger.Unit, call *api.Call, answer []byte) {
-	if n.options.Record == nil || call.Function == "" {
+	if call.Function == "" {
 		return
 	}
 	if faults.Has(faults.ForgetsCaller) && n.options.Name == "n1" && unit.Caller == "token:desk" {
@@ -44,62 +37,34 @@ func (n *Node) record(unit ledger.Unit, call *api.Call, answer []byte) {
 
 // head returns the head of the record after all that was done.
 func (n *Node) head() string {
-	if n.options.Record == nil && n.isRecorded {
-		return office.NoRecord
-	}
-	if n.options.Record == nil {
+	if !n.isRecorded {
 		return ""
 	}
 	return n.options.Record.Added()
 }
 
-// resumeRecord goes on with the record after a snapshot, of which the file was made.
-func (n *Node) resumeRecord(ctx context.Context, base office.Snapshot) error {
-	n.isRecorded = base.Record != ""
-	if n.options.Record == nil {
-		return nil
-	}
-	return n.options.Record.Resume(ctx, base.Record, base.Copied)
-}
+// keepsRecord reports whether the node keeps a record.
+func (n *Node) keepsRecord() bool { return n.options.Record != recorded.Follower(noRecord{}) }
 
-// recordWaits returns why entries of the record wait, or an empty text.
-func (n *Node) recordWaits() string {
-	if n.options.Record == nil {
-		return ""
-	}
-	return n.options.Record.Why()
-}
+// A noRecord is in place of the record of a node that keeps none. It never begins, and nothing is asked of it.
+type noRecord struct{ recorded.Follower }
 
-func (n *Node) closeRecord() error {
-	if n.options.Record == nil {
-		return nil
-	}
-	return n.options.Record.Close()
-}
-
-// recordFailed is closed when the record can't go on.
-func (n *Node) recordFailed() <-chan struct{} {
-	if n.options.Record == nil {
-		return nil
-	}
-	return n.options.Record.Failed()
-}
-
-// admit refuses a batch with a command that can't be recorded.
-func (n *Node) admit(b api.Batch) error {
-	for _, call := range b.Calls {
-		if n.options.Record != nil && call.Kind == api.Command {
-			if err := n.options.Record.Admit(call); err != nil {
-				return err
-			}
-		}
-	}
-	return nil
-}
+func (noRecord) Resume(context.Context, string, bool) error { return nil }
+func (noRecord) HasBegun() bool                             { return false }
+func (noRecord) Begin(context.Context, string) error        { return nil }
+func (noRecord) Admit(*api.Call) error                      { return nil }
+func (noRecord) Add(recorded.Command)                       {}
+func (noRecord) Room()                                      {}
+func (noRecord) Added() string                              { return office.NoRecord }
+func (noRecord) Keep(context.Context, string) error         { return nil }
+func (noRecord) Divide(context.Context, string, string)     {}
+func (noRecord) Why() string                                { return "" }
+func (noRecord) Failed() <-chan struct{}                    { return nil }
+func (noRecord) Close() error                               { return nil }
 
 // Recorded returns entries of the record. It returns false if nothing is recorded.
 func (n *Node) Recorded(ctx context.Context, query recorded.Query) (page recorded.Page, is bool, err error) {
-	if n.options.Record == nil || !n.options.Record.HasBegun() {
+	if !n.options.Record.HasBegun() {
 		return page, false, nil
 	}
 	page, err = n.options.Record.Recorded(ctx, query)
@@ -108,7 +73,7 @@ func (n *Node) Recorded(ctx context.Context, query recorded.Query) (page recorde
 
 // Links returns the next entries after one, as their links are computed. It returns false if nothing is recorded.
 func (n *Node) Links(ctx context.Context, after int64) (links recorded.Links, is bool, err error) {
-	if n.options.Record == nil || !n.options.Record.HasBegun() {
+	if !n.options.Record.HasBegun() {
 		return links, false, nil
 	}
 	links, err = n.options.Record.Links(ctx, after)

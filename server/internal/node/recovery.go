@@ -21,7 +21,8 @@ func (n *Node) recoverOffice(ctx context.Context) error {
 	if err != nil {
 		return err
 	}
-	if err := n.resumeRecord(ctx, base); err != nil {
+	n.isRecorded = base.Record != ""
+	if err := n.options.Record.Resume(ctx, base.Record, base.Copied); err != nil {
 		return err
 	}
 	first, err := n.shared.First(ctx)
@@ -32,15 +33,14 @@ func (n *Node) recoverOffice(ctx context.Context) error {
 		return err
 	}
 	n.begin(base, first)
-	if err := n.state.Load(ctx, n.file()); err != nil {
+	if err := n.state.Load(ctx, n.options.File()); err != nil {
 		return err
 	}
-	if err := os.RemoveAll(filepath.Dir(n.file())); err != nil { // Soon it would be an old one.
+	if err := os.RemoveAll(filepath.Dir(n.options.File())); err != nil { // Soon it would be an old one.
 		return fmt.Errorf("office: %w", err)
 	}
 	n.revision, n.count = base.Revision, base.Count
-	n.applied.Store(&place{base.Revision, base.Count})
-	n.done.Store(&ledger.Place{Revision: base.Revision})
+	n.applied.Store(&place{ledger.Place{Revision: base.Revision}, base.Count})
 	n.log.Info("recovered", "revision", base.Revision, "commands", base.Count)
 	n.stage.Store("not all of the log is applied yet")
 	state, err := n.shared.State(ctx)
@@ -57,9 +57,9 @@ func (n *Node) makeOffice(ctx context.Context, base office.Snapshot) error {
 	defer cancel()
 	return n.makeFile(func() error {
 		if base.Digest == "" {
-			return office.Run(within, n.options.Program, "init", n.file())
+			return office.Run(within, n.options.Program, "init", n.options.File())
 		}
-		return n.store.Restore(within, base, n.file())
+		return n.store.Restore(within, base, n.options.File())
 	})
 }
 
@@ -80,7 +80,7 @@ func (n *Node) startSnapshot(ctx context.Context) (base office.Snapshot, err err
 	}
 	for _, base = range append(found, office.Snapshot{}) {
 		switch {
-		case base.Record == office.NoRecord && n.options.Record != nil:
+		case base.Record == office.NoRecord && n.keepsRecord():
 			n.log.Info("this node was without a record, which it can't go on with")
 		case base.Revision < state.Floor:
 			n.log.Info("the log no longer has what this node lacks", "floor", state.Floor)
@@ -165,7 +165,7 @@ func (n *Node) accept(ctx context.Context, name string, offered office.Snapshot)
 	if err != nil {
 		return err
 	}
-	if offered.Record == office.NoRecord && n.options.Record != nil {
+	if offered.Record == office.NoRecord && n.keepsRecord() {
 		return errNotRecorded
 	}
 	if offered.Revision < state.Floor {

@@ -69,11 +69,11 @@ func TestDamagedSnapshot(t *testing.T) {
 			if left, err := store.List(); err != nil || len(left) != 2-damaged {
 				t.Errorf("%v, %v", left, err)
 			}
-			if _, err := os.Stat(n.file()); !errors.Is(err, os.ErrNotExist) {
+			if _, err := os.Stat(n.options.File()); !errors.Is(err, os.ErrNotExist) {
 				t.Errorf("the file of the office: %v", err)
 			}
 			n.leaveOffice()
-			if err := office.Run(context.Background(), n.options.Program, "check", n.file()); err != nil {
+			if err := office.Run(context.Background(), n.options.Program, "check", n.options.File()); err != nil {
 				t.Error(err)
 			}
 		})

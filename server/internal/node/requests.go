@@ -19,9 +19,9 @@ import (
 // requests before it in a batch have at most maxBatchBytes.
 const maxUnitBytes = 768 << 10
 
-// A request waits for its answers until over is closed.
+// A request waits for its answers until its context ends.
 type request struct {
-	over  <-chan struct{}
+	ctx   context.Context
 	batch api.Batch
 	reply chan reply
 	// unit is what the log gets if there are commands, but for the time, and size how many bytes that are.
@@ -30,8 +30,8 @@ type request struct {
 }
 
 // newRequest returns a request.
-func newRequest(over <-chan struct{}, b api.Batch) *request {
-	r := &request{over: over, batch: b, reply: make(chan reply, 1)}
+func newRequest(ctx context.Context, b api.Batch) *request {
+	r := &request{ctx: ctx, batch: b, reply: make(chan reply, 1)}
 	if b.Kind != api.Command {
 		return r
 	}
@@ -50,16 +50,6 @@ func newRequest(over <-chan struct{}, b api.Batch) *request {
 type reply struct {
 	answers api.Answers
 	err     error
-}
-
-// isWaiting reports whether somebody waits for the answer.
-func (r *request) isWaiting() bool {
-	select {
-	case <-r.over:
-		return false
-	default:
-		return true
-	}
 }
 
 // Do does a batch. The answers to commands are those at their place in the log.
@@ -85,8 +75,12 @@ func (n *Node) command(ctx context.Context, b api.Batch) (api.Answers, error) {
 	if n.differs.Load() != "" {
 		return api.Answers{}, api.Diverged
 	}
-	if err := n.admit(b); err != nil {
-		return api.Answers{}, err
+	for _, call := range b.Calls {
+		if call.Kind == api.Command {
+			if err := n.options.Record.Admit(call); err != nil {
+				return api.Answers{}, err
+			}
+		}
 	}
 	if faults.Has(faults.JudgesBeforeLog) && b.Rule.Policy > 0 {
 		if b.Rule.Policy != n.state.Numbers().Policy {
@@ -95,22 +89,22 @@ func (n *Node) command(ctx context.Context, b api.Batch) (api.Answers, error) {
 		b.Rule.Policy = 0
 	}
 	n.state.Touch(b.Calls)
-	r := newRequest(ctx.Done(), b)
+	r := newRequest(ctx, b)
 	if r.size > maxUnitBytes {
 		return api.Answers{}, api.BadRequest(http.StatusRequestEntityTooLarge)
 	}
 	if faults.Has(faults.AnswersBeforeLog) {
-		r.over = nil
+		r.ctx = context.Background()
 		return n.guess(r), nil
 	}
-	return n.wait(ctx, r)
+	return n.wait(r)
 }
 
 // wait passes a request on, and returns the reply to it.
-func (n *Node) wait(ctx context.Context, r *request) (api.Answers, error) {
+func (n *Node) wait(r *request) (api.Answers, error) {
 	select {
 	case n.asked[r.batch.Kind] <- r:
-	case <-ctx.Done():
+	case <-r.ctx.Done():
 		return api.Answers{}, api.Unavailable
 	}
 	select {
@@ -120,7 +114,7 @@ func (n *Node) wait(ctx context.Context, r *request) (api.Answers, error) {
 			return api.Answers{}, api.Diverged
 		}
 		return found.answers, found.err
-	case <-ctx.Done():
+	case <-r.ctx.Done():
 		return api.Answers{}, api.Unavailable
 	}
 }
@@ -132,7 +126,7 @@ func (n *Node) guess(r *request) api.Answers {
 	for i := range texts {
 		texts[i] = []byte(`{"ok":true}`)
 	}
-	return api.Answers{Texts: texts, Point: api.Point{Revision: n.applied.Load().revision + 1}}
+	return api.Answers{Texts: texts, Point: api.Point{Revision: n.applied.Load().Revision + 1}}
 }
 
 // await returns when the state has all that questions of a kind have to see, with a moment at which it was the newest one.
@@ -145,7 +139,7 @@ func (n *Node) await(ctx context.Context, kind api.Kind) (boottime.Moment, error
 	case kind == api.Local || faults.Has(faults.AnswersByItself):
 		return n.newest(), nil
 	}
-	if _, err := n.wait(ctx, newRequest(ctx.Done(), api.Batch{Kind: kind})); err != nil {
+	if _, err := n.wait(newRequest(ctx, api.Batch{Kind: kind})); err != nil {
 		return 0, err
 	}
 	return n.newest(), nil
@@ -197,7 +191,7 @@ func gather(ctx context.Context, from <-chan *request, least int, late <-chan ti
 				return found
 			}
 		}
-		if r.isWaiting() {
+		if r.ctx.Err() == nil {
 			found, size = append(found, r), size+r.size
 		}
 	}
@@ -271,7 +265,7 @@ func (n *Node) confirm(ctx context.Context) error {
 		end()
 		read := boottime.Now()
 		within, cancel := context.WithTimeout(ctx, n.options.AnswerTimeout)
-		head, err := n.shared.Head(within, *n.done.Load())
+		head, err := n.shared.Head(within, n.applied.Load().Place)
 		if err == nil { // Otherwise the askers have waited long enough.
 			n.seen.Store(head)
 			if faults.Has(faults.AnswersTooEarly) {

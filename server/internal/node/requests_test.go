@@ -33,7 +33,7 @@ func TestGather(t *testing.T) {
 	} {
 		from := make(chan *request, maxBatchLines)
 		for _, ctx := range one.asked {
-			from <- newRequest(ctx.Done(), of(api.Command, "c"))
+			from <- newRequest(ctx, of(api.Command, "c"))
 		}
 		if found := gather(one.ctx, from, one.least, one.late); len(found) != one.wanted {
 			t.Errorf("%s: %d", one.what, len(found))
@@ -45,7 +45,7 @@ func TestGather(t *testing.T) {
 func TestGatherMost(t *testing.T) {
 	from := make(chan *request, maxBatchLines+1)
 	for i := 0; i <= maxBatchLines; i++ {
-		from <- newRequest(nil, of(api.Command, strings.Repeat("c", maxBatchBytes/2)))
+		from <- newRequest(context.Background(), of(api.Command, strings.Repeat("c", maxBatchBytes/2)))
 	}
 	if found := gather(context.Background(), from, 1, nil); len(found) != 2 {
 		t.Errorf("%d long requests", len(found))
@@ -63,7 +63,7 @@ func TestGatherReasons(t *testing.T) {
 		}
 		b := of(api.Command, strings.Repeat("c", size))
 		b.Calls[0].Caller, b.Calls[0].Reason = "token:desk", strings.Repeat("<", 256)
-		from <- newRequest(nil, b)
+		from <- newRequest(context.Background(), b)
 	}
 	for len(from) > 0 {
 		size := 0

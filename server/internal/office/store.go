@@ -274,11 +274,7 @@ func (s *Store) Make(ctx context.Context, lines []byte, snapshot Snapshot, hangT
 // Leave makes an office of lines, and leaves it in a file.
 func (s *Store) Leave(ctx context.Context, lines []byte, file string, hangTimeout time.Duration) error {
 	return s.build(ctx, lines, hangTimeout, func(made string) error {
-		text, err := os.ReadFile(made)
-		if err == nil {
-			err = os.WriteFile(file+".making", text, 0o600)
-		}
-		if err != nil {
+		if err := copyTo(file+".making", made); err != nil {
 			return err
 		}
 		return os.Rename(file+".making", file)
@@ -386,11 +382,16 @@ func (s *Store) Restore(ctx context.Context, snapshot Snapshot, file string) err
 	if digest != snapshot.Digest {
 		return other(snapshot, digest)
 	}
-	text, err := os.ReadFile(s.Path(snapshot))
-	if err != nil {
-		return fmt.Errorf("snapshot: %w", err)
+	return copyTo(file, s.Path(snapshot))
+}
+
+// copyTo makes a file with what another one has.
+func copyTo(file, from string) error {
+	text, err := os.ReadFile(from)
+	if err == nil {
+		err = os.WriteFile(file, text, 0o600)
 	}
-	if err := os.WriteFile(file, text, 0o600); err != nil {
+	if err != nil {
 		return fmt.Errorf("office: %w", err)
 	}
 	return nil
