@@ -8,6 +8,7 @@ import signal
 import sqlite3
 import subprocess
 import time
+from pathlib import Path
 
 from program.bench import PROGRAM
 
@@ -48,6 +49,7 @@ def check_keeping(bench):
         judge_replaced(bench, cluster)
         judge_removed(bench, cluster)
         judge_damaged(bench, cluster)
+        judge_upgraded(bench, cluster)
         judge_diverged(bench, cluster)
 
 
@@ -143,6 +145,25 @@ def judge_damaged(bench, cluster):
     cluster.until(lambda: evens(cluster), "all have registered a snapshot of one place")
     digests = [snapshots_of(cluster, i)[max(revisions(cluster, i))][0]["digest"] for i in range(3)]
     bench.same("the digests", digests, digests[:1] * 3)
+
+
+def judge_upgraded(bench, cluster):
+    """A node starts in the folder of an earlier version that was killed: the office in use, an old one, is there with SQLite's log beside
+    it. No file of it is left, and after an end in order there is the office of now."""
+    cluster.nodes[2].send(signal.SIGKILL)
+    cluster.nodes[2].stop()
+    folder = Path(cluster.data("node2/office"))
+    folder.mkdir(exist_ok=True)
+    shutil.copy(snapshots_of(cluster, 2)[min(revisions(cluster, 2))][1], folder / "office")
+    (folder / "office-wal").write_bytes(bytes(32))
+    cluster.nodes[2].start()
+    cluster.until(cluster.ready, "the node is ready")
+    bench.same("the office in use is left", folder.exists(), False)
+    cluster.nodes[2].stop(signal.SIGTERM)
+    bench.same("what an end leaves", [path.name for path in folder.iterdir()], ["office"])
+    bench.same("rbac check of it", bench.run(["check", str(folder / "office")]).out, b"good\n")
+    cluster.nodes[2].start()
+    cluster.until(cluster.ready, "the node is ready again")
 
 
 def registered(cluster, made=False):
