@@ -50,7 +50,7 @@ func (s *settings) addRecord(office *single.Options, registry prometheus.Registe
 	return nil
 }
 
-// followRecord returns the record of a node, with its folder, the office in use and the entries of a part.
+// followRecord returns the record of a node, with its folder, the file of the office at a start and the entries of a part.
 func (s *settings) followRecord(data, office string, partEntries int64, log *logs.Logger, registry prometheus.Registerer) recorded.Follower {
 	return record.NewFollower(record.Options{
 		Office: office, Program: s.program, Dir: record.DirIn(data), HangTimeout: s.hangTimeout, PartEntries: partEntries, Log: log,

@@ -64,7 +64,7 @@ func NewFollower(options Options) *Follower {
 	f := &Follower{
 		Record: newRecord(options), wake: make(chan struct{}, 1), failed: make(chan struct{}), ended: make(chan struct{}),
 	}
-	// What the replay needs for the commands of all nodes must not become a part of it.
+	// What a start needs for the file of the office must not become a part of it.
 	f.keepsReserve, f.besides = true, disk.Reserve
 	if err := freeReserve(f.dir); err != nil {
 		f.Log.Error("the room that is kept for a full disk can't be freed", "why", err)
@@ -338,8 +338,7 @@ func (f *Follower) flush(level string) error {
 	return err
 }
 
-// roomFor returns why entries have to wait although they could be written: the disk was full, and a start needs what is free, since
-// the office in use gets the commands of all nodes.
+// roomFor returns why entries have to wait although they could be written: the disk was full, and a start needs what is free.
 func (f *Follower) roomFor(queue []entry, level string) error {
 	if len(queue) == 0 && level == "NORMAL" {
 		return nil // Nothing is written.
