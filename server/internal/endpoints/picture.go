@@ -104,7 +104,7 @@ func (q pictureQuery) part(s *state.State) (part state.Part, err error) {
 		case q.role == "":
 			part = v.Whole()
 		case len(q.from) > 0:
-			part = v.Graph().Between(q.from, q.role)
+			part = v.Between(q.from, q.role)
 		default:
 			part = v.Graph().Around(q.role, mostDrawn)
 		}

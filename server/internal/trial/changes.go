@@ -103,14 +103,14 @@ const separator = "\t"
 
 // grants returns the permissions that are granted to each role itself, except the roles that no session can have.
 func (seen *view) grants(v *state.View) map[string]set {
-	granted, graph := map[string]set{}, v.Graph()
+	granted := map[string]set{}
 	for i, one := range seen.permissions {
 		for _, role := range v.Names("permissionRoles", "object", one[0], "operation", one[1]) {
 			granted[role] = granted[role].with(i)
 		}
 	}
 	for role := range granted {
-		if set, _ := graph.Blocked(role); set != "" {
+		if set, _ := v.Blocked(role); set != "" {
 			delete(granted, role)
 		}
 	}
