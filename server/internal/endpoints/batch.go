@@ -2,7 +2,6 @@ package endpoints
 
 import (
 	"bytes"
-	"errors"
 	"net/http"
 	"net/url"
 	"strconv"
@@ -22,10 +21,6 @@ func (e *Endpoints) batch(r *request) (int, error) {
 		return err
 	})
 	defer leave()
-	var at *api.LineError
-	if errors.As(err, &at) {
-		r.w.Header().Set("Office-Line", strconv.Itoa(at.Number))
-	}
 	if err == nil {
 		err = r.may(calls...)
 	}

@@ -170,10 +170,13 @@ func (e *Endpoints) Serve(w http.ResponseWriter, r *http.Request, visitor Visito
 	}
 	asked.done()
 	if err != nil {
-		refused := api.Unavailable
-		_ = errors.As(err, &refused)
+		refused := api.RefusalOf(err)
 		if visitor != nil && (refused == api.Forbidden || refused == api.Unavailable) {
 			e.Denied(r, visitor, refused)
+		}
+		var line *api.LineError
+		if errors.As(err, &line) {
+			w.Header().Set("Office-Line", strconv.Itoa(line.Number))
 		}
 		status = api.Refuse(w, refused, at.methods...)
 	}

@@ -4,7 +4,6 @@ import (
 	"bufio"
 	"context"
 	"encoding/json"
-	"errors"
 	"fmt"
 	"net"
 	"net/http"
@@ -147,9 +146,7 @@ func (e *Endpoints) ServeTicket(w http.ResponseWriter, r *http.Request) bool {
 	start := time.Now()
 	status, err := e.serveTicket(w, r)
 	if err != nil {
-		refused := api.Unavailable
-		_ = errors.As(err, &refused)
-		status = api.Refuse(w, refused)
+		status = api.Refuse(w, api.RefusalOf(err))
 	}
 	e.Note("report", status, start)
 	return true

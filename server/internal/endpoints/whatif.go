@@ -1,9 +1,7 @@
 package endpoints
 
 import (
-	"errors"
 	"net/http"
-	"strconv"
 
 	"rbac-node/internal/api"
 )
@@ -45,10 +43,6 @@ func readTried(r *request) ([]*api.Call, error) {
 			err = &api.LineError{Number: api.LineOf(body, i), Refusal: refused}
 			break
 		}
-	}
-	var at *api.LineError
-	if errors.As(err, &at) {
-		r.w.Header().Set("Office-Line", strconv.Itoa(at.Number))
 	}
 	if err == nil && len(calls) == 0 {
 		err = notRead("the body has no command")

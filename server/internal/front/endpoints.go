@@ -18,8 +18,10 @@ func (f *Front) serveEndpoints(life context.Context) {
 	f.endpoints = endpoints.New(life, office, endpoints.Options{
 		PublicURL: f.PublicURL, Note: f.handler.Note,
 		Decided: func(r *http.Request, visitor endpoints.Visitor, decided api.Decision) {
-			visit, _ := visitor.(*callers.Visit)
-			decided.Caller = callerOf(r, visit)
+			if f.logged != nil {
+				visit, _ := visitor.(*callers.Visit)
+				decided.Caller = callerOf(r, visit)
+			}
 			f.handler.Decided(decided)
 		},
 		Sign: func(r *http.Request, visitor endpoints.Visitor, call *api.Call) error {

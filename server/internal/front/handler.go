@@ -61,7 +61,7 @@ func (f *Front) ServeHTTP(w http.ResponseWriter, r *http.Request) {
 	}
 	visit, why, err := f.guard.Enter(r)
 	if err != nil {
-		f.refuse(w, r, "", why, refusalOf(err))
+		f.refuse(w, r, "", why, api.RefusalOf(err))
 		return
 	}
 	defer visit.Leave()
@@ -177,7 +177,7 @@ func (f *Front) denied(r *http.Request, visit *callers.Visit, err error) error {
 	if err == nil {
 		return nil
 	}
-	refusal := refusalOf(err)
+	refusal := api.RefusalOf(err)
 	if refusal == api.Forbidden {
 		web.Refused(r.Context())
 	}
@@ -189,18 +189,11 @@ func (f *Front) denied(r *http.Request, visit *callers.Visit, err error) error {
 func (f *Front) answerMetrics(w http.ResponseWriter, r *http.Request, visit *callers.Visit) {
 	if visit != nil {
 		if err := visit.MayRead(callers.Metrics); err != nil {
-			f.refuse(w, r, visit.Caller, errDenied, refusalOf(err))
+			f.refuse(w, r, visit.Caller, errDenied, api.RefusalOf(err))
 			return
 		}
 	}
 	f.metrics.ServeHTTP(w, r)
-}
-
-// refusalOf returns how an error is answered.
-func refusalOf(err error) api.Refusal {
-	refusal := api.Unavailable
-	_ = errors.As(err, &refusal)
-	return refusal
 }
 
 // areOwn reports whether all origins of a request are those of the front's pages.
