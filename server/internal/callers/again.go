@@ -9,10 +9,7 @@ import (
 // Again does something while the caller of a request that is still being answered may do an operation, by the callers that are in
 // force now. A caller who is no longer known, or is another one, is refused.
 func (v *Visit) Again(r *http.Request, operation string, do func()) error {
-	v.guard.mutex.Lock()
-	set := v.guard.set
-	set.using++
-	v.guard.mutex.Unlock()
+	set := v.guard.use()
 	defer v.guard.leave(set)
 	caller, err := set.identify(r)
 	if err != nil || caller != v.Caller {

@@ -57,7 +57,7 @@ func (e *Endpoints) do(r *request, rule api.Rule, lines []*api.Call) ([][]byte, 
 	}
 	for i, answer := range answers {
 		if lines[i].Function == checkAccess || lines[i].Function == api.DecideByUser {
-			e.decided(r, queryOf(lines[i]), decisionOf(answer))
+			e.Decided(r.Request, r.visitor, queryOf(lines[i]).decision(answer))
 		}
 		if rule.IsStopped && !api.IsAccepted(answer) {
 			return answers[:i+1], nil

@@ -242,6 +242,14 @@ func (e *Endpoints) known(r *request) (*state.State, error) {
 	return e.office.State(), nil
 }
 
+// knownTo is known for a visitor that may do an operation.
+func (e *Endpoints) knownTo(r *request, operation string) (*state.State, error) {
+	if err := r.may(api.NewOther(operation)); err != nil {
+		return nil, err
+	}
+	return e.known(r)
+}
+
 // ask does calls as a rule says. The head of the answer says where in the order they were done.
 func (e *Endpoints) ask(r *request, rule api.Rule, calls ...*api.Call) ([][]byte, error) {
 	b := api.NewBatch(r.kind, calls...)

@@ -109,7 +109,7 @@ func factsOf(v *state.View, q query, base *api.Call) facts {
 // explainedUser explains a query about a user. A session in which the user may do the operation has a role to which the permission is
 // granted directly. It also may exist with this role alone.
 func (r *request) explainedUser(q query, seen facts) *explanation {
-	shown := &explanation{Allowed: decisionOf(seen.decision).allowed}
+	shown := &explanation{Allowed: string(seen.decision) == api.Allowed}
 	if !r.mayAsk("permissionRoles", q) || !r.mayAsk("authorizedRoles", q) || !r.mayAsk("assignedRoles", q) {
 		return shown
 	}
@@ -136,7 +136,7 @@ func (r *request) explainedUser(q query, seen facts) *explanation {
 
 // explainedSession explains a query about a session: by which roles it has a permission, and by which it might.
 func (r *request) explainedSession(q query, seen facts) *explanation {
-	shown := &explanation{Allowed: decisionOf(seen.decision).allowed}
+	shown := &explanation{Allowed: string(seen.decision) == api.Allowed}
 	q.user = seen.user
 	if !r.mayAsk("permissionRoles", q) || !r.mayAsk("sessionRoles", q) {
 		return shown

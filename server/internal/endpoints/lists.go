@@ -34,10 +34,7 @@ type page struct {
 
 // list answers a part of a list.
 func (e *Endpoints) list(r *request) (int, error) {
-	if err := r.may(api.NewOther(api.Lists)); err != nil {
-		return 0, err
-	}
-	s, err := e.known(r)
+	s, err := e.knownTo(r, api.Lists)
 	if err != nil {
 		return 0, err
 	}
@@ -65,10 +62,7 @@ func (e *Endpoints) list(r *request) (int, error) {
 // lists answers parts of several lists, a line for each. The head of the answer says which revision of the policy all are from, if
 // there is one.
 func (e *Endpoints) lists(r *request) (int, error) {
-	if err := r.may(api.NewOther(api.Lists)); err != nil {
-		return 0, err
-	}
-	s, err := e.known(r)
+	s, err := e.knownTo(r, api.Lists)
 	if err != nil {
 		return 0, err
 	}

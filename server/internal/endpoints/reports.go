@@ -40,10 +40,7 @@ type reportQuery struct {
 
 // report answers a ticket for a report, and how many lines it has. None of them has been made.
 func (e *Endpoints) report(r *request) (int, error) {
-	if err := r.may(api.NewOther(api.Reports)); err != nil {
-		return 0, err
-	}
-	s, err := e.known(r)
+	s, err := e.knownTo(r, api.Reports)
 	if err != nil {
 		return 0, err
 	}

@@ -11,10 +11,7 @@ const mostTried = 262_144
 
 // whatIf answers what commands would change. They are done over a clone of the office.
 func (e *Endpoints) whatIf(r *request) (int, error) {
-	if err := r.may(api.NewOther(api.WhatIf)); err != nil {
-		return 0, err
-	}
-	office, err := e.known(r)
+	office, err := e.knownTo(r, api.WhatIf)
 	if err != nil {
 		return 0, err
 	}

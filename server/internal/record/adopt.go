@@ -10,6 +10,8 @@ import (
 	"strings"
 	"unicode"
 	"unicode/utf8"
+
+	"rbac-node/internal/disk"
 )
 
 const (
@@ -172,9 +174,7 @@ func (r *Record) changed(ctx context.Context, copied string) (*changes, error) {
 		return nil, err
 	}
 	err = again.each(ctx, entriesAfter(ctx, r.db, n, r.head.n))
-	if closing := again.Close(); err == nil {
-		err = closing
-	}
+	err = disk.Close(again, err)
 	var wrong *AnswerError
 	if errors.As(err, &wrong) {
 		return nil, nil

@@ -17,6 +17,7 @@ import (
 	"syscall"
 	"time"
 
+	"rbac-node/internal/disk"
 	"rbac-node/internal/office"
 )
 
@@ -58,7 +59,7 @@ func (t *Tool) Backup(ctx context.Context, folder string) error {
 	if err := os.Rename(making, made); err != nil {
 		return fmt.Errorf("backup: %w", err)
 	}
-	if err := syncPath(folder); err != nil {
+	if err := disk.Sync(folder); err != nil {
 		return fmt.Errorf("backup: %w", err)
 	}
 	fmt.Fprintln(t.Out, made)
@@ -78,7 +79,7 @@ func linkOrCopy(path, to, folder string) error {
 			return nil
 		}
 	}
-	return copyFile(path, to)
+	return disk.Copy(path, to)
 }
 
 // isSame reports whether two files have the same bytes.
@@ -139,17 +140,7 @@ func (t *Tool) copyPair(ctx context.Context, files []string, to string) error {
 			return err
 		}
 	}
-	return syncAll(filepath.Dir(to))
-}
-
-// syncAll makes a folder durable with all that is in it.
-func syncAll(folder string) error {
-	return filepath.Walk(folder, func(path string, _ os.FileInfo, err error) error {
-		if err != nil {
-			return err
-		}
-		return syncPath(path)
-	})
+	return disk.SyncAll(filepath.Dir(to))
 }
 
 // A keptPair is what is left to copy once the office goes on: the record as it was, and the newest base.
@@ -192,9 +183,7 @@ func (k *keptPair) copyTo(ctx context.Context, path string) error {
 		return err
 	}
 	_, err = db.ExecContext(ctx, schema)
-	if closing := db.Close(); err == nil {
-		err = closing
-	}
+	err = disk.Close(db, err)
 	if err != nil {
 		return err
 	}

@@ -8,6 +8,8 @@ import (
 	"path/filepath"
 	"strings"
 	"time"
+
+	"rbac-node/internal/disk"
 )
 
 const (
@@ -83,11 +85,7 @@ func (r *Record) place() (last entry) {
 
 // keepPlace writes up to which entry the chain was verified.
 func (r *Record) keepPlace(last entry) error {
-	making := filepath.Join(r.dir, placeName+".making")
-	if err := os.WriteFile(making, []byte(Head{last.n, last.ch}.String()+"\n"), 0o600); err != nil {
-		return err
-	}
-	return os.Rename(making, filepath.Join(r.dir, placeName))
+	return disk.Write(filepath.Join(r.dir, placeName), Head{last.n, last.ch}.String()+"\n")
 }
 
 // verifyStart verifies the chain of the file at hand from the last verified place on.

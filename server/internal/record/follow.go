@@ -128,9 +128,7 @@ func (f *Follower) closeBefore(n int64) (has bool, err error) {
 		return true, err
 	}
 	first, last, err := endsOf(db)
-	if closing := db.Close(); err == nil {
-		err = closing
-	}
+	err = disk.Close(db, err)
 	if err != nil || last >= n {
 		return true, err
 	}
@@ -178,7 +176,7 @@ func (f *Follower) prepare(ctx context.Context) error {
 	}
 	return f.withCopy(ctx, f.Office, func(copied, rows string) error {
 		f.prepared = part{first: 1, why: beginning, rows: rows}
-		return copyFile(copied, filepath.Join(f.dir, preparedName))
+		return disk.Copy(copied, filepath.Join(f.dir, preparedName))
 	})
 }
 

@@ -9,6 +9,7 @@ import (
 	"path/filepath"
 	"time"
 
+	"rbac-node/internal/disk"
 	"rbac-node/internal/faults"
 	"rbac-node/internal/office"
 )
@@ -159,7 +160,7 @@ func startOf(ctx context.Context, db *sql.DB, dir, to string, newest int64) (int
 		return 0, err
 	}
 	for _, b := range bases {
-		if b.n < n || b.n > newest || copyFile(filepath.Join(dir, b.name()), to) != nil {
+		if b.n < n || b.n > newest || disk.Copy(filepath.Join(dir, b.name()), to) != nil {
 			continue
 		}
 		if rows, err := rowsOf(ctx, to); err == nil && rows == b.rows {

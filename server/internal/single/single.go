@@ -16,6 +16,7 @@ import (
 	"time"
 
 	"rbac-node/internal/api"
+	"rbac-node/internal/disk"
 	"rbac-node/internal/faults"
 	"rbac-node/internal/feed"
 	"rbac-node/internal/logs"
@@ -194,20 +195,7 @@ func makeIfMissing(ctx context.Context, program, path string) error {
 	if err := os.Rename(making, path); err != nil {
 		return fmt.Errorf("make an office: %w", err)
 	}
-	return syncFolder(filepath.Dir(path))
-}
-
-// syncFolder makes the names in a folder durable.
-func syncFolder(path string) error {
-	folder, err := os.Open(path)
-	if err != nil {
-		return err
-	}
-	defer folder.Close()
-	if err := folder.Sync(); err != nil {
-		return fmt.Errorf("sync %s: %w", path, err)
-	}
-	return nil
+	return disk.Sync(filepath.Dir(path))
 }
 
 // Run answers until the context ends, and then those that have asked before.
