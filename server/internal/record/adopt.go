@@ -108,10 +108,7 @@ func (r *Record) beginAnew(ctx context.Context, by adoption, reason string) erro
 
 // adoptFirst begins the record of an office that has commands and no record.
 func (t *Tool) adoptFirst(ctx context.Context, by adoption, reason string) error {
-	lock, err := t.lockIfFree(ctx)
-	if err == nil && lock == nil {
-		err = errFrontRuns
-	}
+	lock, err := t.lock(ctx)
 	if err != nil {
 		return err
 	}
@@ -234,11 +231,8 @@ func (c *changes) add(ctx context.Context, db *sql.DB, query, sign, table string
 		if len(c.Rows) == mostChanged {
 			continue
 		}
-		values, places := make([]any, len(names)), make([]any, len(names))
-		for i := range values {
-			places[i] = &values[i]
-		}
-		if err := rows.Scan(places...); err != nil {
+		values := make([]any, len(names))
+		if err := rows.Scan(placesOf(values)...); err != nil {
 			return err
 		}
 		c.Rows = append(c.Rows, append([]any{sign, table}, values...))

@@ -48,22 +48,17 @@ func followChain(ctx context.Context, path string, last entry, to int64, each ..
 		return last, err
 	}
 	defer v.Close()
-	ctx, cancel := context.WithCancel(ctx)
-	defer cancel() // It closes what is still being read.
-	next := entriesAfter(ctx, v.tx, last.n, to)
-	for {
-		e, err := next()
-		if err != nil || e == nil {
-			return last, err
-		}
+	err = entriesAfter(ctx, v.tx, last.n, to)(func(e *entry) error {
 		if e.n != last.n+1 || chained(last.ch, e) != e.ch {
-			return last, &breakError{last.n + 1}
+			return &breakError{last.n + 1}
 		}
 		last = *e
 		for _, do := range each {
 			do(last)
 		}
-	}
+		return nil
+	})
+	return last, err
 }
 
 // place returns the entry up to which the chain of the file at hand was verified, if it is there.

@@ -66,10 +66,7 @@ func (t *Tool) cutNode(ctx context.Context) error {
 	if _, err := filesOf(t.dir()); err != nil {
 		return err
 	}
-	lock, err := t.lockIfFree(ctx)
-	if err == nil && lock == nil {
-		err = errNodeRuns
-	}
+	lock, err := t.lock(ctx)
 	if err != nil {
 		return err
 	}
@@ -197,7 +194,7 @@ func (f *Follower) divide(ctx context.Context, head Head, rows, copied string) (
 		f.fail(failed)
 		return "", failed
 	}
-	f.noteWriting(nil)
+	f.note(nil, entriesWait)
 	return closed, err
 }
 
@@ -208,7 +205,7 @@ func (f *Follower) insist(ctx context.Context, do func() error) error {
 		if err == nil || !mayPass(err) {
 			return err
 		}
-		f.noteWriting(err)
+		f.note(err, entriesWait)
 		if wait(ctx, retryPause) != nil {
 			return err
 		}

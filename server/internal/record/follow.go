@@ -324,7 +324,7 @@ func (f *Follower) flush(level string) error {
 	if err = noRoom; err == nil {
 		err = f.append(queue, level)
 	}
-	f.noteWriting(err)
+	f.note(err, entriesWait)
 	f.mutex.Lock()
 	defer f.mutex.Unlock()
 	switch {
@@ -364,20 +364,8 @@ func mayPass(err error) bool {
 	return false
 }
 
-// noteWriting notes whether entries can be written, and logs when that changes.
-func (f *Follower) noteWriting(err error) {
-	f.Record.mutex.Lock()
-	defer f.Record.mutex.Unlock()
-	switch {
-	case err != nil && f.failing == "":
-		f.Log.Error("the record can't be written, so its entries wait", "why", err)
-	case err == nil && f.failing != "":
-		f.Log.Info("the record can be written again")
-	}
-	if f.failing = ""; err != nil {
-		f.failing = err.Error()
-	}
-}
+// entriesWait is what follows if they can't be written.
+const entriesWait = "the record can't be written, so its entries wait"
 
 func (f *Follower) append(queue []entry, level string) error {
 	if err := f.sync(level); err != nil {

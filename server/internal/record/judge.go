@@ -92,7 +92,7 @@ func (v *verifier) compareBases(ctx context.Context, opened *view, p part, end i
 		if b.n < p.first || b.n > end {
 			continue
 		}
-		if err := again.each(ctx, v.checked(entriesAfter(ctx, opened.tx, v.last.n, b.n), p)); err != nil {
+		if err := again.each(ctx, v.checked(ctx, opened, p, b.n)); err != nil {
 			return err
 		}
 		given, err := again.sums(ctx)

@@ -99,6 +99,18 @@ func lockReadOnly(path string) (*os.File, error) {
 	return nil, fmt.Errorf("lock: %w", err)
 }
 
+// lock locks the office, or refuses that since a front has it.
+func (t *Tool) lock(ctx context.Context) (*os.File, error) {
+	lock, err := t.lockIfFree(ctx)
+	if err == nil && lock == nil && t.Data != "" {
+		return nil, errNodeRuns
+	}
+	if err == nil && lock == nil {
+		return nil, errFrontRuns
+	}
+	return lock, err
+}
+
 var errFrontRuns = errors.New("a front has the office: stop it first")
 
 // openLocked opens the record of an office that no front has. The lock has to be closed.
@@ -109,10 +121,7 @@ func (t *Tool) openLocked(ctx context.Context) (*Record, *os.File, error) {
 	if _, err := filesOf(DirOf(t.Office)); err != nil {
 		return nil, nil, err
 	}
-	lock, err := t.lockIfFree(ctx)
-	if err == nil && lock == nil {
-		err = errFrontRuns
-	}
+	lock, err := t.lock(ctx)
 	if err != nil {
 		return nil, nil, err
 	}
