@@ -156,7 +156,7 @@ func officeOf(lines [][]byte) (*rbacoffice.Office, error) {
 		rows = append(rows, more...)
 		done++
 	}
-	office, err := rbacoffice.Load(append(rows, closure(rows)...), 0)
+	office, err := rbacoffice.Load(append(rows, rbacoffice.Closure(rows)...), 0)
 	if err != nil {
 		return nil, diverged("the snapshot is none of an office")
 	}
@@ -167,32 +167,6 @@ func officeOf(lines [][]byte) (*rbacoffice.Office, error) {
 		}
 	}
 	return office, nil
-}
-
-// closure returns the pairs of a role and one that it inherits from, directly or through others.
-func closure(rows []rbacoffice.Row) []rbacoffice.Row {
-	juniors := map[string][]string{}
-	for _, row := range rows {
-		if row.Table == rbacoffice.Inheritances {
-			juniors[row.Names[0]] = append(juniors[row.Names[0]], row.Names[1])
-		}
-	}
-	var pairs []rbacoffice.Row
-	for senior := range juniors {
-		reached, ahead := map[string]bool{}, []string{senior}
-		for len(ahead) > 0 {
-			role := ahead[len(ahead)-1]
-			ahead = ahead[:len(ahead)-1]
-			for _, junior := range juniors[role] {
-				if !reached[junior] {
-					reached[junior] = true
-					ahead = append(ahead, junior)
-					pairs = append(pairs, rbacoffice.Row{Table: rbacoffice.ClosurePairs, Names: [3]string{senior, junior}})
-				}
-			}
-		}
-	}
-	return pairs
 }
 
 // do does a command that the office of the front has accepted.

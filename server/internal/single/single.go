@@ -21,6 +21,7 @@ import (
 	"rbac-node/internal/feed"
 	"rbac-node/internal/logs"
 	"rbac-node/internal/office"
+	"rbac-node/internal/recorded"
 )
 
 const (
@@ -60,6 +61,9 @@ type Recorder interface {
 	Before(ctx context.Context) error
 	// Why says why no command is recorded now, or is empty.
 	Why() string
+	// Recorded returns entries, and Links the next ones after an entry, up to the head.
+	Recorded(ctx context.Context, query recorded.Query) (recorded.Page, error)
+	Links(ctx context.Context, after int64) (recorded.Links, error)
 	// Close ends the record. No replay runs any more, and the last one has ended in order or not.
 	Close(isInOrder bool) error
 }
