@@ -5,7 +5,6 @@ import (
 	"context"
 	"errors"
 	"fmt"
-	"io"
 	"net/http"
 	"strconv"
 	"strings"
@@ -290,7 +289,7 @@ func read(r *http.Request, may func(function string) error) (Kind, *Call, error)
 			return kind, nil, err
 		}
 	}
-	body, err := io.ReadAll(r.Body)
+	body, err := readAll(r)
 	if err != nil {
 		return kind, nil, BadRequest(http.StatusBadRequest)
 	}

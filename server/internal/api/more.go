@@ -22,11 +22,24 @@ func ReadBody(r *http.Request, most int64) ([]byte, error) {
 	case r.ContentLength > most:
 		return nil, tooLong(most)
 	}
-	body, err := io.ReadAll(r.Body)
+	body, err := readAll(r)
 	if err != nil {
 		return nil, BadRequest(http.StatusBadRequest)
 	}
 	return body, nil
+}
+
+// readAll reads the body of a request that says how long it is. It takes little memory before the client has sent some of it.
+func readAll(r *http.Request) ([]byte, error) {
+	if r.ContentLength <= SmallBody {
+		body := make([]byte, r.ContentLength)
+		_, err := io.ReadFull(r.Body, body)
+		return body, err
+	}
+	var body bytes.Buffer
+	body.Grow(SmallBody)
+	_, err := body.ReadFrom(r.Body)
+	return body.Bytes(), err
 }
 
 // RefusalText returns a refusal as the office writes it.

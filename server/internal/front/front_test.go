@@ -253,7 +253,7 @@ func TestReload(t *testing.T) {
 			if given := [2]int{ask(clerk), ask(boss)}; given != [2]int{test.clerk, test.boss} {
 				t.Errorf("%v", given)
 			}
-			if since := f.refusedAt.load(); (since > 0) != test.isRefused {
+			if since := f.refusedAt.Load(); (since > 0) != test.isRefused {
 				t.Errorf("refused since %v", since)
 			}
 		})

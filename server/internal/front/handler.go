@@ -3,11 +3,9 @@ package front
 import (
 	"encoding/json"
 	"errors"
-	"math"
 	"net"
 	"net/http"
 	"strings"
-	"sync/atomic"
 	"time"
 
 	"rbac-node/internal/api"
@@ -237,10 +235,3 @@ func isLocalHost(host string) bool {
 	ip := net.ParseIP(name)
 	return ip != nil && ip.IsLoopback()
 }
-
-// A gauge is a number that many goroutines may use.
-type gauge struct{ bits atomic.Uint64 }
-
-func (g *gauge) store(value float64) { g.bits.Store(math.Float64bits(value)) }
-
-func (g *gauge) load() float64 { return math.Float64frombits(g.bits.Load()) }
