@@ -79,6 +79,22 @@ func (v *Visit) Rights() ([]Grant, error) {
 	return v.set.grantsOf(v.Caller)
 }
 
+// Again does something while the caller of a request that is still being answered may do an operation, by the callers that are in
+// force now. A caller who is no longer known, or is another one, is refused.
+func (v *Visit) Again(r *http.Request, operation string, do func()) error {
+	set := v.guard.use()
+	defer v.guard.leave(set)
+	caller, err := set.identify(r)
+	if err != nil || caller != v.Caller {
+		return api.Unauthorized
+	}
+	if err := set.MayRead(caller, operation); err != nil {
+		return err
+	}
+	do()
+	return nil
+}
+
 // Done says that the office has nothing more to do for the request. Other callers may then come into force.
 func (v *Visit) Done() {
 	v.guard.mutex.Lock()

@@ -125,8 +125,8 @@ func removeScratch(office, dir string) {
 
 // hasRoom reports whether there is room in memory for copies of an office.
 func hasRoom(office string) bool {
-	var about syscall.Statfs_t
-	if err := syscall.Statfs(memory, &about); err != nil {
+	free, err := disk.Free(memory)
+	if err != nil {
 		return false
 	}
 	size := int64(spareMemory)
@@ -135,7 +135,7 @@ func hasRoom(office string) bool {
 			size += copies * file.Size()
 		}
 	}
-	return int64(about.Bavail)*about.Bsize > size
+	return free > size
 }
 
 // copyOffice copies an office and its log, which nobody writes meanwhile.
