@@ -76,9 +76,8 @@ type Front struct {
 	// refusedAt is since when the files of the callers aren't those in force, in nanoseconds of Unix, or 0.
 	refusedAt atomic.Int64
 	handler   *api.Handler
-	// endpoints is nil if the office can do no more than its functions.
 	endpoints *endpoints.Endpoints
-	office    api.Office
+	office    endpoints.Office
 	listeners []net.Listener
 	servers   []*http.Server
 	// stage says what a start does, and isServing that it has come to its end.
@@ -205,7 +204,7 @@ func (f *Front) configAt(i int) *tls.Config {
 }
 
 // Serve answers clients from an office.
-func (f *Front) Serve(life context.Context, start func(func() error), office api.Office) {
+func (f *Front) Serve(life context.Context, start func(func() error), office endpoints.Office) {
 	f.office, f.handler = office, api.NewHandler(life, office, f.Metrics)
 	if f.logged != nil {
 		f.handler.LogDecision = f.logged.Note

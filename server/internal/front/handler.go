@@ -31,7 +31,7 @@ func (f *Front) ServeHTTP(w http.ResponseWriter, r *http.Request) {
 		f.serveStart(w, r)
 		return
 	}
-	if origins, has := r.Header["Origin"]; has && !f.areOwn(origins) && !(f.endpoints != nil && isOwnPage(r, origins)) {
+	if origins, has := r.Header["Origin"]; has && !f.areOwn(origins) && !isOwnPage(r, origins) {
 		api.Close(w)
 		f.refuse(w, r, "", errors.New("a page of "+strings.Join(origins, ", ")), api.ForeignOrigin)
 		return
@@ -45,10 +45,10 @@ func (f *Front) ServeHTTP(w http.ResponseWriter, r *http.Request) {
 		f.serveHealth(w, r)
 		return
 	}
-	if f.endpoints != nil && (f.endpoints.ServeConfiguration(w, r) || f.endpoints.ServeTicket(w, r)) {
+	if f.endpoints.ServeConfiguration(w, r) || f.endpoints.ServeTicket(w, r) {
 		return
 	}
-	if f.endpoints != nil && console.Has(r) {
+	if console.Has(r) {
 		start := time.Now()
 		f.handler.Note("page", console.Serve(w, r), start)
 		return
@@ -132,7 +132,7 @@ func (f *Front) answer(w http.ResponseWriter, r *http.Request, visit *callers.Vi
 		f.answerMetrics(w, r, visit)
 		return
 	}
-	if f.endpoints != nil && f.endpoints.Has(r) {
+	if f.endpoints.Has(r) {
 		f.answerEndpoint(w, r, visit)
 		return
 	}
