@@ -2,8 +2,9 @@ package rbacoffice
 
 import "sort"
 
-// Closure returns the closure pairs that follow from the inheritances among some rows, in the order of the roles there, in which Load takes
-// them fastest. Load needs them, and refuses other pairs.
+// Closure returns the closure pairs that follow from the inheritances among some rows: those that Load needs beside them. They are in the
+// order in which the rows have the roles, and Load is fastest if that is their byte order. An inheritance of a role that isn't among the
+// rows gives no pair: Load refuses such rows.
 func Closure(rows []Row) (pairs []Row) {
 	var roles []string
 	places, juniors := map[string]int{}, [][]int{}

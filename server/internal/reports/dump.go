@@ -36,7 +36,8 @@ func dump(office *state.Frozen) *Report {
 		{"addPermission", office.Permissions, []string{"object", "operation"}},
 		{"grantPermission", office.Grants, []string{"object", "operation", "role"}},
 	}
-	assigned, locked := table{"assignUser", office.Assigned, []string{"user", "role"}}, table{"lockUserAccount", office.Locked, []string{"user"}}
+	assigned := table{"assignUser", office.Assigned, []string{"user", "role"}}
+	locked := table{"lockUserAccount", office.Locked, []string{"user"}}
 	static, dynamic := office.Graph.Static, office.Graph.Dynamic
 	report := &Report{Lines: int64(len(static) + len(dynamic) + len(office.Sessions))}
 	for _, one := range append(before, assigned, locked) {
