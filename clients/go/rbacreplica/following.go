@@ -230,7 +230,7 @@ func (r *Replica) accepted(event rbacclient.Event) error {
 // holds the lock.
 func (r *Replica) noteSession(text []byte) {
 	var line snapshotLine
-	if !isAboutSession(text) || json.Unmarshal(text, &line) != nil || line.Fn != "createSession" || len(line.Roles) > 0 {
+	if !isAboutSession(text) || json.Unmarshal(text, &line) != nil || line.Fn != "createSession" || line.Roles != nil && len(*line.Roles) > 0 {
 		return
 	}
 	if r.young == nil || len(r.young) >= mostYoung {

@@ -3,18 +3,25 @@ package rbacreplica
 import (
 	"bytes"
 	"encoding/json"
-	"strconv"
 	"sync"
 
 	"rbac/clients/go/rbacclient"
 	"rbac/clients/go/rbacoffice"
 )
 
-// snapshotLine is a line of a snapshot.
+// snapshotLine is a line of a snapshot. Its fields are in the order of the keys of each line, as the front writes it.
 type snapshotLine struct {
-	Fn, User, Role, Asc, Desc, Object, Operation, Set, Session string
-	Roles                                                      []string
-	Cardinality                                                uint32
+	Fn          string    `json:"fn"`
+	User        string    `json:"user,omitempty"`
+	Asc         string    `json:"asc,omitempty"`
+	Desc        string    `json:"desc,omitempty"`
+	Object      string    `json:"object,omitempty"`
+	Operation   string    `json:"operation,omitempty"`
+	Role        string    `json:"role,omitempty"`
+	Set         string    `json:"set,omitempty"`
+	Roles       *[]string `json:"roles,omitempty"` // A list may be empty.
+	Cardinality uint32    `json:"cardinality,omitempty"`
+	Session     string    `json:"session,omitempty"`
 }
 
 // rows returns the rows that a line makes, or false if it isn't one of those that snapshots have.
@@ -24,14 +31,17 @@ func (l *snapshotLine) rows() ([]rbacoffice.Row, bool) {
 		copy(made.Names[:], names)
 		return made
 	}
-	list := func(first rbacoffice.Row, table rbacoffice.Table, name string) []rbacoffice.Row {
+	list := func(first rbacoffice.Row, table rbacoffice.Table, name string) ([]rbacoffice.Row, bool) {
+		if l.Roles == nil {
+			return nil, false
+		}
 		found := []rbacoffice.Row{first}
-		for _, role := range l.Roles {
+		for _, role := range *l.Roles {
 			found = append(found, row(table, name, role))
 		}
-		return found
+		return found, true
 	}
-	set := func(cardinalities, members rbacoffice.Table) []rbacoffice.Row {
+	set := func(cardinalities, members rbacoffice.Table) ([]rbacoffice.Row, bool) {
 		first := row(cardinalities, l.Set)
 		first.Number = l.Cardinality
 		return list(first, members, l.Set)
@@ -52,13 +62,13 @@ func (l *snapshotLine) rows() ([]rbacoffice.Row, bool) {
 	case "assignUser":
 		return []rbacoffice.Row{row(rbacoffice.Assignments, l.User, l.Role)}, true
 	case "createSsdSet":
-		return set(rbacoffice.StaticCardinalities, rbacoffice.StaticMembers), true
+		return set(rbacoffice.StaticCardinalities, rbacoffice.StaticMembers)
 	case "createDsdSet":
-		return set(rbacoffice.DynamicCardinalities, rbacoffice.DynamicMembers), true
+		return set(rbacoffice.DynamicCardinalities, rbacoffice.DynamicMembers)
 	case "lockUserAccount":
 		return []rbacoffice.Row{row(rbacoffice.Locks, l.User)}, true
 	case "createSession":
-		return list(row(rbacoffice.Sessions, l.Session, l.User), rbacoffice.ActivatedRoles, l.Session), true
+		return list(row(rbacoffice.Sessions, l.Session, l.User), rbacoffice.ActivatedRoles, l.Session)
 	}
 	return nil, false
 }
@@ -68,76 +78,15 @@ func (l *snapshotLine) read(text []byte) error {
 	return json.Unmarshal(text, l)
 }
 
-// lineKeys are the keys of the lines of a snapshot, in the order in which the front writes them.
-var lineKeys = map[string][]string{
-	"addUser":         {"user"},
-	"addRole":         {"role"},
-	"addInheritance":  {"asc", "desc"},
-	"addPermObj":      {"object"},
-	"addPermission":   {"object", "operation"},
-	"grantPermission": {"object", "operation", "role"},
-	"assignUser":      {"user", "role"},
-	"createSsdSet":    {"set", "roles", "cardinality"},
-	"createDsdSet":    {"set", "roles", "cardinality"},
-	"lockUserAccount": {"user"},
-	"createSession":   {"user", "roles", "session"},
-}
-
 // written returns the line as the front writes it. One that is written in another way may mean something else.
 func (l *snapshotLine) written() []byte {
-	text := append(append([]byte(`{"fn":"`), l.Fn...), '"')
-	for _, key := range lineKeys[l.Fn] {
-		text = append(append(append(text, `,"`...), key...), `":`...)
-		switch key {
-		case "cardinality":
-			text = strconv.AppendUint(text, uint64(l.Cardinality), 10)
-		case "roles":
-			text = append(text, '[')
-			for i, role := range l.Roles {
-				if i > 0 {
-					text = append(text, ',')
-				}
-				text = appendQuoted(text, role)
-			}
-			text = append(text, ']')
-		default:
-			text = appendQuoted(text, l.name(key))
-		}
+	var text bytes.Buffer
+	encoder := json.NewEncoder(&text)
+	encoder.SetEscapeHTML(false)
+	if err := encoder.Encode(l); err != nil {
+		return nil
 	}
-	return append(text, '}')
-}
-
-// name returns the value of a key whose value is a name.
-func (l *snapshotLine) name(key string) string {
-	switch key {
-	case "user":
-		return l.User
-	case "role":
-		return l.Role
-	case "asc":
-		return l.Asc
-	case "desc":
-		return l.Desc
-	case "object":
-		return l.Object
-	case "operation":
-		return l.Operation
-	case "set":
-		return l.Set
-	}
-	return l.Session
-}
-
-// appendQuoted appends a name as the front writes it: with a backslash before quotes and backslashes.
-func appendQuoted(text []byte, name string) []byte {
-	text = append(text, '"')
-	for i := 0; i < len(name); i++ {
-		if name[i] == '"' || name[i] == '\\' {
-			text = append(text, '\\')
-		}
-		text = append(text, name[i])
-	}
-	return append(text, '"')
+	return bytes.TrimSuffix(text.Bytes(), []byte("\n"))
 }
 
 // officeOf returns the office that the lines of a snapshot make: by its rows, since a large office is loaded faster by them.
@@ -156,7 +105,7 @@ func officeOf(lines [][]byte) (*rbacoffice.Office, error) {
 		rows = append(rows, more...)
 		done++
 	}
-	office, err := rbacoffice.Load(append(rows, closure(rows)...), 0)
+	office, err := rbacoffice.Load(append(rows, rbacoffice.Closure(rows)...), 0)
 	if err != nil {
 		return nil, diverged("the snapshot is none of an office")
 	}
@@ -167,32 +116,6 @@ func officeOf(lines [][]byte) (*rbacoffice.Office, error) {
 		}
 	}
 	return office, nil
-}
-
-// closure returns the pairs of a role and one that it inherits from, directly or through others.
-func closure(rows []rbacoffice.Row) []rbacoffice.Row {
-	juniors := map[string][]string{}
-	for _, row := range rows {
-		if row.Table == rbacoffice.Inheritances {
-			juniors[row.Names[0]] = append(juniors[row.Names[0]], row.Names[1])
-		}
-	}
-	var pairs []rbacoffice.Row
-	for senior := range juniors {
-		reached, ahead := map[string]bool{}, []string{senior}
-		for len(ahead) > 0 {
-			role := ahead[len(ahead)-1]
-			ahead = ahead[:len(ahead)-1]
-			for _, junior := range juniors[role] {
-				if !reached[junior] {
-					reached[junior] = true
-					ahead = append(ahead, junior)
-					pairs = append(pairs, rbacoffice.Row{Table: rbacoffice.ClosurePairs, Names: [3]string{senior, junior}})
-				}
-			}
-		}
-	}
-	return pairs
 }
 
 // do does a command that the office of the front has accepted.

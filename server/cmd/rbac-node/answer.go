@@ -6,7 +6,7 @@ import (
 
 	"github.com/coreos/go-systemd/daemon"
 
-	"rbac-node/internal/api"
+	"rbac-node/internal/endpoints"
 	"rbac-node/internal/front"
 	"rbac-node/internal/logs"
 )
@@ -16,7 +16,7 @@ const endTimeout = 10 * time.Second
 
 // An answerer is an office that runs until a context ends.
 type answerer interface {
-	api.Office
+	endpoints.Office
 	Run(ctx context.Context) error
 	IsAlive(ctx context.Context) bool
 }

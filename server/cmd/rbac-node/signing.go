@@ -1,8 +1,6 @@
 package main
 
 import (
-	"crypto/tls"
-	"crypto/x509"
 	"errors"
 	"flag"
 	"fmt"
@@ -14,6 +12,7 @@ import (
 	"time"
 
 	"rbac-node/internal/record"
+	"rbac-node/internal/web"
 )
 
 const (
@@ -26,17 +25,18 @@ const (
 // signCommand is what the command line of sign chooses.
 type signCommand struct {
 	record.Signer
-	ca, cert, key, token string
+	files web.TLS
+	token string
 }
 
 // prepareSign defines the flags of `record sign`, and returns what signs the head of a record that a front on another machine keeps.
 func prepareSign(flags *flag.FlagSet) func([]string) error {
 	c := &signCommand{Signer: record.Signer{Out: os.Stdout}}
 	flags.StringVar(&c.URL, "url", "", "`URL` of the front, such as https://office.example:8443")
-	flags.StringVar(&c.ca, "ca", "", "`file` of the authority of the front's certificate; without it those of the system")
+	flags.StringVar(&c.files.CA, "ca", "", "`file` of the authority of the front's certificate; without it those of the system")
 	flags.StringVar(&c.token, "token", "", "`file` of a token that shows who asks")
-	flags.StringVar(&c.cert, "tls-cert", "", "`file` of a certificate that shows who asks")
-	flags.StringVar(&c.key, "tls-key", "", "`file` of its key")
+	flags.StringVar(&c.files.Cert, "tls-cert", "", "`file` of a certificate that shows who asks")
+	flags.StringVar(&c.files.Key, "tls-key", "", "`file` of its key")
 	flags.StringVar(&c.Key, "key", "", "`file` of the key that signs, of minisign or ssh-keygen")
 	flags.StringVar(&c.Heads, "heads", "", "`file` of the signed heads, to which one is added")
 	flags.BoolVar(&c.IsFirst, "begin", false, "sign the first head of a new file")
@@ -45,7 +45,7 @@ func prepareSign(flags *flag.FlagSet) func([]string) error {
 
 // sign signs the head.
 func (c *signCommand) sign() error {
-	if c.URL == "" || c.Key == "" || c.Heads == "" || (c.cert == "") != (c.key == "") {
+	if c.URL == "" || c.Key == "" || c.Heads == "" || (c.files.Cert == "") != (c.files.Key == "") {
 		return errUsage
 	}
 	if err := c.prepare(); err != nil {
@@ -70,23 +70,9 @@ func (c *signCommand) prepare() error {
 	if address := net.ParseIP(front.Hostname()); front.Scheme != "https" && (front.Scheme != "http" || address == nil || !address.IsLoopback()) {
 		return fmt.Errorf("%s: it has to begin with https://, or with http:// and an address of this machine", c.URL)
 	}
-	settings := &tls.Config{MinVersion: tls.VersionTLS12}
-	if c.ca != "" {
-		text, err := os.ReadFile(c.ca)
-		if err != nil {
-			return err
-		}
-		settings.RootCAs = x509.NewCertPool()
-		if !settings.RootCAs.AppendCertsFromPEM(text) {
-			return fmt.Errorf("%s: it has no certificate", c.ca)
-		}
-	}
-	if c.cert != "" {
-		pair, err := tls.LoadX509KeyPair(c.cert, c.key)
-		if err != nil {
-			return err
-		}
-		settings.Certificates = []tls.Certificate{pair}
+	settings, err := c.files.Client(front.Hostname())
+	if err != nil {
+		return err
 	}
 	if c.token != "" {
 		text, err := os.ReadFile(c.token)

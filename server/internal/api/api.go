@@ -2,12 +2,9 @@
 package api
 
 import (
-	"bytes"
 	"context"
-	"encoding/json"
 	"errors"
 	"fmt"
-	"io"
 	"net/http"
 	"strconv"
 	"strings"
@@ -84,6 +81,13 @@ func (r Refusal) Error() string {
 	return r.Name + ": " + r.Why
 }
 
+// RefusalOf returns how an error is answered.
+func RefusalOf(err error) Refusal {
+	refused := Unavailable
+	_ = errors.As(err, &refused)
+	return refused
+}
+
 var (
 	// Unavailable means that there was no answer in time. A command may be done or not.
 	Unavailable = Refusal{Status: http.StatusServiceUnavailable, Code: 60, Name: "Unavailable"}
@@ -100,22 +104,24 @@ var (
 	// ForeignHost means that the request was sent to a name that isn't one of this machine.
 	ForeignHost = Refusal{Status: http.StatusMisdirectedRequest, Code: 66, Name: "ForeignHost"}
 	// Outdated means that the policy has changed since the revision that the request names.
-	Outdated        = Refusal{Status: http.StatusPreconditionFailed, Code: 67, Name: "Outdated"}
-	unknownFunction = Refusal{Status: http.StatusNotFound, Code: 35, Name: "UnknownFunction"}
+	Outdated = Refusal{Status: http.StatusPreconditionFailed, Code: 67, Name: "Outdated"}
+	// UnknownFunction means that nothing is at a path.
+	UnknownFunction = Refusal{Status: http.StatusNotFound, Code: 35, Name: "UnknownFunction"}
 )
 
-func badRequest(status int) Refusal { return Refusal{Status: status, Code: 34, Name: "BadRequest"} }
+// BadRequest is the refusal of a request that can't be read.
+func BadRequest(status int) Refusal { return Refusal{Status: status, Code: 34, Name: "BadRequest"} }
 
-// badRequestSince is badRequest with what is wrong.
-func badRequestSince(status int, why string, values ...any) Refusal {
-	refused := badRequest(status)
+// BadRequestSince is BadRequest with what is wrong.
+func BadRequestSince(status int, why string, values ...any) Refusal {
+	refused := BadRequest(status)
 	refused.Why = fmt.Sprintf(why, values...)
 	return refused
 }
 
 // tooLong is the refusal of a body with more bytes than it may have.
 func tooLong(most int64) Refusal {
-	return badRequestSince(http.StatusRequestEntityTooLarge, "the body has more than %d bytes", most)
+	return BadRequestSince(http.StatusRequestEntityTooLarge, "the body has more than %d bytes", most)
 }
 
 // whyField is the field of an answer that says what is wrong with a request.
@@ -204,13 +210,11 @@ const checkAccess, Allowed = "checkAccess", `{"ok":true,"value":true}`
 // respond writes the answer to a call or an error, and returns its status.
 func respond(w http.ResponseWriter, answers Answers, err error) int {
 	if err != nil {
-		refused := Unavailable
-		_ = errors.As(err, &refused)
-		return Refuse(w, refused)
+		return Refuse(w, RefusalOf(err))
 	}
 	answers.SetHead(w.Header())
 	text := answers.Texts[0]
-	return write(w, StatusOf(text), text)
+	return Write(w, StatusOf(text), text)
 }
 
 // Refuse answers a request without the office, and returns the status. If nothing else is said, only POST is allowed.
@@ -230,13 +234,14 @@ func Refuse(w http.ResponseWriter, refused Refusal, methods ...string) int {
 	case http.StatusNotImplemented, http.StatusLengthRequired:
 		Close(w)
 	}
-	return write(w, refused.Status, RefusalText(refused.Code, refused.Name))
+	return Write(w, refused.Status, RefusalText(refused.Code, refused.Name))
 }
 
 // Close ends the connection behind the answer: nobody may take what follows for the next request.
 func Close(w http.ResponseWriter) { w.Header().Set("Connection", "close") }
 
-func write(w http.ResponseWriter, status int, text []byte) int {
+// Write answers a request with a text of JSON, and returns the status.
+func Write(w http.ResponseWriter, status int, text []byte) int {
 	head := w.Header()
 	head["Content-Type"] = []string{"application/json"}
 	head["Content-Length"] = []string{strconv.Itoa(len(text))}
@@ -247,12 +252,10 @@ func write(w http.ResponseWriter, status int, text []byte) int {
 
 // StatusOf returns the status of an answer of the office.
 func StatusOf(answer []byte) int {
-	if bytes.HasPrefix(answer, []byte(`{"ok":true`)) {
+	if IsAccepted(answer) {
 		return http.StatusOK
 	}
-	var refused struct{ Code int }
-	_ = json.Unmarshal(answer, &refused)
-	switch refused.Code {
+	switch code, _ := CodeOf(answer); code {
 	case 1, 34, 36:
 		return http.StatusBadRequest
 	case 35:
@@ -286,9 +289,9 @@ func read(r *http.Request, may func(function string) error) (Kind, *Call, error)
 			return kind, nil, err
 		}
 	}
-	body, err := io.ReadAll(r.Body)
+	body, err := readAll(r)
 	if err != nil {
-		return kind, nil, badRequest(http.StatusBadRequest)
+		return kind, nil, BadRequest(http.StatusBadRequest)
 	}
 	call, err := parseBody(name, body)
 	return kind, call, err
@@ -305,7 +308,7 @@ func KindOfQuestions(r *http.Request) (Kind, error) {
 // consistencyField is the field of a request that says how new the state has to be that answers a question.
 const consistencyField = "Consistency"
 
-var wrongConsistency = badRequestSince(http.StatusBadRequest, "Consistency is linearizable or local")
+var wrongConsistency = BadRequestSince(http.StatusBadRequest, "Consistency is linearizable or local")
 
 func kindOf(r *http.Request) Kind {
 	if r.Header.Get(consistencyField) == string(Local) {
@@ -326,19 +329,19 @@ func judgeHead(r *http.Request, known bool) error {
 	}
 	switch {
 	case fields > maxFields:
-		return badRequest(http.StatusRequestHeaderFieldsTooLarge)
+		return BadRequest(http.StatusRequestHeaderFieldsTooLarge)
 	case len(r.TransferEncoding) > 0:
-		return badRequest(http.StatusNotImplemented)
+		return BadRequest(http.StatusNotImplemented)
 	case !known:
-		return unknownFunction
+		return UnknownFunction
 	case r.Method != http.MethodPost:
-		return badRequest(http.StatusMethodNotAllowed)
+		return BadRequest(http.StatusMethodNotAllowed)
 	case r.ContentLength < 0 || r.ContentLength == 0 && r.Header.Get("Content-Length") == "" && r.ProtoMajor == 1:
-		return badRequest(http.StatusLengthRequired)
+		return BadRequest(http.StatusLengthRequired)
 	case r.ContentLength > MaxBodyBytes:
 		return tooLong(MaxBodyBytes)
 	case !isConsistency(r.Header.Get(consistencyField)):
-		return badRequest(http.StatusBadRequest)
+		return BadRequest(http.StatusBadRequest)
 	}
 	return nil
 }

@@ -2,7 +2,6 @@ package api
 
 import (
 	"bytes"
-	"errors"
 	"fmt"
 	"net/http"
 )
@@ -41,13 +40,9 @@ func (e *LineError) Error() string { return fmt.Sprintf("line %d: %s", e.Number,
 
 func (e *LineError) Unwrap() error { return e.Refusal }
 
-// parseBatchLine reads a line that asks for a function, or whether a user may do something in some session.
-func parseBatchLine(line []byte) (*Call, error) {
-	found, err := fieldsOf(line)
-	if err != nil {
-		return nil, err
-	}
-	name, err := TextAt(found, "fn")
+// parseBatchLine makes a call of what was read of a line, which asks for a function, or whether a user may do something in some session.
+func parseBatchLine(found Fields) (*Call, error) {
+	name, err := nameIn(found)
 	if err != nil {
 		return nil, err
 	}
@@ -60,17 +55,20 @@ func parseBatchLine(line []byte) (*Call, error) {
 
 // ParseBatch reads the lines of a batch. Each has to be a request; lines without text are none.
 func ParseBatch(body []byte) (calls []*Call, err error) {
+	var found Fields // Those of a line, in the memory of the one before.
+	calls = make([]*Call, 0, bytes.Count(body, []byte("\n"))+1)
 	commands := 0
 	for number := 1; len(body) > 0; number++ {
 		var line []byte
 		if line, body, _ = bytes.Cut(body, []byte("\n")); len(bytes.Trim(line, " \t\r")) == 0 {
 			continue
 		}
-		call, err := parseBatchLine(line)
+		var call *Call
+		if found, err = appendFields(found[:0], line); err == nil {
+			call, err = parseBatchLine(found)
+		}
 		if err != nil {
-			var refused Refusal
-			_ = errors.As(err, &refused) // Whatever refuses a line is one.
-			return nil, &LineError{number, refused}
+			return nil, &LineError{number, RefusalOf(err)}
 		}
 		if call.Kind == Command {
 			commands++
@@ -78,7 +76,7 @@ func ParseBatch(body []byte) (calls []*Call, err error) {
 		calls = append(calls, call)
 		if len(calls) > MaxBatchLines || commands > MaxBatchCommands {
 			why := "a batch has at most %d lines, of which at most %d are commands"
-			return nil, &LineError{number, badRequestSince(http.StatusRequestEntityTooLarge, why, MaxBatchLines, MaxBatchCommands)}
+			return nil, &LineError{number, BadRequestSince(http.StatusRequestEntityTooLarge, why, MaxBatchLines, MaxBatchCommands)}
 		}
 	}
 	return calls, nil

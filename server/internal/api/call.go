@@ -9,10 +9,10 @@ import (
 	"rbac-node/internal/office"
 )
 
-// importer is the function whose body is CSV. bin/commands writes the tables of all functions in table.go: a command changes the office
+// Importer is the function whose body is CSV. bin/commands writes the tables of all functions in table.go: a command changes the office
 // if it is accepted, a question changes nothing. The value at roles is a list of texts, that at cardinality a number, and all others are
 // texts.
-const importer = "importAssignments"
+const Importer = "importAssignments"
 
 // A function is one of the office: how it is answered, and its keys.
 type function struct {
@@ -51,18 +51,27 @@ func ParseLine(line []byte) (*Call, error) {
 	if err != nil {
 		return nil, err
 	}
-	name, err := TextAt(found, "fn")
+	name, err := nameIn(found)
 	if err != nil {
 		return nil, err
 	}
 	return newCall(name, found)
 }
 
+// nameIn returns the name of the function that a line asks for.
+func nameIn(found Fields) (string, error) {
+	value := found.At("fn")
+	if len(value) == 0 || value[0] != '"' {
+		return "", wrongKey(found, "fn", "a text")
+	}
+	return wordOf(value), nil
+}
+
 // parseBody reads what a body asks a function for. No body is an object without keys.
 func parseBody(name string, body []byte) (*Call, error) {
-	if name == importer {
+	if name == Importer {
 		if !utf8.Valid(body) {
-			return nil, badRequestSince(http.StatusBadRequest, "the body isn't UTF-8")
+			return nil, BadRequestSince(http.StatusBadRequest, "the body isn't UTF-8")
 		}
 		call := &Call{Function: name, Kind: Command, Arguments: Arguments{CSV: string(body)}}
 		return call, call.write()
@@ -81,7 +90,7 @@ func parseBody(name string, body []byte) (*Call, error) {
 func newCall(name string, found Fields) (*Call, error) {
 	called, known := functions[name]
 	if !known {
-		return nil, unknownFunction
+		return nil, UnknownFunction
 	}
 	call := &Call{Function: name, Kind: called.kind}
 	if err := call.read(called.keys, found); err != nil {
@@ -124,14 +133,14 @@ func TextAt(found Fields, key string) (string, error) {
 // differs in the case of its letters alone.
 func wrongKey(found Fields, key, wanted string) Refusal {
 	if found.At(key) != nil {
-		return badRequestSince(http.StatusBadRequest, "%s has to be %s", key, wanted)
+		return BadRequestSince(http.StatusBadRequest, "%s has to be %s", key, wanted)
 	}
 	for _, other := range found {
 		if strings.EqualFold(other.Key, key) {
-			return badRequestSince(http.StatusBadRequest, "%s is missing, and has to be %s: in %+q the case differs", key, wanted, other.Key)
+			return BadRequestSince(http.StatusBadRequest, "%s is missing, and has to be %s: in %+q the case differs", key, wanted, other.Key)
 		}
 	}
-	return badRequestSince(http.StatusBadRequest, "%s is missing, and has to be %s", key, wanted)
+	return BadRequestSince(http.StatusBadRequest, "%s is missing, and has to be %s", key, wanted)
 }
 
 // write makes the line.
@@ -144,40 +153,50 @@ func (c *Call) write() error {
 		case "cardinality":
 			line = append(line, c.Cardinality...)
 		case "roles":
-			line = append(line, '[')
-			for i, role := range c.Roles {
-				if i > 0 {
-					line = append(line, ',')
-				}
-				line = appendQuoted(line, role)
-			}
-			line = append(line, ']')
+			line = AppendTexts(line, c.Roles)
 		default:
-			line = appendQuoted(line, c.Text(key))
+			line = AppendQuoted(line, c.Text(key))
 		}
 	}
 	c.Line = append(line, '}')
 	if len(c.Line) > office.MaxLineBytes {
-		return badRequestSince(http.StatusRequestEntityTooLarge, "the request makes a line of more than %d bytes", office.MaxLineBytes)
+		return BadRequestSince(http.StatusRequestEntityTooLarge, "the request makes a line of more than %d bytes", office.MaxLineBytes)
 	}
 	return nil
 }
 
-// appendQuoted appends a text as JSON, in as few bytes as its control characters allow.
-func appendQuoted(line []byte, text string) []byte {
+// AppendQuoted appends a text as JSON, in as few bytes as its control characters allow.
+func AppendQuoted(line []byte, text string) []byte {
 	const hex, letters = "0123456789abcdef", "btn\x00fr"
 	line = append(line, '"')
+	rest := 0 // From here on nothing is written yet.
 	for i := 0; i < len(text); i++ {
-		switch b := text[i]; {
-		case b == '"' || b == '\\':
-			line = append(line, '\\', b)
+		b := text[i]
+		if b >= ' ' && b != '"' && b != '\\' {
+			continue
+		}
+		line = append(line, text[rest:i]...)
+		rest = i + 1
+		switch {
 		case b >= ' ':
-			line = append(line, b)
+			line = append(line, '\\', b)
 		case '\b' <= b && b <= '\r' && b != '\v':
 			line = append(line, '\\', letters[b-'\b'])
 		default:
 			line = append(line, '\\', 'u', '0', '0', hex[b>>4], hex[b&15])
 		}
 	}
-	return append(line, '"')
+	return append(append(line, text[rest:]...), '"')
+}
+
+// AppendTexts appends a list of texts as JSON.
+func AppendTexts(line []byte, texts []string) []byte {
+	line = append(line, '[')
+	for i, text := range texts {
+		if i > 0 {
+			line = append(line, ',')
+		}
+		line = AppendQuoted(line, text)
+	}
+	return append(line, ']')
 }

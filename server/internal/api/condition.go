@@ -30,11 +30,11 @@ func RuleOf(r *http.Request) (rule Rule, err error) {
 		return rule, nil
 	}
 	if len(values) != 1 {
-		return rule, badRequestSince(http.StatusBadRequest, "%s is there more than once, or can't be judged here", conditionField)
+		return rule, BadRequestSince(http.StatusBadRequest, "%s is there more than once, or can't be judged here", conditionField)
 	}
 	revision, err := strconv.ParseUint(values[0], 10, 63)
 	if err != nil {
-		return rule, badRequestSince(http.StatusBadRequest, "%s has to be a number", conditionField)
+		return rule, BadRequestSince(http.StatusBadRequest, "%s has to be a number", conditionField)
 	}
 	if revision == 0 {
 		return rule, Outdated // No policy has it.

@@ -52,12 +52,15 @@ func FieldsOf(text []byte) (Fields, error) {
 	return found, nil
 }
 
-// fieldsOf reads an object of JSON, which may have a key twice. It refuses what the office refuses as no JSON, even at keys that the office
-// ignores: half a surrogate pair, numbers that are too large, and what nests too deep, all of which Go's library accepts.
-func fieldsOf(text []byte) (Fields, error) {
-	found := make(Fields, 0, 5)
-	if !readMembers(text, '{', func(key, value []byte) { found = append(found, Field{unquote(key), value}) }) {
-		return nil, badRequestSince(http.StatusBadRequest, "this is no object of JSON")
+// fieldsOf reads an object of JSON, which may have a key twice.
+func fieldsOf(text []byte) (Fields, error) { return appendFields(make(Fields, 0, 5), text) }
+
+// appendFields appends the fields of an object of JSON, which may have a key twice. It refuses what the office refuses as no JSON, even at
+// keys that the office ignores: half a surrogate pair, numbers that are too large, and what nests too deep, all of which Go's library
+// accepts.
+func appendFields(found Fields, text []byte) (Fields, error) {
+	if !readMembers(text, '{', func(key, value []byte) { found = append(found, Field{wordOf(key), value}) }) {
+		return nil, BadRequestSince(http.StatusBadRequest, "this is no object of JSON")
 	}
 	return found, nil
 }
@@ -65,7 +68,7 @@ func fieldsOf(text []byte) (Fields, error) {
 // Items returns the values of a list that is written as JSON.
 func Items(value json.RawMessage) (items []json.RawMessage, err error) {
 	if !readMembers(value, '[', func(_, item []byte) { items = append(items, item) }) {
-		return nil, badRequest(http.StatusBadRequest)
+		return nil, BadRequest(http.StatusBadRequest)
 	}
 	return items, nil
 }
@@ -79,7 +82,7 @@ func Texts(value json.RawMessage) ([]string, error) {
 		}
 	})
 	if !isList || !areTexts {
-		return nil, badRequest(http.StatusBadRequest)
+		return nil, BadRequest(http.StatusBadRequest)
 	}
 	return texts, nil
 }
@@ -87,7 +90,7 @@ func Texts(value json.RawMessage) ([]string, error) {
 // Text returns the text that a value of an object or of a list is.
 func Text(value json.RawMessage) (string, error) {
 	if len(value) == 0 || value[0] != '"' {
-		return "", badRequest(http.StatusBadRequest)
+		return "", BadRequest(http.StatusBadRequest)
 	}
 	return unquote(value), nil
 }
@@ -99,11 +102,15 @@ func unquote(quoted []byte) string {
 		_ = json.Unmarshal(quoted, &text) // It was read as a text.
 		return text
 	}
-	inside := quoted[1 : len(quoted)-1]
-	if word, known := words[string(inside)]; known {
-		return word // It takes no memory.
+	return string(quoted[1 : len(quoted)-1])
+}
+
+// wordOf is unquote for a key or the name of a function, which takes no memory if it is known.
+func wordOf(quoted []byte) string {
+	if word, known := words[string(quoted[1:len(quoted)-1])]; known {
+		return word
 	}
-	return string(inside)
+	return unquote(quoted)
 }
 
 // words has the keys and the names of all functions.

@@ -2,9 +2,6 @@ package api
 
 import "sort"
 
-// Importer is the function whose body is CSV.
-const Importer = importer
-
 // KindOf returns the kind of a function, and whether there is such a function.
 func KindOf(name string) (Kind, bool) {
 	called, known := functions[name]
@@ -79,14 +76,17 @@ func NewEntry(name string, text []byte) *Call { return &Call{Function: name, Kin
 
 // NewCall makes a call of a function all of whose values are texts: its keys, each followed by its text.
 func NewCall(name string, pairs ...string) (*Call, error) {
-	called, known := functions[name]
-	if !known {
-		return nil, unknownFunction
-	}
-	call := &Call{Function: name, Kind: called.kind}
-	call.setTexts(pairs)
-	return call, call.write()
+	var arguments Arguments
+	arguments.setTexts(pairs)
+	return NewCallWith(name, arguments)
 }
 
-// AppendQuoted appends a text as JSON.
-func AppendQuoted(line []byte, text string) []byte { return appendQuoted(line, text) }
+// NewCallWith makes a call of a function.
+func NewCallWith(name string, arguments Arguments) (*Call, error) {
+	called, known := functions[name]
+	if !known {
+		return nil, UnknownFunction
+	}
+	call := &Call{Function: name, Kind: called.kind, Arguments: arguments}
+	return call, call.write()
+}

@@ -10,37 +10,36 @@ import (
 	"time"
 )
 
-// BadRequest is the refusal of a request that can't be read.
-func BadRequest(status int) Refusal { return badRequest(status) }
-
-// BadRequestSince is the refusal of a request that can't be read, with what is wrong.
-func BadRequestSince(status int, why string, values ...any) Refusal {
-	return badRequestSince(status, why, values...)
-}
-
-// UnknownFunction means that nothing is at a path.
-var UnknownFunction = unknownFunction
-
-// Write answers a request with a text of JSON, and returns the status.
-func Write(w http.ResponseWriter, status int, text []byte) int { return write(w, status, text) }
-
 // ReadBody returns the body of a request by POST, which may have at most this many bytes.
 func ReadBody(r *http.Request, most int64) ([]byte, error) {
 	switch {
 	case len(r.TransferEncoding) > 0:
-		return nil, badRequest(http.StatusNotImplemented)
+		return nil, BadRequest(http.StatusNotImplemented)
 	case r.Method != http.MethodPost:
-		return nil, badRequest(http.StatusMethodNotAllowed)
+		return nil, BadRequest(http.StatusMethodNotAllowed)
 	case r.ContentLength < 0:
-		return nil, badRequest(http.StatusLengthRequired)
+		return nil, BadRequest(http.StatusLengthRequired)
 	case r.ContentLength > most:
 		return nil, tooLong(most)
 	}
-	body, err := io.ReadAll(r.Body)
+	body, err := readAll(r)
 	if err != nil {
-		return nil, badRequest(http.StatusBadRequest)
+		return nil, BadRequest(http.StatusBadRequest)
 	}
 	return body, nil
+}
+
+// readAll reads the body of a request that says how long it is. It takes little memory before the client has sent some of it.
+func readAll(r *http.Request) ([]byte, error) {
+	if r.ContentLength <= SmallBody {
+		body := make([]byte, r.ContentLength)
+		_, err := io.ReadFull(r.Body, body)
+		return body, err
+	}
+	var body bytes.Buffer
+	body.Grow(SmallBody)
+	_, err := body.ReadFrom(r.Body)
+	return body.Bytes(), err
 }
 
 // RefusalText returns a refusal as the office writes it.
@@ -84,7 +83,7 @@ func PairsOf(answer []byte) (pairs [][2]string, err error) {
 	for i, item := range items {
 		pair, err := Texts(item)
 		if err != nil || len(pair) != 2 {
-			return nil, badRequestSince(http.StatusBadRequest, "the value is no list of pairs")
+			return nil, BadRequestSince(http.StatusBadRequest, "the value is no list of pairs")
 		}
 		copy(pairs[i][:], pair)
 	}

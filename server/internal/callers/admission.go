@@ -11,8 +11,13 @@ import (
 
 // May refuses a caller that may not do all of some calls.
 func (s *Set) May(caller string, calls ...*api.Call) error {
+	everywhere := "" // The last function that the caller may ask about everything.
 	for _, call := range calls {
-		if !s.has(caller, call.Function, office) && !s.isCovered(caller, call) {
+		switch {
+		case call.Function == everywhere:
+		case s.has(caller, call.Function, office):
+			everywhere = call.Function
+		case !s.isCovered(caller, call):
 			return api.Forbidden
 		}
 	}

@@ -24,6 +24,14 @@ func NewGuard(set *Set, most int) *Guard {
 	return &Guard{set: set, atOnce: map[string]int{}, most: most}
 }
 
+// use returns the set that is in force, which has to be left.
+func (g *Guard) use() *Set {
+	g.mutex.Lock()
+	defer g.mutex.Unlock()
+	g.set.using++
+	return g.set
+}
+
 // A Visit is a request of a caller.
 type Visit struct {
 	Caller string
@@ -35,10 +43,7 @@ type Visit struct {
 
 // Enter finds out who asks. The visit has to be left when the request has been done. Why a request is refused is for the log only.
 func (g *Guard) Enter(r *http.Request) (visit *Visit, why, refused error) {
-	g.mutex.Lock()
-	set := g.set
-	set.using++
-	g.mutex.Unlock()
+	set := g.use()
 	caller, why := set.identify(r)
 	if why != nil {
 		g.leave(set)
@@ -72,6 +77,22 @@ func (v *Visit) Rights() ([]Grant, error) {
 		return nil, nil
 	}
 	return v.set.grantsOf(v.Caller)
+}
+
+// Again does something while the caller of a request that is still being answered may do an operation, by the callers that are in
+// force now. A caller who is no longer known, or is another one, is refused.
+func (v *Visit) Again(r *http.Request, operation string, do func()) error {
+	set := v.guard.use()
+	defer v.guard.leave(set)
+	caller, err := set.identify(r)
+	if err != nil || caller != v.Caller {
+		return api.Unauthorized
+	}
+	if err := set.MayRead(caller, operation); err != nil {
+		return err
+	}
+	do()
+	return nil
 }
 
 // Done says that the office has nothing more to do for the request. Other callers may then come into force.
@@ -138,10 +159,7 @@ func (g *Guard) Replace(ctx context.Context, set *Set, ask func(context.Context)
 
 // Knows reports whether a request shows who asks.
 func (g *Guard) Knows(r *http.Request) bool {
-	g.mutex.Lock()
-	set := g.set
-	set.using++
-	g.mutex.Unlock()
+	set := g.use()
 	defer g.leave(set)
 	_, err := set.identify(r)
 	return err == nil

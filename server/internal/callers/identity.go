@@ -112,6 +112,14 @@ func WithPeer(ctx context.Context, conn net.Conn) context.Context {
 	return context.WithValue(ctx, peerKey{}, &peer{uid: uidOf(conn)})
 }
 
+// PeerOf returns the user whose process has connected to a socket, as a caller, or an empty text for another connection.
+func PeerOf(r *http.Request) string {
+	if peer, _ := r.Context().Value(peerKey{}).(*peer); peer != nil && peer.uid >= 0 {
+		return "unix:" + strconv.FormatInt(peer.uid, 10)
+	}
+	return ""
+}
+
 // uidOf returns the user of the other end of a unix socket, or -1.
 func uidOf(conn net.Conn) int64 {
 	if prompt, is := conn.(*web.Conn); is {

@@ -5,7 +5,7 @@ import (
 	"context"
 	"crypto/sha256"
 	"crypto/x509"
-	"encoding/json"
+	"errors"
 	"fmt"
 	"os"
 	"sort"
@@ -147,7 +147,10 @@ func (s *Set) open(ctx context.Context, path string, lines []line) (err error) {
 // fill does the lines of the file of callers.
 func (s *Set) fill(ctx context.Context, path string, lines []line) error {
 	for _, one := range lines {
-		answer, err := s.answer(ctx, one.text)
+		answer, err := s.office.Answer(one.text)
+		if err == nil {
+			err = ctx.Err()
+		}
 		if err != nil {
 			return fmt.Errorf("callers: %w", err)
 		}
@@ -156,14 +159,6 @@ func (s *Set) fill(ctx context.Context, path string, lines []line) error {
 		}
 	}
 	return nil
-}
-
-// answer returns the answer of the office of the callers to a line, unless the context has ended.
-func (s *Set) answer(ctx context.Context, line []byte) ([]byte, error) {
-	if ctx.Err() != nil {
-		return nil, ctx.Err()
-	}
-	return s.office.Answer(line)
 }
 
 // Close frees the office of the callers.
@@ -184,41 +179,24 @@ func (s *Set) callerNames() (names []string) {
 // makeSessions gives each caller a session of all its roles. A locked caller gets none, and so may do nothing.
 func (s *Set) makeSessions(ctx context.Context, path string) error {
 	for _, name := range s.callerNames() {
-		roles, err := s.answer(ctx, lineOf("assignedRoles", "user", name))
-		if err != nil {
+		if ctx.Err() != nil {
+			return fmt.Errorf("callers: %w", ctx.Err())
+		}
+		var roles []string
+		if err := s.office.Call("assignedRoles", map[string]any{"user": name}, &roles); err != nil {
 			return fmt.Errorf("%s: the roles of %s: %w", path, name, err)
 		}
-		session := fmt.Sprintf(`{"fn":"createSession","user":%s,"session":%s,"roles":%s}`, quote(name), quote(name), valueOf(roles))
-		answer, err := s.answer(ctx, []byte(session))
-		if err != nil {
-			return fmt.Errorf("%s: the session of %s: %w", path, name, err)
-		}
+		err := s.office.Call("createSession", map[string]any{"user": name, "session": name, "roles": roles}, nil)
 		const locked = 37
-		if code, _ := api.CodeOf(answer); code != 0 && code != locked {
-			return fmt.Errorf("%s: the session of %s: %s", path, name, answer)
+		var refused *rbacoffice.RefusedError
+		switch {
+		case errors.As(err, &refused) && refused.Code != locked:
+			return fmt.Errorf("%s: the session of %s: %s", path, name, api.RefusalText(refused.Code, refused.Name))
+		case err != nil && refused == nil:
+			return fmt.Errorf("%s: the session of %s: %w", path, name, err)
 		}
 	}
 	return nil
-}
-
-// lineOf returns the line of a question with texts.
-func lineOf(function string, pairs ...string) []byte {
-	call, err := api.NewCall(function, pairs...)
-	if err != nil {
-		return []byte(`{}`) // The office refuses it.
-	}
-	return call.Line
-}
-
-func quote(text string) []byte { return api.AppendQuoted(nil, text) }
-
-// valueOf returns the value of an answer as JSON, or an empty list.
-func valueOf(answer []byte) json.RawMessage {
-	var found struct{ Value json.RawMessage }
-	if json.Unmarshal(answer, &found) != nil || len(found.Value) == 0 {
-		return json.RawMessage("[]")
-	}
-	return found.Value
 }
 
 // A Grant is what a caller may do in a scope.

@@ -49,7 +49,13 @@ func load(t *testing.T, options Options) *Set {
 type right struct{ operation, scope string }
 
 // lineFor returns a request line of texts.
-func lineFor(function string, pairs ...string) string { return string(lineOf(function, pairs...)) }
+func lineFor(function string, pairs ...string) string {
+	call, err := api.NewCall(function, pairs...)
+	if err != nil {
+		return err.Error()
+	}
+	return string(call.Line)
+}
 
 // policy returns the lines that give each caller its own role, and the role rights: pairs of functions and scopes.
 func policy(rights map[string][]right) (lines []string) {

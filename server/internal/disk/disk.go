@@ -1,4 +1,4 @@
-// Package disk says how much room there is on a disk.
+// Package disk says how much room there is on a disk, and writes files that outlive a crash.
 package disk
 
 import (

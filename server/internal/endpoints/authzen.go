@@ -53,7 +53,7 @@ func (e *Endpoints) evaluateOne(r *request, fields api.Fields) (int, error) {
 	if err != nil {
 		return 0, err
 	}
-	return r.reply(http.StatusOK, decisions[0].appendTo(nil)), nil
+	return r.reply(http.StatusOK, appendDecision(nil, decisions[0])), nil
 }
 
 // evaluations answers several evaluations at one place in the order. A body without any is one evaluation.
@@ -91,19 +91,19 @@ func (e *Endpoints) evaluations(r *request) (int, error) {
 	if err != nil {
 		return 0, err
 	}
-	return r.reply(http.StatusOK, textOf(decisions, wanted)), nil
+	return r.reply(http.StatusOK, evaluated(decisions, wanted)), nil
 }
 
 // evaluateAll decides evaluations. One about a subject or a resource of an unknown sort is refused by itself.
-func (e *Endpoints) evaluateAll(r *request, evaluations []evaluation) ([]decision, error) {
-	decisions := make([]decision, len(evaluations))
+func (e *Endpoints) evaluateAll(r *request, evaluations []evaluation) ([]api.Decision, error) {
+	decisions := make([]api.Decision, len(evaluations))
 	var queries []query
 	var places []int
 	for i, one := range evaluations {
 		if q, isKnown := one.query(); isKnown {
 			queries, places = append(queries, q), append(places, i)
 		} else {
-			decisions[i].code, decisions[i].name = errNotRead.Code, errNotRead.Name
+			decisions[i].Code, decisions[i].Name = errNotRead.Code, errNotRead.Name
 		}
 	}
 	if len(queries) == 0 {
@@ -119,31 +119,31 @@ func (e *Endpoints) evaluateAll(r *request, evaluations []evaluation) ([]decisio
 	return decisions, nil
 }
 
-// textOf returns the answer to several evaluations.
-func textOf(decisions []decision, wanted semantic) []byte {
+// evaluated returns the answer to several evaluations.
+func evaluated(decisions []api.Decision, wanted semantic) []byte {
 	text := []byte(`{"evaluations":[`)
 	for i, one := range decisions {
 		if i > 0 {
 			text = append(text, ',')
 		}
-		text = one.appendTo(text)
-		if wanted.hasLast && one.allowed == wanted.last {
+		text = appendDecision(text, one)
+		if wanted.hasLast && one.IsAllowed == wanted.last {
 			break
 		}
 	}
 	return append(text, `]}`...)
 }
 
-// appendTo appends the decision as JSON.
-func (d decision) appendTo(text []byte) []byte {
+// appendDecision appends a decision as JSON.
+func appendDecision(text []byte, d api.Decision) []byte {
 	switch {
-	case d.allowed:
+	case d.IsAllowed:
 		return append(text, `{"decision":true}`...)
-	case d.code == 0:
+	case d.Code == 0:
 		return append(text, `{"decision":false}`...)
 	}
-	status := api.StatusOf(api.RefusalText(d.code, d.name))
-	return append(text, fmt.Sprintf(`{"context":{"code":%d,"error":{"message":"%s","status":%d}},"decision":false}`, d.code, d.name, status)...)
+	status := api.StatusOf(api.RefusalText(d.Code, d.Name))
+	return append(text, fmt.Sprintf(`{"context":{"code":%d,"error":{"message":"%s","status":%d}},"decision":false}`, d.Code, d.Name, status)...)
 }
 
 // readObject reads the body of a request about one thing, which is an object of JSON.

@@ -2,7 +2,6 @@ package endpoints
 
 import (
 	"bytes"
-	"errors"
 	"net/http"
 	"net/url"
 	"strconv"
@@ -22,10 +21,6 @@ func (e *Endpoints) batch(r *request) (int, error) {
 		return err
 	})
 	defer leave()
-	var at *api.LineError
-	if errors.As(err, &at) {
-		r.w.Header().Set("Office-Line", strconv.Itoa(at.Number))
-	}
 	if err == nil {
 		err = r.may(calls...)
 	}
@@ -62,7 +57,7 @@ func (e *Endpoints) do(r *request, rule api.Rule, lines []*api.Call) ([][]byte, 
 	}
 	for i, answer := range answers {
 		if lines[i].Function == checkAccess || lines[i].Function == api.DecideByUser {
-			e.decided(r, queryOf(lines[i]), decisionOf(answer))
+			e.Decided(r.Request, r.visitor, queryOf(lines[i]).decision(answer))
 		}
 		if rule.IsStopped && !api.IsAccepted(answer) {
 			return answers[:i+1], nil

@@ -7,14 +7,6 @@ import (
 	"rbac-node/internal/api"
 )
 
-// A decision is whether something is allowed, or why the office refused to decide.
-type decision struct {
-	allowed bool
-	// code and name are those of the refusal, or zero.
-	code int
-	name string
-}
-
 // A query is what is to be decided: may a session, or a user in some session, do an operation on an object? One of the two is empty.
 type query struct{ session, user, operation, object string }
 
@@ -62,8 +54,8 @@ func (q query) check(operation, object string) error {
 }
 
 // decideAll decides queries of a visitor at one place in the order, if the policy is as a rule says.
-func (e *Endpoints) decideAll(r *request, rule api.Rule, queries []query) ([]decision, error) {
-	calls, decisions := make([]*api.Call, len(queries)), make([]decision, len(queries))
+func (e *Endpoints) decideAll(r *request, rule api.Rule, queries []query) ([]api.Decision, error) {
+	calls, decisions := make([]*api.Call, len(queries)), make([]api.Decision, len(queries))
 	for i := range queries {
 		var err error
 		if calls[i], err = queries[i].call(); err != nil {
@@ -78,24 +70,15 @@ func (e *Endpoints) decideAll(r *request, rule api.Rule, queries []query) ([]dec
 		return nil, err
 	}
 	for i, answer := range answers {
-		decisions[i] = decisionOf(answer)
-		e.decided(r, queries[i], decisions[i])
+		decisions[i] = queries[i].decision(answer)
+		e.Decided(r.Request, r.visitor, decisions[i])
 	}
 	return decisions, nil
 }
 
-// decided passes on the decision about a query.
-func (e *Endpoints) decided(r *request, q query, d decision) {
-	e.Decided(r.Request, r.visitor, api.Decision{
-		Session: q.session, User: q.user, Operation: q.operation, Object: q.object, IsAllowed: d.allowed, Code: d.code, Name: d.name,
-	})
-}
-
-// decisionOf returns the decision that an answer of the office is.
-func decisionOf(answer []byte) (d decision) {
-	d.allowed = string(answer) == api.Allowed
-	d.code, d.name = api.CodeOf(answer)
-	return d
+// decision returns the decision that an answer to the query is.
+func (q query) decision(answer []byte) api.Decision {
+	return api.DecisionOf(api.Decision{Session: q.session, User: q.user, Operation: q.operation, Object: q.object}, answer)
 }
 
 // The fields of a request to decide.
@@ -117,7 +100,7 @@ func (e *Endpoints) decide(r *request) (int, error) {
 	if err != nil {
 		return 0, err
 	}
-	if decisions[0].allowed {
+	if decisions[0].IsAllowed {
 		return r.status(http.StatusNoContent), nil
 	}
 	return r.status(http.StatusForbidden), nil

@@ -170,10 +170,13 @@ func (e *Endpoints) Serve(w http.ResponseWriter, r *http.Request, visitor Visito
 	}
 	asked.done()
 	if err != nil {
-		refused := api.Unavailable
-		_ = errors.As(err, &refused)
+		refused := api.RefusalOf(err)
 		if visitor != nil && (refused == api.Forbidden || refused == api.Unavailable) {
 			e.Denied(r, visitor, refused)
+		}
+		var line *api.LineError
+		if errors.As(err, &line) {
+			w.Header().Set("Office-Line", strconv.Itoa(line.Number))
 		}
 		status = api.Refuse(w, refused, at.methods...)
 	}
@@ -237,6 +240,14 @@ func (e *Endpoints) known(r *request) (*state.State, error) {
 	}
 	api.Point{Newest: at.Newest}.SetHead(r.w.Header())
 	return e.office.State(), nil
+}
+
+// knownTo is known for a visitor that may do an operation.
+func (e *Endpoints) knownTo(r *request, operation string) (*state.State, error) {
+	if err := r.may(api.NewOther(operation)); err != nil {
+		return nil, err
+	}
+	return e.known(r)
 }
 
 // ask does calls as a rule says. The head of the answer says where in the order they were done.

@@ -1,8 +1,6 @@
 package endpoints
 
 import (
-	"sort"
-
 	"rbac-node/internal/api"
 	"rbac-node/internal/state"
 )
@@ -79,33 +77,41 @@ func (e *Endpoints) explain(r *request) (int, error) {
 // Facts are what the office has to say about a query at one moment.
 type facts struct {
 	decision []byte
-	// granted has the roles that have the permission, own those that the user is authorized for or that the session has, and assigned
-	// those that the user is assigned to.
-	granted, own, assigned []string
-	session                state.Session
-	isLocked               bool
-	graph                  *state.Graph
+	// granted has the roles that have the permission, and own those that the user is authorized for or that the session has.
+	granted, own []string
+	// assigned has, for each role that has the permission, the roles that the user is assigned to and that are this role or a senior of
+	// it, and active those that were activated.
+	assigned, active map[string][]string
+	// blocked has those of the roles that can never be activated.
+	blocked  map[string]blocked
+	isLocked bool
+	user     string
 }
 
 // factsOf asks the office about a query. No role has a permission that doesn't exist.
 func factsOf(v *state.View, q query, base *api.Call) facts {
-	seen := facts{decision: v.Answer(base), graph: v.Graph()}
+	seen := facts{decision: v.Answer(base), user: q.user, blocked: map[string]blocked{}}
 	seen.granted = v.Names("permissionRoles", "object", q.object, "operation", q.operation)
 	if q.user == "" {
-		seen.session, _ = v.Session(q.session)
+		session, _ := v.Session(q.session)
+		seen.user, seen.active = session.User, v.Above(seen.granted, session.Active)
 		seen.own = v.Names("sessionRoles", "session", q.session)
-		q.user = seen.session.User
 	} else {
 		seen.isLocked, seen.own = v.IsLocked(q.user), v.Names("authorizedRoles", "user", q.user)
+		for _, role := range seen.granted {
+			if set, members := v.Blocked(role); set != "" {
+				seen.blocked[role] = blocked{members, role, set}
+			}
+		}
 	}
-	seen.assigned = v.AssignedRoles(q.user)
+	seen.assigned = v.Above(seen.granted, v.AssignedRoles(seen.user))
 	return seen
 }
 
 // explainedUser explains a query about a user. A session in which the user may do the operation has a role to which the permission is
 // granted directly. It also may exist with this role alone.
 func (r *request) explainedUser(q query, seen facts) *explanation {
-	shown := &explanation{Allowed: decisionOf(seen.decision).allowed}
+	shown := &explanation{Allowed: string(seen.decision) == api.Allowed}
 	if !r.mayAsk("permissionRoles", q) || !r.mayAsk("authorizedRoles", q) || !r.mayAsk("assignedRoles", q) {
 		return shown
 	}
@@ -116,13 +122,13 @@ func (r *request) explainedUser(q query, seen facts) *explanation {
 		if !has(seen.own, role) {
 			continue
 		}
-		set, members := seen.graph.Blocked(role)
+		one, isBlocked := seen.blocked[role]
 		switch {
-		case set == "":
-			by := above(seen.graph, seen.assigned, role)
+		case !isBlocked:
+			by := seen.assigned[role]
 			shown.By = append(shown.By, source{Assigned: &by, Role: role})
 		case hasSets:
-			shown.Blocked = append(shown.Blocked, blocked{members, role, set})
+			shown.Blocked = append(shown.Blocked, one)
 		default:
 			shown.Blocked = append(shown.Blocked, blocked{Role: role})
 		}
@@ -132,15 +138,15 @@ func (r *request) explainedUser(q query, seen facts) *explanation {
 
 // explainedSession explains a query about a session: by which roles it has a permission, and by which it might.
 func (r *request) explainedSession(q query, seen facts) *explanation {
-	shown := &explanation{Allowed: decisionOf(seen.decision).allowed}
-	q.user = seen.session.User
+	shown := &explanation{Allowed: string(seen.decision) == api.Allowed}
+	q.user = seen.user
 	if !r.mayAsk("permissionRoles", q) || !r.mayAsk("sessionRoles", q) {
 		return shown
 	}
 	showsRoles := r.mayAsk("assignedRoles", q) && r.mayAsk("authorizedRoles", q)
 	for _, role := range seen.granted {
-		assigned := above(seen.graph, seen.assigned, role)
-		one := source{Activated: above(seen.graph, seen.session.Active, role), Role: role}
+		assigned := append([]string{}, seen.assigned[role]...)
+		one := source{Activated: seen.active[role], Role: role}
 		if showsRoles {
 			one.Assigned = &assigned
 		}
@@ -157,16 +163,4 @@ func (r *request) explainedSession(q query, seen facts) *explanation {
 // mayAsk reports whether the visitor may ask a function about what a query names.
 func (r *request) mayAsk(function string, q query) bool {
 	return r.may(api.NewOther(function, "session", q.session, "user", q.user, "operation", q.operation, "object", q.object)) == nil
-}
-
-// above returns those of some roles that are a role or a senior of it, in their order.
-func above(graph *state.Graph, roles []string, role string) []string {
-	found := []string{}
-	for _, one := range roles {
-		if graph.Below(one)[role] {
-			found = append(found, one)
-		}
-	}
-	sort.Strings(found)
-	return found
 }

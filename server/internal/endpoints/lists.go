@@ -34,10 +34,7 @@ type page struct {
 
 // list answers a part of a list.
 func (e *Endpoints) list(r *request) (int, error) {
-	if err := r.may(api.NewOther(api.Lists)); err != nil {
-		return 0, err
-	}
-	s, err := e.known(r)
+	s, err := e.knownTo(r, api.Lists)
 	if err != nil {
 		return 0, err
 	}
@@ -65,10 +62,7 @@ func (e *Endpoints) list(r *request) (int, error) {
 // lists answers parts of several lists, a line for each. The head of the answer says which revision of the policy all are from, if
 // there is one.
 func (e *Endpoints) lists(r *request) (int, error) {
-	if err := r.may(api.NewOther(api.Lists)); err != nil {
-		return 0, err
-	}
-	s, err := e.known(r)
+	s, err := e.knownTo(r, api.Lists)
 	if err != nil {
 		return 0, err
 	}
@@ -77,10 +71,6 @@ func (e *Endpoints) lists(r *request) (int, error) {
 		return 0, err
 	}
 	queries, err := readListQueries(body)
-	var at *api.LineError
-	if errors.As(err, &at) {
-		r.w.Header().Set("Office-Line", strconv.Itoa(at.Number))
-	}
 	if err != nil {
 		return 0, err
 	}
@@ -194,9 +184,7 @@ func readListQueries(body []byte) (queries []listQuery, err error) {
 			err = notRead("a request has at most %d lists", mostLists)
 		}
 		if err != nil {
-			refused := errNotRead
-			_ = errors.As(err, &refused)
-			return nil, &api.LineError{Number: i + 1, Refusal: refused}
+			return nil, &api.LineError{Number: i + 1, Refusal: api.RefusalOf(err)}
 		}
 		queries = append(queries, query)
 	}
@@ -354,7 +342,7 @@ func pageOfSessions(sessions []state.Session, query state.Query) (p page) {
 		if !query.IsWanted([]string{"session", "user"}, row) {
 			continue
 		}
-		text := append([]byte(`{"roles":`), textsOf(one.Active)...)
+		text := api.AppendTexts([]byte(`{"roles":`), one.Active)
 		text = append(api.AppendQuoted(append(text, `,"session":`...), one.Digest), `,"since":"`...)
 		text = append(append(text, one.Since.UTC().Format(timeForm)...), `","used":"`...)
 		text = append(append(text, one.Used.UTC().Format(timeForm)...), `","user":`...)
@@ -372,7 +360,7 @@ func pageOfSets(sets []state.NamedSet, query state.Query) (p page) {
 			continue
 		}
 		text := strconv.AppendInt([]byte(`{"cardinality":`), one.Cardinality, 10)
-		text = append(append(text, `,"roles":`...), textsOf(one.Roles)...)
+		text = api.AppendTexts(append(text, `,"roles":`...), one.Roles)
 		text = api.AppendQuoted(append(text, `,"set":`...), one.Name)
 		if !p.add(append(text, '}'), one.Name, query.Limit) {
 			break
@@ -389,16 +377,4 @@ func (p *page) add(row json.RawMessage, name string, limit int) bool {
 	}
 	p.rows, p.last = append(p.rows, row), name
 	return true
-}
-
-// textsOf returns a list of texts as JSON.
-func textsOf(texts []string) []byte {
-	list := []byte{'['}
-	for i, text := range texts {
-		if i > 0 {
-			list = append(list, ',')
-		}
-		list = api.AppendQuoted(list, text)
-	}
-	return append(list, ']')
 }

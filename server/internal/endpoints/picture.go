@@ -37,10 +37,7 @@ type pictureQuery struct {
 
 // picture answers a picture of roles and of separation of duty sets, which Graphviz draws.
 func (e *Endpoints) picture(r *request) (int, error) {
-	if err := r.may(api.NewOther(api.Lists)); err != nil {
-		return 0, err
-	}
-	s, err := e.known(r)
+	s, err := e.knownTo(r, api.Lists)
 	if err != nil {
 		return 0, err
 	}
@@ -104,7 +101,7 @@ func (q pictureQuery) part(s *state.State) (part state.Part, err error) {
 		case q.role == "":
 			part = v.Whole()
 		case len(q.from) > 0:
-			part = v.Graph().Between(q.from, q.role)
+			part = v.Between(q.from, q.role)
 		default:
 			part = v.Graph().Around(q.role, mostDrawn)
 		}

@@ -4,7 +4,6 @@ import (
 	"bufio"
 	"context"
 	"encoding/json"
-	"errors"
 	"fmt"
 	"net"
 	"net/http"
@@ -41,10 +40,7 @@ type reportQuery struct {
 
 // report answers a ticket for a report, and how many lines it has. None of them has been made.
 func (e *Endpoints) report(r *request) (int, error) {
-	if err := r.may(api.NewOther(api.Reports)); err != nil {
-		return 0, err
-	}
-	s, err := e.known(r)
+	s, err := e.knownTo(r, api.Reports)
 	if err != nil {
 		return 0, err
 	}
@@ -147,9 +143,7 @@ func (e *Endpoints) ServeTicket(w http.ResponseWriter, r *http.Request) bool {
 	start := time.Now()
 	status, err := e.serveTicket(w, r)
 	if err != nil {
-		refused := api.Unavailable
-		_ = errors.As(err, &refused)
-		status = api.Refuse(w, refused)
+		status = api.Refuse(w, api.RefusalOf(err))
 	}
 	e.Note("report", status, start)
 	return true

@@ -7,10 +7,7 @@ import (
 
 // room answers how many there are of each kind, and how many there may be.
 func (e *Endpoints) room(r *request) (int, error) {
-	if err := r.may(api.NewOther(api.Lists)); err != nil {
-		return 0, err
-	}
-	s, err := e.known(r)
+	s, err := e.knownTo(r, api.Lists)
 	if err != nil {
 		return 0, err
 	}

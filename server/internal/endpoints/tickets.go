@@ -54,7 +54,7 @@ func (t *tickets) freeze(s *state.State) (*state.Frozen, error) {
 	t.mutex.Lock()
 	defer t.mutex.Unlock()
 	if t.frozen == nil || t.frozen.Numbers != s.Numbers() {
-		frozen, err := s.Freeze()
+		frozen, err := s.FreezeWithJuniors()
 		if err != nil {
 			return nil, err
 		}

@@ -24,17 +24,17 @@ func (e *Endpoints) decideByUser(r *request) (int, error) {
 	if err != nil {
 		return 0, err
 	}
-	text := decisions[0].text()
+	text := textOf(decisions[0])
 	return r.reply(api.StatusOf(text), text), nil
 }
 
-// text returns the decision as the office would write it.
-func (d decision) text() []byte {
+// textOf returns a decision as the office would write it.
+func textOf(d api.Decision) []byte {
 	switch {
-	case d.code != 0:
-		return api.RefusalText(d.code, d.name)
-	case d.allowed:
-		return []byte(`{"ok":true,"value":true}`)
+	case d.Code != 0:
+		return api.RefusalText(d.Code, d.Name)
+	case d.IsAllowed:
+		return []byte(api.Allowed)
 	}
 	return []byte(`{"ok":true,"value":false}`)
 }

@@ -33,10 +33,7 @@ var outdated = api.Refusal{Status: http.StatusGone, Code: api.Outdated.Code, Nam
 
 // snapshot answers the lines that make an office with what is in this one, in which sessions have their digests for names.
 func (e *Endpoints) snapshot(r *request) (int, error) {
-	if err := r.may(api.NewOther(api.Snapshot)); err != nil {
-		return 0, err
-	}
-	s, err := e.known(r)
+	s, err := e.knownTo(r, api.Snapshot)
 	if err != nil {
 		return 0, err
 	}
@@ -85,10 +82,7 @@ var watching atomic.Int64
 // watch answers the commands after a number, as server-sent events, until the client or its right to them is gone.
 func (e *Endpoints) watch(r *request) (int, error) {
 	began := time.Now()
-	if err := r.may(api.NewOther(api.Watch)); err != nil {
-		return 0, err
-	}
-	s, err := e.known(r)
+	s, err := e.knownTo(r, api.Watch)
 	if err != nil {
 		return 0, err
 	}

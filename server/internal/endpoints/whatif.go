@@ -1,9 +1,7 @@
 package endpoints
 
 import (
-	"errors"
 	"net/http"
-	"strconv"
 
 	"rbac-node/internal/api"
 )
@@ -13,10 +11,7 @@ const mostTried = 262_144
 
 // whatIf answers what commands would change. They are done over a clone of the office.
 func (e *Endpoints) whatIf(r *request) (int, error) {
-	if err := r.may(api.NewOther(api.WhatIf)); err != nil {
-		return 0, err
-	}
-	office, err := e.known(r)
+	office, err := e.knownTo(r, api.WhatIf)
 	if err != nil {
 		return 0, err
 	}
@@ -45,10 +40,6 @@ func readTried(r *request) ([]*api.Call, error) {
 			err = &api.LineError{Number: api.LineOf(body, i), Refusal: refused}
 			break
 		}
-	}
-	var at *api.LineError
-	if errors.As(err, &at) {
-		r.w.Header().Set("Office-Line", strconv.Itoa(at.Number))
 	}
 	if err == nil && len(calls) == 0 {
 		err = notRead("the body has no command")

@@ -9,17 +9,15 @@ import (
 	"rbac-node/internal/endpoints"
 )
 
-// serveEndpoints makes what no function of the office does answerable, if the office can do it.
+// serveEndpoints makes what no function of the office does answerable.
 func (f *Front) serveEndpoints(life context.Context) {
-	office, can := f.office.(endpoints.Office)
-	if !can {
-		return
-	}
-	f.endpoints = endpoints.New(life, office, endpoints.Options{
+	f.endpoints = endpoints.New(life, f.office, endpoints.Options{
 		PublicURL: f.PublicURL, Note: f.handler.Note,
 		Decided: func(r *http.Request, visitor endpoints.Visitor, decided api.Decision) {
-			visit, _ := visitor.(*callers.Visit)
-			decided.Caller = callerOf(r, visit)
+			if f.logged != nil {
+				visit, _ := visitor.(*callers.Visit)
+				decided.Caller = callerOf(r, visit)
+			}
 			f.handler.Decided(decided)
 		},
 		Sign: func(r *http.Request, visitor endpoints.Visitor, call *api.Call) error {

@@ -73,12 +73,11 @@ type Front struct {
 	origins map[string]bool
 	// isLocal says that clients can only connect from this machine.
 	isLocal bool
-	// refusedAt is since when the files of the callers aren't those in force, in seconds of Unix, or 0.
-	refusedAt gauge
+	// refusedAt is since when the files of the callers aren't those in force, in nanoseconds of Unix, or 0.
+	refusedAt atomic.Int64
 	handler   *api.Handler
-	// endpoints is nil if the office can do no more than its functions.
 	endpoints *endpoints.Endpoints
-	office    api.Office
+	office    endpoints.Office
 	listeners []net.Listener
 	servers   []*http.Server
 	// stage says what a start does, and isServing that it has come to its end.
@@ -114,7 +113,8 @@ func (f *Front) addMetrics() {
 	f.refused.WithLabelValues(strconv.Itoa(http.StatusUnauthorized))
 	metrics.Flag(f.Metrics, "rbac_node_open", "1 if everybody who can connect may do everything.", f.IsOpen)
 	metrics.Gauge(f.Metrics, "rbac_node_callers_refused_timestamp_seconds",
-		"Since when the files of the callers are not those in force, in seconds of Unix, or 0.", f.refusedAt.load)
+		"Since when the files of the callers are not those in force, in seconds of Unix, or 0.",
+		func() float64 { return float64(f.refusedAt.Load()) / 1e9 })
 	metrics.Gauge(f.Metrics, "rbac_node_connections", "Connections of clients.", func() float64 { return float64(f.room.Connections()) })
 }
 
@@ -204,7 +204,7 @@ func (f *Front) configAt(i int) *tls.Config {
 }
 
 // Serve answers clients from an office.
-func (f *Front) Serve(life context.Context, start func(func() error), office api.Office) {
+func (f *Front) Serve(life context.Context, start func(func() error), office endpoints.Office) {
 	f.office, f.handler = office, api.NewHandler(life, office, f.Metrics)
 	if f.logged != nil {
 		f.handler.LogDecision = f.logged.Note

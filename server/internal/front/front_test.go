@@ -19,6 +19,7 @@ import (
 	"rbac-node/internal/api"
 	"rbac-node/internal/callers"
 	"rbac-node/internal/logs"
+	"rbac-node/internal/state"
 )
 
 // An echo is an office that answers each call with its line, and the opening question with nothing special.
@@ -31,6 +32,12 @@ func (e *echo) Do(_ context.Context, b api.Batch) (api.Answers, error) {
 	e.asked = append(e.asked, string(b.Calls[0].Line))
 	return api.Answers{Texts: [][]byte{[]byte(`{"ok":true}`)}}, nil
 }
+
+func (e *echo) Await(context.Context, api.Kind) (api.Point, error) { return api.Point{}, nil }
+
+func (e *echo) State() *state.State { return nil }
+
+func (e *echo) IsReady() bool { return true }
 
 func (e *echo) ServeHealth(w http.ResponseWriter, _ *http.Request) {
 	_, _ = io.WriteString(w, e.health)
@@ -118,7 +125,8 @@ func TestRequests(t *testing.T) {
 		{"open, a foreign origin", "", "POST", assign, clerk, head{"Origin": "https://evil.example"}, 403, `{"code":65,"error":"ForeignOrigin"}`},
 		{"open, the origin null", "", "POST", assign, clerk, head{"Origin": "null"}, 403, "ForeignOrigin"},
 		{"open, an empty origin", "", "POST", assign, clerk, head{"Origin": ""}, 403, "ForeignOrigin"},
-		{"open, an origin on this machine", "", "POST", assign, clerk, head{"Origin": "http://localhost"}, 403, "ForeignOrigin"},
+		{"open, an origin on this machine", "", "POST", assign, clerk, head{"Origin": "http://localhost:1"}, 403, "ForeignOrigin"},
+		{"open, a page of the front itself", "", "POST", assign, clerk, head{"Origin": "http://localhost"}, 200, `{"ok":true}`},
 		{"open, an own origin", "", "POST", assign, clerk, head{"Origin": "https://console.example"}, 200, `{"ok":true}`},
 		{"open, an own origin in another case", "", "POST", assign, clerk, head{"Origin": "https://Console.example"}, 403, "ForeignOrigin"},
 		{"open, a question about an origin", "", "OPTIONS", assign, "", head{"Origin": "https://evil.example"}, 403, "ForeignOrigin"},
@@ -253,7 +261,7 @@ func TestReload(t *testing.T) {
 			if given := [2]int{ask(clerk), ask(boss)}; given != [2]int{test.clerk, test.boss} {
 				t.Errorf("%v", given)
 			}
-			if since := f.refusedAt.load(); (since > 0) != test.isRefused {
+			if since := f.refusedAt.Load(); (since > 0) != test.isRefused {
 				t.Errorf("refused since %v", since)
 			}
 		})

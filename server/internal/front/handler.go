@@ -3,11 +3,9 @@ package front
 import (
 	"encoding/json"
 	"errors"
-	"math"
 	"net"
 	"net/http"
 	"strings"
-	"sync/atomic"
 	"time"
 
 	"rbac-node/internal/api"
@@ -33,7 +31,7 @@ func (f *Front) ServeHTTP(w http.ResponseWriter, r *http.Request) {
 		f.serveStart(w, r)
 		return
 	}
-	if origins, has := r.Header["Origin"]; has && !f.areOwn(origins) && !(f.endpoints != nil && isOwnPage(r, origins)) {
+	if origins, has := r.Header["Origin"]; has && !f.areOwn(origins) && !isOwnPage(r, origins) {
 		api.Close(w)
 		f.refuse(w, r, "", errors.New("a page of "+strings.Join(origins, ", ")), api.ForeignOrigin)
 		return
@@ -47,10 +45,10 @@ func (f *Front) ServeHTTP(w http.ResponseWriter, r *http.Request) {
 		f.serveHealth(w, r)
 		return
 	}
-	if f.endpoints != nil && (f.endpoints.ServeConfiguration(w, r) || f.endpoints.ServeTicket(w, r)) {
+	if f.endpoints.ServeConfiguration(w, r) || f.endpoints.ServeTicket(w, r) {
 		return
 	}
-	if f.endpoints != nil && console.Has(r) {
+	if console.Has(r) {
 		start := time.Now()
 		f.handler.Note("page", console.Serve(w, r), start)
 		return
@@ -61,7 +59,7 @@ func (f *Front) ServeHTTP(w http.ResponseWriter, r *http.Request) {
 	}
 	visit, why, err := f.guard.Enter(r)
 	if err != nil {
-		f.refuse(w, r, "", why, refusalOf(err))
+		f.refuse(w, r, "", why, api.RefusalOf(err))
 		return
 	}
 	defer visit.Leave()
@@ -134,7 +132,7 @@ func (f *Front) answer(w http.ResponseWriter, r *http.Request, visit *callers.Vi
 		f.answerMetrics(w, r, visit)
 		return
 	}
-	if f.endpoints != nil && f.endpoints.Has(r) {
+	if f.endpoints.Has(r) {
 		f.answerEndpoint(w, r, visit)
 		return
 	}
@@ -177,7 +175,7 @@ func (f *Front) denied(r *http.Request, visit *callers.Visit, err error) error {
 	if err == nil {
 		return nil
 	}
-	refusal := refusalOf(err)
+	refusal := api.RefusalOf(err)
 	if refusal == api.Forbidden {
 		web.Refused(r.Context())
 	}
@@ -189,18 +187,11 @@ func (f *Front) denied(r *http.Request, visit *callers.Visit, err error) error {
 func (f *Front) answerMetrics(w http.ResponseWriter, r *http.Request, visit *callers.Visit) {
 	if visit != nil {
 		if err := visit.MayRead(callers.Metrics); err != nil {
-			f.refuse(w, r, visit.Caller, errDenied, refusalOf(err))
+			f.refuse(w, r, visit.Caller, errDenied, api.RefusalOf(err))
 			return
 		}
 	}
 	f.metrics.ServeHTTP(w, r)
-}
-
-// refusalOf returns how an error is answered.
-func refusalOf(err error) api.Refusal {
-	refusal := api.Unavailable
-	_ = errors.As(err, &refusal)
-	return refusal
 }
 
 // areOwn reports whether all origins of a request are those of the front's pages.
@@ -244,10 +235,3 @@ func isLocalHost(host string) bool {
 	ip := net.ParseIP(name)
 	return ip != nil && ip.IsLoopback()
 }
-
-// A gauge is a number that many goroutines may use.
-type gauge struct{ bits atomic.Uint64 }
-
-func (g *gauge) store(value float64) { g.bits.Store(math.Float64bits(value)) }
-
-func (g *gauge) load() float64 { return math.Float64frombits(g.bits.Load()) }

@@ -32,13 +32,11 @@ func (f *Front) ReloadOnSignal(ctx context.Context) {
 func (f *Front) reload(ctx context.Context) {
 	set, err := callers.Load(ctx, f.Callers)
 	if err != nil {
-		if f.refusedAt.load() == 0 {
-			f.refusedAt.store(float64(time.Now().UnixNano()) / 1e9)
-		}
+		f.refusedAt.CompareAndSwap(0, time.Now().UnixNano())
 		f.Log.Error("the callers are refused, and those before stay in force", "why", err)
 		return
 	}
-	f.refusedAt.store(0)
+	f.refusedAt.Store(0)
 	within, cancel := context.WithTimeout(ctx, settling)
 	defer cancel()
 	if err := f.guard.Replace(within, set, f.ask); err != nil {

@@ -5,6 +5,8 @@ import (
 	"database/sql"
 	"strings"
 	"testing"
+
+	"rbac-node/internal/state"
 )
 
 func TestStretch(t *testing.T) {
@@ -42,14 +44,14 @@ func TestAccess(t *testing.T) {
 	if err := tool.Access(context.Background(), query); err != nil {
 		t.Fatal(err)
 	}
-	for _, want := range []string{"user,object,operation,role,session\n", "ann,safe,open,," + DigestOf("secret") + "\n", "ann,safe,open,clerk,\n"} {
+	for _, want := range []string{"user,object,operation,role,session\n", "ann,safe,open,," + state.DigestOf("secret") + "\n", "ann,safe,open,clerk,\n"} {
 		if !strings.Contains(out.String(), want) {
 			t.Errorf("%q is not in %s", want, out)
 		}
 	}
 	query.Entry = 7
 	out.Reset()
-	if err := tool.Access(context.Background(), query); err != nil || strings.Contains(out.String(), DigestOf("secret")) {
+	if err := tool.Access(context.Background(), query); err != nil || strings.Contains(out.String(), state.DigestOf("secret")) {
 		t.Errorf("before the session: %v, %s", err, out)
 	}
 }

@@ -10,6 +10,8 @@ import (
 	"strings"
 	"unicode"
 	"unicode/utf8"
+
+	"rbac-node/internal/disk"
 )
 
 const (
@@ -106,10 +108,7 @@ func (r *Record) beginAnew(ctx context.Context, by adoption, reason string) erro
 
 // adoptFirst begins the record of an office that has commands and no record.
 func (t *Tool) adoptFirst(ctx context.Context, by adoption, reason string) error {
-	lock, err := t.lockIfFree(ctx)
-	if err == nil && lock == nil {
-		err = errFrontRuns
-	}
+	lock, err := t.lock(ctx)
 	if err != nil {
 		return err
 	}
@@ -172,9 +171,7 @@ func (r *Record) changed(ctx context.Context, copied string) (*changes, error) {
 		return nil, err
 	}
 	err = again.each(ctx, entriesAfter(ctx, r.db, n, r.head.n))
-	if closing := again.Close(); err == nil {
-		err = closing
-	}
+	err = disk.Close(again, err)
 	var wrong *AnswerError
 	if errors.As(err, &wrong) {
 		return nil, nil
@@ -234,11 +231,8 @@ func (c *changes) add(ctx context.Context, db *sql.DB, query, sign, table string
 		if len(c.Rows) == mostChanged {
 			continue
 		}
-		values, places := make([]any, len(names)), make([]any, len(names))
-		for i := range values {
-			places[i] = &values[i]
-		}
-		if err := rows.Scan(places...); err != nil {
+		values := make([]any, len(names))
+		if err := rows.Scan(placesOf(values)...); err != nil {
 			return err
 		}
 		c.Rows = append(c.Rows, append([]any{sign, table}, values...))

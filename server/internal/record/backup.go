@@ -17,6 +17,7 @@ import (
 	"syscall"
 	"time"
 
+	"rbac-node/internal/disk"
 	"rbac-node/internal/office"
 )
 
@@ -58,7 +59,7 @@ func (t *Tool) Backup(ctx context.Context, folder string) error {
 	if err := os.Rename(making, made); err != nil {
 		return fmt.Errorf("backup: %w", err)
 	}
-	if err := syncPath(folder); err != nil {
+	if err := disk.Sync(folder); err != nil {
 		return fmt.Errorf("backup: %w", err)
 	}
 	fmt.Fprintln(t.Out, made)
@@ -78,7 +79,7 @@ func linkOrCopy(path, to, folder string) error {
 			return nil
 		}
 	}
-	return copyFile(path, to)
+	return disk.Copy(path, to)
 }
 
 // isSame reports whether two files have the same bytes.
@@ -139,17 +140,7 @@ func (t *Tool) copyPair(ctx context.Context, files []string, to string) error {
 			return err
 		}
 	}
-	return syncAll(filepath.Dir(to))
-}
-
-// syncAll makes a folder durable with all that is in it.
-func syncAll(folder string) error {
-	return filepath.Walk(folder, func(path string, _ os.FileInfo, err error) error {
-		if err != nil {
-			return err
-		}
-		return syncPath(path)
-	})
+	return disk.SyncAll(filepath.Dir(to))
 }
 
 // A keptPair is what is left to copy once the office goes on: the record as it was, and the newest base.
@@ -191,14 +182,16 @@ func (k *keptPair) copyTo(ctx context.Context, path string) error {
 	if err != nil {
 		return err
 	}
-	_, err = db.ExecContext(ctx, schema)
-	if closing := db.Close(); err == nil {
-		err = closing
-	}
-	if err != nil {
+	err = inTransaction(db, func(tx *sql.Tx) error {
+		_, err := tx.ExecContext(ctx, schema)
+		for _, table := range []string{"part", "entry"} {
+			if err == nil {
+				err = copyTable(ctx, k.tx, tx, table)
+			}
+		}
 		return err
-	}
-	if err := k.fill(ctx, path); err != nil {
+	})
+	if err = disk.Close(db, err); err != nil {
 		return err
 	}
 	if k.base == nil {
@@ -208,11 +201,8 @@ func (k *keptPair) copyTo(ctx context.Context, path string) error {
 	if err != nil {
 		return err
 	}
-	if _, err := io.Copy(target, k.base); err != nil {
-		_ = target.Close()
-		return err
-	}
-	return target.Close()
+	_, err = io.Copy(target, k.base)
+	return disk.Close(target, err)
 }
 
 // hold keeps the office from being written until release is called: it locks the office, or pauses the replay of the front that has
@@ -321,26 +311,6 @@ func isPaused(pid int) bool {
 	return len(tasks) > 0
 }
 
-// fill copies all rows of the record to a file with its tables.
-func (k *keptPair) fill(ctx context.Context, path string) error {
-	db, err := openFile(path, "_txlock=immediate")
-	if err != nil {
-		return err
-	}
-	defer db.Close()
-	tx, err := db.BeginTx(ctx, nil)
-	if err != nil {
-		return err
-	}
-	defer func() { _ = tx.Rollback() }() // After a commit it does nothing.
-	for _, table := range []string{"part", "entry"} {
-		if err := copyTable(ctx, k.tx, tx, table); err != nil {
-			return err
-		}
-	}
-	return tx.Commit()
-}
-
 // copyTable copies all rows of a table.
 func copyTable(ctx context.Context, from querier, to *sql.Tx, table string) error {
 	rows, err := from.QueryContext(ctx, "SELECT * FROM "+table)
@@ -357,12 +327,9 @@ func copyTable(ctx context.Context, from querier, to *sql.Tx, table string) erro
 		return err
 	}
 	defer insert.Close()
-	values, places := make([]any, len(names)), make([]any, len(names))
-	for i := range values {
-		places[i] = &values[i]
-	}
+	values := make([]any, len(names))
 	for rows.Next() {
-		if err := rows.Scan(places...); err != nil {
+		if err := rows.Scan(placesOf(values)...); err != nil {
 			return err
 		}
 		if _, err := insert.ExecContext(ctx, values...); err != nil {

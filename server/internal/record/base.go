@@ -8,6 +8,7 @@ import (
 	"sort"
 	"strings"
 
+	"rbac-node/internal/disk"
 	"rbac-node/internal/office"
 )
 
@@ -59,9 +60,7 @@ func mapped(ctx context.Context, program, path string) (sums, error) {
 	if err = c.mapSessions(ctx); err == nil {
 		s, err = c.sums(ctx)
 	}
-	if closing := c.Close(); err == nil {
-		err = closing
-	}
+	err = disk.Close(c, err)
 	if err != nil {
 		return s, err
 	}
@@ -71,16 +70,16 @@ func mapped(ctx context.Context, program, path string) (sums, error) {
 // addBase makes a mapped copy of the office after the entry n a base, and deletes the oldest ones.
 func addBase(dir, copied string, b base) error {
 	making := filepath.Join(dir, makingName)
-	if err := copyFile(copied, making); err != nil {
+	if err := disk.Copy(copied, making); err != nil {
 		return fmt.Errorf("base copy: %w", err)
 	}
-	if err := syncPath(making); err != nil {
+	if err := disk.Sync(making); err != nil {
 		return fmt.Errorf("base copy: %w", err)
 	}
 	if err := os.Rename(making, filepath.Join(dir, b.name())); err != nil {
 		return fmt.Errorf("base copy: %w", err)
 	}
-	if err := syncPath(dir); err != nil {
+	if err := disk.Sync(dir); err != nil {
 		return fmt.Errorf("base copy: %w", err)
 	}
 	found, err := basesIn(dir)

@@ -8,6 +8,7 @@ import (
 	"os"
 	"path/filepath"
 
+	"rbac-node/internal/disk"
 	"rbac-node/internal/office"
 )
 
@@ -38,7 +39,7 @@ func (t *Tool) copyNode(ctx context.Context, files []string, to string) error {
 	if err != nil {
 		return err
 	}
-	return syncAll(to)
+	return disk.SyncAll(to)
 }
 
 // copyNewest copies the newest snapshot into a folder. If the node deletes it meanwhile, there are newer ones.
@@ -49,7 +50,7 @@ func (t *Tool) copyNewest(folder string) (copied string, head Head, err error) {
 			return "", head, err
 		}
 		copied = filepath.Join(folder, filepath.Base(snapshot))
-		err = copyFile(snapshot, copied)
+		err = disk.Copy(snapshot, copied)
 		if err == nil || !errors.Is(err, os.ErrNotExist) || snapshot == last {
 			return copied, head, err
 		}
@@ -68,7 +69,7 @@ func copyRecord(ctx context.Context, files []string, dir string) error {
 		return err
 	}
 	for _, path := range files[:len(files)-1] {
-		if err := copyFile(path, filepath.Join(dir, filepath.Base(path))); err != nil {
+		if err := disk.Copy(path, filepath.Join(dir, filepath.Base(path))); err != nil {
 			return err
 		}
 	}
@@ -123,5 +124,5 @@ func carry(ctx context.Context, options Options, files []string, snapshot string
 	if err != nil {
 		return Head{}, err
 	}
-	return r.Head(), syncAll(options.Dir)
+	return r.Head(), disk.SyncAll(options.Dir)
 }

@@ -8,6 +8,8 @@ import (
 	"path/filepath"
 	"strings"
 	"time"
+
+	"rbac-node/internal/disk"
 )
 
 const (
@@ -46,22 +48,17 @@ func followChain(ctx context.Context, path string, last entry, to int64, each ..
 		return last, err
 	}
 	defer v.Close()
-	ctx, cancel := context.WithCancel(ctx)
-	defer cancel() // It closes what is still being read.
-	next := entriesAfter(ctx, v.tx, last.n, to)
-	for {
-		e, err := next()
-		if err != nil || e == nil {
-			return last, err
-		}
+	err = entriesAfter(ctx, v.tx, last.n, to)(func(e *entry) error {
 		if e.n != last.n+1 || chained(last.ch, e) != e.ch {
-			return last, &breakError{last.n + 1}
+			return &breakError{last.n + 1}
 		}
 		last = *e
 		for _, do := range each {
 			do(last)
 		}
-	}
+		return nil
+	})
+	return last, err
 }
 
 // place returns the entry up to which the chain of the file at hand was verified, if it is there.
@@ -83,11 +80,7 @@ func (r *Record) place() (last entry) {
 
 // keepPlace writes up to which entry the chain was verified.
 func (r *Record) keepPlace(last entry) error {
-	making := filepath.Join(r.dir, placeName+".making")
-	if err := os.WriteFile(making, []byte(Head{last.n, last.ch}.String()+"\n"), 0o600); err != nil {
-		return err
-	}
-	return os.Rename(making, filepath.Join(r.dir, placeName))
+	return disk.Write(filepath.Join(r.dir, placeName), Head{last.n, last.ch}.String()+"\n")
 }
 
 // verifyStart verifies the chain of the file at hand from the last verified place on.

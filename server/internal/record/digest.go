@@ -1,28 +1,18 @@
 package record
 
 import (
-	"encoding/hex"
 	"net/http"
-
-	"golang.org/x/crypto/sha3"
 
 	"rbac-node/internal/api"
 	"rbac-node/internal/feed"
+	"rbac-node/internal/state"
 )
 
 const (
-	// digestBytes is how many bytes of the SHA3-256 of a session's name are shown.
-	digestBytes = 16
 	// longestName is how many bytes the office lets a name have.
 	longestName = 64
 	session     = "session"
 )
-
-// DigestOf returns what is shown outside the office in place of a session's name, which lets whoever knows it use the session.
-func DigestOf(name string) string {
-	sum := sha3.Sum256([]byte(name))
-	return hex.EncodeToString(sum[:digestBytes])
-}
 
 // recordedText returns what is recorded in place of the text that names a session. The office refuses a text that is no name
 // whatever else it has, so an empty one is refused in the same way.
@@ -35,7 +25,7 @@ func recordedText(text string) string {
 			return ""
 		}
 	}
-	return DigestOf(text)
+	return state.DigestOf(text)
 }
 
 // recordedLine returns the line that is recorded for a command. It refuses one that would be longer than the replay accepts.

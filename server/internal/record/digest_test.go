@@ -7,6 +7,7 @@ import (
 	"rbac-node/internal/api"
 	"rbac-node/internal/feed"
 	"rbac-node/internal/office"
+	"rbac-node/internal/state"
 )
 
 func TestRecordedText(t *testing.T) {
@@ -17,8 +18,8 @@ func TestRecordedText(t *testing.T) {
 		{"too long a name", strings.Repeat("x", 65), ""},
 		{"a tab", "a\tb", ""},
 		{"a delete character", "a\x7f", ""},
-		{"other letters", "ä", DigestOf("ä")},
-		{"a digest", "b74873c54c09ef651f3994313cc993b4", DigestOf("b74873c54c09ef651f3994313cc993b4")},
+		{"other letters", "ä", state.DigestOf("ä")},
+		{"a digest", "b74873c54c09ef651f3994313cc993b4", state.DigestOf("b74873c54c09ef651f3994313cc993b4")},
 	} {
 		t.Run(test.name, func(t *testing.T) {
 			if given := recordedText(test.text); given != test.wanted {
@@ -29,7 +30,7 @@ func TestRecordedText(t *testing.T) {
 }
 
 func TestAdmit(t *testing.T) {
-	digest := DigestOf("s")
+	digest := state.DigestOf("s")
 	roles := strings.Repeat(`"`+strings.Repeat("r", 61)+`",`, 1000)
 	for _, test := range []struct{ name, line, wanted string }{
 		{"a command without a session", `{"fn":"addUser","user":"ann"}`, `{"fn":"addUser","user":"ann"}`},

@@ -11,6 +11,7 @@ import (
 	"syscall"
 	"time"
 
+	"rbac-node/internal/disk"
 	"rbac-node/internal/logs"
 	"rbac-node/internal/office"
 	"rbac-node/internal/recorded"
@@ -65,10 +66,7 @@ func (t *Tool) cutNode(ctx context.Context) error {
 	if _, err := filesOf(t.dir()); err != nil {
 		return err
 	}
-	lock, err := t.lockIfFree(ctx)
-	if err == nil && lock == nil {
-		err = errNodeRuns
-	}
+	lock, err := t.lock(ctx)
 	if err != nil {
 		return err
 	}
@@ -196,7 +194,7 @@ func (f *Follower) divide(ctx context.Context, head Head, rows, copied string) (
 		f.fail(failed)
 		return "", failed
 	}
-	f.noteWriting(nil)
+	f.note(nil, entriesWait)
 	return closed, err
 }
 
@@ -207,7 +205,7 @@ func (f *Follower) insist(ctx context.Context, do func() error) error {
 		if err == nil || !mayPass(err) {
 			return err
 		}
-		f.noteWriting(err)
+		f.note(err, entriesWait)
 		if wait(ctx, retryPause) != nil {
 			return err
 		}
@@ -301,9 +299,7 @@ func tidyParts(dir string) error {
 		return err
 	}
 	has, err := hasLater(ctx, db, part, named)
-	if closing := db.Close(); err == nil {
-		err = closing
-	}
+	err = disk.Close(db, err)
 	if err != nil || !has {
 		return err
 	}
@@ -343,16 +339,14 @@ func mergeLog(path string) error {
 		return err
 	}
 	_, err = db.Exec("SELECT 1 FROM part") // The log of a file that nobody has read is not merged.
-	if closing := db.Close(); err == nil {
-		err = closing
-	}
+	err = disk.Close(db, err)
 	if err != nil {
 		return err
 	}
 	if _, err := os.Stat(path + walSuffix); !errors.Is(err, os.ErrNotExist) {
 		return errOthersRead
 	}
-	return syncPath(path)
+	return disk.Sync(path)
 }
 
 // removeAfter removes the entries after a number from a file, and makes it durable with its log merged.
@@ -365,8 +359,6 @@ func removeAfter(ctx context.Context, path string, n int64) error {
 		_, err := tx.ExecContext(ctx, "DELETE FROM entry WHERE n > ?", n)
 		return err
 	})
-	if closing := db.Close(); err == nil {
-		err = closing
-	}
+	err = disk.Close(db, err)
 	return err
 }

@@ -16,6 +16,7 @@ import (
 	sqlite3 "github.com/mattn/go-sqlite3"
 
 	"rbac-node/internal/recorded"
+	"rbac-node/internal/state"
 )
 
 // formatVersion is the version of the tables and of the entries, which a file has at user_version. Files of before have 0.
@@ -124,8 +125,8 @@ func init() {
 	}})
 }
 
-// digestOf is DigestOf, unless a test wants two names with one digest.
-var digestOf = DigestOf
+// digestOf is what a name of a session is outside the office, unless a test wants two names with one digest.
+var digestOf = state.DigestOf
 
 // openFile opens a file of SQLite by one connection, since some settings belong to a connection.
 func openFile(path, options string) (*sql.DB, error) {

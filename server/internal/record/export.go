@@ -8,6 +8,8 @@ import (
 	"path/filepath"
 	"strings"
 	"time"
+
+	"rbac-node/internal/disk"
 )
 
 // An Export sends entries to a receiver of syslog.
@@ -101,18 +103,11 @@ func (x *exporter) writePlace() error {
 	if x.sent == x.kept {
 		return nil
 	}
-	making := x.Place + ".making"
-	if err := os.WriteFile(making, []byte(x.sent.String()+"\n"), 0o600); err != nil {
-		return err
-	}
-	if err := syncPath(making); err != nil {
-		return err
-	}
-	if err := os.Rename(making, x.Place); err != nil {
+	if err := disk.Write(x.Place, x.sent.String()+"\n"); err != nil {
 		return err
 	}
 	x.kept = x.sent
-	return syncPath(filepath.Dir(x.Place))
+	return nil
 }
 
 // sendNew sends the entries behind the place.

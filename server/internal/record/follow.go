@@ -128,9 +128,7 @@ func (f *Follower) closeBefore(n int64) (has bool, err error) {
 		return true, err
 	}
 	first, last, err := endsOf(db)
-	if closing := db.Close(); err == nil {
-		err = closing
-	}
+	err = disk.Close(db, err)
 	if err != nil || last >= n {
 		return true, err
 	}
@@ -181,7 +179,7 @@ func (f *Follower) prepare(ctx context.Context, has bool) error {
 		if has {
 			return nil
 		}
-		return copyFile(copied, filepath.Join(f.dir, preparedName))
+		return disk.Copy(copied, filepath.Join(f.dir, preparedName))
 	})
 }
 
@@ -320,7 +318,7 @@ func (f *Follower) flush(level string) error {
 	if err = noRoom; err == nil {
 		err = f.append(queue, level)
 	}
-	f.noteWriting(err)
+	f.note(err, entriesWait)
 	f.mutex.Lock()
 	defer f.mutex.Unlock()
 	switch {
@@ -359,20 +357,8 @@ func mayPass(err error) bool {
 	return false
 }
 
-// noteWriting notes whether entries can be written, and logs when that changes.
-func (f *Follower) noteWriting(err error) {
-	f.Record.mutex.Lock()
-	defer f.Record.mutex.Unlock()
-	switch {
-	case err != nil && f.failing == "":
-		f.Log.Error("the record can't be written, so its entries wait", "why", err)
-	case err == nil && f.failing != "":
-		f.Log.Info("the record can be written again")
-	}
-	if f.failing = ""; err != nil {
-		f.failing = err.Error()
-	}
-}
+// entriesWait is what follows if they can't be written.
+const entriesWait = "the record can't be written, so its entries wait"
 
 func (f *Follower) append(queue []entry, level string) error {
 	if err := f.sync(level); err != nil {

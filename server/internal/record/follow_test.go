@@ -15,10 +15,12 @@ import (
 	"time"
 
 	"rbac-node/internal/api"
+	"rbac-node/internal/disk"
 	"rbac-node/internal/logs"
 	"rbac-node/internal/office"
 	"rbac-node/internal/programtest"
 	"rbac-node/internal/recorded"
+	"rbac-node/internal/state"
 )
 
 // A machine is a folder of a node with its record, and an office in use that nothing has open.
@@ -54,7 +56,7 @@ func (m *machine) start(snapshot string) {
 		m.Fatal(err)
 	}
 	if snapshot != "" {
-		if err := copyFile(snapshot, file); err != nil {
+		if err := disk.Copy(snapshot, file); err != nil {
 			m.Fatal(err)
 		}
 	} else if said, err := exec.Command(programtest.Path(m.T), "init", file).CombinedOutput(); err != nil {
@@ -192,7 +194,7 @@ func TestFollow(t *testing.T) {
 	if one, other := first.entries(), second.entries(); one != other || strings.Count(one, "\n") != 8 || first.Added() != second.Added() {
 		t.Errorf("one has\n%s\nand the other\n%s", one, other)
 	}
-	if strings.Contains(first.entries(), "secret") || !strings.Contains(first.entries(), DigestOf("secret")) {
+	if strings.Contains(first.entries(), "secret") || !strings.Contains(first.entries(), state.DigestOf("secret")) {
 		t.Error("it has the name of a session, or no digest of one")
 	}
 	first.snapshot(12)

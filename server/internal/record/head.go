@@ -13,6 +13,7 @@ import (
 	"syscall"
 	"time"
 
+	"rbac-node/internal/disk"
 	"rbac-node/internal/metrics"
 )
 
@@ -97,7 +98,7 @@ func (r *Record) DurableHead() (Head, error) {
 // syncLog makes durable what was written to the log of a file of a record. SQLite syncs the file itself when it merges the log. The file
 // is not opened here: when it is closed, this process would lose the locks that SQLite has on it.
 func syncLog(path string) error {
-	err := syncPath(path + walSuffix)
+	err := disk.Sync(path + walSuffix)
 	if err != nil && !errors.Is(err, os.ErrNotExist) && !errors.Is(err, syscall.EROFS) {
 		return fmt.Errorf("record: %w", err)
 	}

@@ -7,6 +7,8 @@ import (
 	"os"
 	"path/filepath"
 	"strings"
+
+	"rbac-node/internal/disk"
 )
 
 // objectsOf returns the tables, indexes, views and triggers of a file, each with the statement that makes it.
@@ -90,7 +92,7 @@ func (v *verifier) compareBases(ctx context.Context, opened *view, p part, end i
 		if b.n < p.first || b.n > end {
 			continue
 		}
-		if err := again.each(ctx, v.checked(entriesAfter(ctx, opened.tx, v.last.n, b.n), p)); err != nil {
+		if err := again.each(ctx, v.checked(ctx, opened, p, b.n)); err != nil {
 			return err
 		}
 		given, err := again.sums(ctx)
@@ -98,7 +100,7 @@ func (v *verifier) compareBases(ctx context.Context, opened *view, p part, end i
 			return err
 		}
 		file := filepath.Join(v.scratch, "base")
-		if err := copyFile(filepath.Join(v.dir(), b.name()), file); errors.Is(err, os.ErrNotExist) {
+		if err := disk.Copy(filepath.Join(v.dir(), b.name()), file); errors.Is(err, os.ErrNotExist) {
 			continue // A newer one has taken its place meanwhile.
 		} else if err != nil {
 			return err

@@ -30,7 +30,7 @@ func TestAlarm(t *testing.T) {
 	if err := r.Admit(unit); err != nil {
 		t.Fatal(err)
 	}
-	r.note(errors.New("no room"))
+	r.note(errors.New("no room"), "it fails")
 	for _, step := range []struct {
 		name  string
 		asked []*feed.Unit

@@ -2,6 +2,7 @@ package record
 
 import (
 	"context"
+	"errors"
 
 	"rbac-node/internal/recorded"
 )
@@ -51,16 +52,20 @@ func addLinks(ctx context.Context, links *recorded.Links, path string, after, la
 		return err
 	}
 	defer v.Close()
-	ctx, cancel := context.WithCancel(ctx)
-	defer cancel() // It closes what is still being read.
-	next, bytes := entriesAfter(ctx, v.tx, after, last), 0
-	for len(links.Entries) < mostLinked && bytes < mostLinkedBytes {
-		e, err := next()
-		if err != nil || e == nil {
-			return err
+	bytes := 0
+	err = entriesAfter(ctx, v.tx, after, last)(func(e *entry) error {
+		if len(links.Entries) == mostLinked || bytes >= mostLinkedBytes {
+			return errEnough
 		}
 		links.Entries = append(links.Entries, e.fields())
 		bytes += e.size()
+		return nil
+	})
+	if errors.Is(err, errEnough) {
+		return nil
 	}
-	return nil
+	return err
 }
+
+// errEnough ends the reading of entries of which only the first are wanted.
+var errEnough = errors.New("there are enough entries")

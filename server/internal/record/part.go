@@ -6,6 +6,8 @@ import (
 	"fmt"
 	"os"
 	"path/filepath"
+
+	"rbac-node/internal/disk"
 )
 
 // partPrefix begins the names of the files of earlier parts.
@@ -108,11 +110,9 @@ func makeNext(dir string, p part, at, copied string, later []entry) (making stri
 		}
 		return insertAll(tx, later, "NORMAL")
 	})
-	if closing := db.Close(); err == nil {
-		err = closing
-	}
+	err = disk.Close(db, err)
 	if err == nil {
-		err = syncPath(making)
+		err = disk.Sync(making)
 	}
 	if err != nil {
 		_ = os.Remove(making) // The disk may be full.
@@ -126,10 +126,10 @@ func putInPlace(dir, making string) error {
 	if err := os.Rename(making, filepath.Join(dir, fileName)); err != nil {
 		return err
 	}
-	if err := syncPath(dir); err != nil {
+	if err := disk.Sync(dir); err != nil {
 		return err
 	}
-	return syncPath(filepath.Dir(dir))
+	return disk.Sync(filepath.Dir(dir))
 }
 
 // inTransaction does something in a transaction, which ends without any of it if that fails.

@@ -9,6 +9,7 @@ import (
 	"path/filepath"
 	"time"
 
+	"rbac-node/internal/disk"
 	"rbac-node/internal/faults"
 	"rbac-node/internal/office"
 )
@@ -38,8 +39,6 @@ func (r *Record) Before(ctx context.Context) error {
 }
 
 func (r *Record) reconcile(ctx context.Context, scratch string) error {
-	ctx, cancel := context.WithCancel(ctx)
-	defer cancel() // It closes what is still being read.
 	want, err := sumsOf(ctx, r.Program, r.Office, filepath.Join(scratch, "office"))
 	if err != nil {
 		return err
@@ -87,15 +86,17 @@ func (r *Record) reconcile(ctx context.Context, scratch string) error {
 // sayingInterval is after how many commands it is said how many were done again.
 const sayingInterval = 100
 
-// reporting returns entries as next does, and reports how many of them it has returned.
-func (r *Record) reporting(next func() (*entry, error), all int64) func() (*entry, error) {
+// reporting are so many entries, of which it reports how many have been done.
+func (r *Record) reporting(all entries, count int64) entries {
 	done := 0
-	return func() (*entry, error) {
-		if done%sayingInterval == 0 {
-			r.say(fmt.Sprintf("command %d of %d since the last copy of the office is done again", done, all))
-		}
-		done++
-		return next()
+	return func(do func(e *entry) error) error {
+		return all(func(e *entry) error {
+			if done%sayingInterval == 0 {
+				r.say(fmt.Sprintf("command %d of %d since the last copy of the office is done again", done, count))
+			}
+			done++
+			return do(e)
+		})
 	}
 }
 
@@ -159,7 +160,7 @@ func startOf(ctx context.Context, db *sql.DB, dir, to string, newest int64) (int
 		return 0, err
 	}
 	for _, b := range bases {
-		if b.n < n || b.n > newest || copyFile(filepath.Join(dir, b.name()), to) != nil {
+		if b.n < n || b.n > newest || disk.Copy(filepath.Join(dir, b.name()), to) != nil {
 			continue
 		}
 		if rows, err := rowsOf(ctx, to); err == nil && rows == b.rows {
@@ -191,41 +192,24 @@ func rowsOf(ctx context.Context, path string) (string, error) {
 	return s.all, err
 }
 
-// entriesAfter returns what returns the entries from one number to another, one after another, and then nil.
-func entriesAfter(ctx context.Context, db querier, after, last int64) func() (*entry, error) {
-	var rows *sql.Rows
-	return func() (*entry, error) {
-		if rows == nil {
-			var err error
-			rows, err = db.QueryContext(ctx, "SELECT "+columns+" FROM entry WHERE n > ? AND n <= ? ORDER BY n", after, last)
-			if err != nil {
-				return nil, err
-			}
-		}
-		if !rows.Next() {
-			err := rows.Err()
-			_ = rows.Close()
-			return nil, err
-		}
-		e, err := entryOf(rows)
-		if err != nil {
-			_ = rows.Close()
-		}
-		return &e, err
+// Entries call a function with entries, one after another, until it fails.
+type entries func(do func(e *entry) error) error
+
+// entriesAfter are the entries after a number, up to another one.
+func entriesAfter(ctx context.Context, db querier, after, last int64) entries {
+	return func(do func(e *entry) error) error {
+		return eachEntry(ctx, db, "WHERE n > ? AND n <= ? ORDER BY n", []any{after, last}, do)
 	}
 }
 
 // openEntries returns the entries that have no answer, which are the last ones.
 func openEntries(ctx context.Context, db querier, answered int64) (open []entry, err error) {
-	next := entriesAfter(ctx, db, answered, 1<<62)
-	for n := answered + 1; ; n++ {
-		e, err := next()
-		if err != nil || e == nil {
-			return open, err
-		}
-		if e.n != n {
-			return nil, fmt.Errorf("entry %d is missing", n)
+	err = entriesAfter(ctx, db, answered, 1<<62)(func(e *entry) error {
+		if n := answered + 1 + int64(len(open)); e.n != n {
+			return fmt.Errorf("entry %d is missing", n)
 		}
 		open = append(open, *e)
-	}
+		return nil
+	})
+	return open, err
 }

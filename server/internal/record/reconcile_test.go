@@ -16,6 +16,7 @@ import (
 	"rbac-node/internal/feed"
 	"rbac-node/internal/logs"
 	"rbac-node/internal/programtest"
+	"rbac-node/internal/state"
 )
 
 // A heard log is written by goroutines of a record while a test reads it.
@@ -276,7 +277,7 @@ func TestFull(t *testing.T) {
 func TestSessions(t *testing.T) {
 	b := open(t)
 	lines := []string{addAnn, addRole, assign}
-	for _, name := range []string{"s", DigestOf("s"), DigestOf(DigestOf("s")), "t"} {
+	for _, name := range []string{"s", state.DigestOf("s"), state.DigestOf(state.DigestOf("s")), "t"} {
 		lines = append(lines, `{"fn":"createSession","user":"ann","roles":["clerk"],"session":"`+name+`"}`)
 	}
 	if err := b.Keep(answer(b.ask(lines...), b.do(lines...)), nil); err != nil {
@@ -300,7 +301,7 @@ func TestSessions(t *testing.T) {
 		t.Errorf("%v, or a name is left", err)
 	}
 	digestOf = func(string) string { return "the same" }
-	defer func() { digestOf = DigestOf }()
+	defer func() { digestOf = state.DigestOf }()
 	if err := b.Before(context.Background()); !errors.Is(err, errTwoNames) {
 		t.Errorf("two names with one digest: %v", err)
 	}

@@ -306,7 +306,7 @@ func (r *Record) Keep(answered, asked []*feed.Unit) error {
 	if err == nil {
 		err = r.write(r.late, next)
 	}
-	r.note(err)
+	r.note(err, "commands are refused, since the record can't be written")
 	if err != nil {
 		return err
 	}
@@ -376,21 +376,19 @@ func (r *Record) write(answered, asked []entry) error {
 	return nil
 }
 
-// note notes whether entries can be kept, and logs when that changes.
-func (r *Record) note(err error) {
-	why := ""
-	if err != nil {
-		why = err.Error()
-	}
+// note notes whether entries can be written, and logs when that changes: what follows if they can't.
+func (r *Record) note(err error, follows string) {
 	r.mutex.Lock()
 	defer r.mutex.Unlock()
 	switch {
-	case why != "" && r.failing == "":
-		r.Log.Error("commands are refused, since the record can't be written", "why", err)
-	case why == "" && r.failing != "":
+	case err != nil && r.failing == "":
+		r.Log.Error(follows, "why", err)
+	case err == nil && r.failing != "":
 		r.Log.Info("the record can be written again")
 	}
-	r.failing = why
+	if r.failing = ""; err != nil {
+		r.failing = err.Error()
+	}
 }
 
 // Why returns why no command is recorded now, or an empty text.

@@ -33,16 +33,8 @@ func (r *Record) Recorded(ctx context.Context, query recorded.Query) (page recor
 
 // firstIn returns the number of the first entry of a file.
 func firstIn(ctx context.Context, path string) (int64, error) {
-	v, err := openView(ctx, path)
-	if err != nil {
-		return 0, err
-	}
-	defer v.Close()
-	parts, err := partsOf(ctx, v)
-	if err != nil {
-		return 0, err
-	}
-	return parts[0].first, nil
+	begin, err := beginOf(ctx, path)
+	return begin.n + 1, err
 }
 
 // addNewest adds the entries of a file, up to one more than are wanted.

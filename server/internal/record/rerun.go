@@ -61,16 +61,12 @@ func (e *AnswerError) Error() string {
 	return fmt.Sprintf("entry %d has the answer %s, and the program gives %s", e.N, e.Recorded, e.Answer)
 }
 
-// each does the commands that next returns, until it returns none, and compares their answers.
-func (r *rerun) each(ctx context.Context, next func() (*entry, error)) error {
+// each does the commands of entries, and compares their answers.
+func (r *rerun) each(ctx context.Context, all entries) error {
 	var wrong atomic.Pointer[AnswerError]
-	for wrong.Load() == nil {
-		e, err := next()
-		if err != nil {
-			return err
-		}
-		if e == nil {
-			break
+	err := all(func(e *entry) error {
+		if found := wrong.Load(); found != nil {
+			return found
 		}
 		if e.isDone() {
 			r.replay.Send([]byte(e.request), func(answer []byte) {
@@ -82,17 +78,15 @@ func (r *rerun) each(ctx context.Context, next func() (*entry, error)) error {
 		if err := r.stopAt(ctx, e); err != nil {
 			return err
 		}
-		if ctx.Err() != nil {
-			return ctx.Err()
-		}
+		return ctx.Err()
+	})
+	if err == nil {
+		_, err = r.one(ctx, marker)
 	}
-	if _, err := r.one(ctx, marker); err != nil {
-		return err
-	}
-	if found := wrong.Load(); found != nil {
+	if found := wrong.Load(); err == nil && found != nil {
 		return found
 	}
-	return nil
+	return err
 }
 
 // stopAt does what is to be done after an entry, if it is that of the stop.

@@ -52,9 +52,7 @@ func makeReserve(dir string, besides int64) error {
 		return err
 	}
 	err = allocate(file)
-	if closing := file.Close(); err == nil {
-		err = closing
-	}
+	err = disk.Close(file, err)
 	if err == nil {
 		err = os.Rename(making, path)
 	}

@@ -6,6 +6,7 @@ import (
 	"fmt"
 	"io"
 
+	"rbac-node/internal/disk"
 	"rbac-node/internal/office"
 )
 
@@ -95,9 +96,7 @@ func (t *Tool) endSessions(ctx context.Context) (ended int64, err error) {
 			_, err = c.db.ExecContext(ctx, statement)
 		}
 	}
-	if closing := c.Close(); err == nil {
-		err = closing
-	}
+	err = disk.Close(c, err)
 	if err != nil {
 		return 0, fmt.Errorf("end the sessions: %w", err)
 	}

@@ -96,7 +96,9 @@ func has(ctx context.Context, path string, begin, wanted entry) error {
 	}
 	found := &begin
 	if begin.n != wanted.n {
-		if found, err = entriesAfter(ctx, v.tx, wanted.n-1, wanted.n)(); err != nil {
+		found = nil
+		err := entriesAfter(ctx, v.tx, wanted.n-1, wanted.n)(func(e *entry) error { found = e; return nil })
+		if err != nil {
 			return err
 		}
 	}

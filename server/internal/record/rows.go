@@ -100,10 +100,8 @@ func (c *officeCopy) digest(ctx context.Context, i int, all io.Writer) (string, 
 	if err != nil {
 		return "", err
 	}
-	values, places := make([]sql.RawBytes, len(names)), make([]any, len(names))
-	for k := range values {
-		places[k] = &values[k]
-	}
+	values := make([]sql.RawBytes, len(names))
+	places := placesOf(values)
 	out := bufio.NewWriterSize(io.MultiWriter(own, all), 1<<16)
 	for rows.Next() {
 		if err := rows.Scan(places...); err != nil {
@@ -118,6 +116,15 @@ func (c *officeCopy) digest(ctx context.Context, i int, all io.Writer) (string, 
 	}
 	_ = out.Flush() // A digest never fails.
 	return hex.EncodeToString(own.Sum(nil)), rows.Err()
+}
+
+// placesOf returns the places of values, to which a row is scanned.
+func placesOf[T any](values []T) []any {
+	places := make([]any, len(values))
+	for i := range values {
+		places[i] = &values[i]
+	}
+	return places
 }
 
 // sums describes the rows.

@@ -5,11 +5,12 @@ import (
 	"encoding/hex"
 	"errors"
 	"fmt"
-	"io"
 	"os"
 	"path/filepath"
 	"strings"
 	"syscall"
+
+	"rbac-node/internal/disk"
 )
 
 const (
@@ -124,8 +125,8 @@ func removeScratch(office, dir string) {
 
 // hasRoom reports whether there is room in memory for copies of an office.
 func hasRoom(office string) bool {
-	var about syscall.Statfs_t
-	if err := syscall.Statfs(memory, &about); err != nil {
+	free, err := disk.Free(memory)
+	if err != nil {
 		return false
 	}
 	size := int64(spareMemory)
@@ -134,15 +135,15 @@ func hasRoom(office string) bool {
 			size += copies * file.Size()
 		}
 	}
-	return int64(about.Bavail)*about.Bsize > size
+	return free > size
 }
 
 // copyOffice copies an office and its log, which nobody writes meanwhile.
 func copyOffice(from, to string) error {
-	if err := copyFile(from, to); err != nil {
+	if err := disk.Copy(from, to); err != nil {
 		return err
 	}
-	err := copyFile(from+walSuffix, to+walSuffix)
+	err := disk.Copy(from+walSuffix, to+walSuffix)
 	if errors.Is(err, os.ErrNotExist) {
 		err = os.Remove(to + walSuffix)
 		if errors.Is(err, os.ErrNotExist) {
@@ -150,32 +151,4 @@ func copyOffice(from, to string) error {
 		}
 	}
 	return err
-}
-
-// copyFile copies a file to another one.
-func copyFile(from, to string) error {
-	source, err := os.Open(from)
-	if err != nil {
-		return err
-	}
-	defer source.Close()
-	target, err := os.OpenFile(to, os.O_WRONLY|os.O_CREATE|os.O_TRUNC, 0o600)
-	if err != nil {
-		return err
-	}
-	if _, err := io.Copy(target, source); err != nil {
-		_ = target.Close()
-		return err
-	}
-	return target.Close()
-}
-
-// syncPath makes a file, or the names in a folder, durable.
-func syncPath(path string) error {
-	file, err := os.Open(path)
-	if err != nil {
-		return err
-	}
-	defer file.Close()
-	return file.Sync()
 }

@@ -8,6 +8,8 @@ import (
 	"path/filepath"
 	"strings"
 	"testing"
+
+	"rbac-node/internal/state"
 )
 
 // TestShowImports finds names in imports, also those that CSV writes in quotes.
@@ -104,7 +106,7 @@ func TestShowFilters(t *testing.T) {
 		filter Filter
 		want   string
 	}{
-		{Filter{Session: DigestOf("secret")}, "5"},
+		{Filter{Session: state.DigestOf("secret")}, "5"},
 		{Filter{Session: "secret"}, ""},
 		{Filter{Operation: "open"}, "6"},
 		{Filter{Set: "cash"}, "7"},

@@ -99,6 +99,18 @@ func lockReadOnly(path string) (*os.File, error) {
 	return nil, fmt.Errorf("lock: %w", err)
 }
 
+// lock locks the office, or refuses that since a front has it.
+func (t *Tool) lock(ctx context.Context) (*os.File, error) {
+	lock, err := t.lockIfFree(ctx)
+	if err == nil && lock == nil && t.Data != "" {
+		return nil, errNodeRuns
+	}
+	if err == nil && lock == nil {
+		return nil, errFrontRuns
+	}
+	return lock, err
+}
+
 var errFrontRuns = errors.New("a front has the office: stop it first")
 
 // openLocked opens the record of an office that no front has. The lock has to be closed.
@@ -109,10 +121,7 @@ func (t *Tool) openLocked(ctx context.Context) (*Record, *os.File, error) {
 	if _, err := filesOf(DirOf(t.Office)); err != nil {
 		return nil, nil, err
 	}
-	lock, err := t.lockIfFree(ctx)
-	if err == nil && lock == nil {
-		err = errFrontRuns
-	}
+	lock, err := t.lock(ctx)
 	if err != nil {
 		return nil, nil, err
 	}
@@ -306,22 +315,17 @@ func (t *Tool) Cut(ctx context.Context) error {
 	if first == r.head.n {
 		return errors.New("there is nothing to cut: the part at hand has no command")
 	}
-	path := partPath(r.dir, first, r.head.n)
+	closed := ""
 	err = r.withCopy(ctx, r.Office, func(copied, rows string) error {
-		// Its log is merged when it is closed.
 		if err := r.db.Close(); err != nil {
 			return err
 		}
-		if _, err := os.Stat(filepath.Join(r.dir, fileName+walSuffix)); !errors.Is(err, os.ErrNotExist) {
-			return errors.New("another program reads the record: try again when it has ended")
-		}
-		if err := os.RemoveAll(path); err != nil {
+		p := part{first: r.head.n + 1, why: continued, before: r.head.ch, rows: rows}
+		making, err := makeNext(r.dir, p, now(), copied, nil)
+		if err != nil {
 			return err
 		}
-		if err := os.Link(filepath.Join(r.dir, fileName), path); err != nil {
-			return err
-		}
-		if err := makeFile(r.dir, part{first: r.head.n + 1, why: continued, before: r.head.ch, rows: rows}, now(), copied); err != nil {
+		if closed, err = (&next{r.dir, making, first, Head{r.head.n, r.head.ch}}).putInPlace(); err != nil {
 			return err
 		}
 		return addBase(r.dir, copied, base{r.head.n + 1, rows})
@@ -329,6 +333,6 @@ func (t *Tool) Cut(ctx context.Context) error {
 	if err != nil {
 		return fmt.Errorf("record: %w", err)
 	}
-	fmt.Fprintln(t.Out, path)
+	fmt.Fprintln(t.Out, closed)
 	return nil
 }

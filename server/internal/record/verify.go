@@ -7,8 +7,6 @@ import (
 	"os"
 	"path/filepath"
 	"sort"
-
-	"rbac-node/internal/office"
 )
 
 // A verifier reads a record from its beginning, and does its commands again.
@@ -166,25 +164,19 @@ func (v *verifier) look(ctx context.Context, path string) (*view, error) {
 
 // lookAtNode describes the newest snapshot of a node, and opens the file at hand, which has all entries up to that snapshot.
 func (v *verifier) lookAtNode(ctx context.Context, path string) (*view, error) {
-	folder := office.FolderIn(v.Data)
-	snapshots, err := office.List(folder)
-	if err != nil && !errors.Is(err, os.ErrNotExist) {
+	snapshot, head, err := v.newestRecorded()
+	if errors.Is(err, errNoSnapshots) {
+		fmt.Fprintln(v.Out, "there is no snapshot since the record began: no rows are compared")
+		return openView(ctx, path)
+	}
+	if err != nil {
 		return nil, err
 	}
-	for _, s := range snapshots {
-		if v.at, err = ParseHead(s.Record); err != nil {
-			continue // The record begins later.
-		}
-		want, err := sumsOf(ctx, v.Program, office.PathIn(folder, s), filepath.Join(v.scratch, "office"))
-		if err != nil {
-			return nil, err
-		}
-		v.want = &want
-		break
+	want, err := sumsOf(ctx, v.Program, snapshot, filepath.Join(v.scratch, "office"))
+	if err != nil {
+		return nil, err
 	}
-	if v.want == nil {
-		fmt.Fprintln(v.Out, "there is no snapshot since the record began: no rows are compared")
-	}
+	v.want, v.at = &want, head
 	return openView(ctx, path)
 }
 
@@ -193,7 +185,7 @@ func (v *verifier) compareNode(ctx context.Context, opened *view, p part, end in
 	if v.Data == "" || v.want == nil || v.at.N < v.last.n || v.at.N > end {
 		return nil
 	}
-	if err := again.each(ctx, v.checked(entriesAfter(ctx, opened.tx, v.last.n, v.at.N), p)); err != nil {
+	if err := again.each(ctx, v.checked(ctx, opened, p, v.at.N)); err != nil {
 		return err
 	}
 	same, err := again.has(ctx, *v.want)
@@ -304,7 +296,7 @@ func (v *verifier) part(ctx context.Context, opened *view, p part, end int64, is
 	if err := v.compareBases(ctx, opened, p, end, again); err != nil {
 		return err
 	}
-	if err := again.each(ctx, v.checked(entriesAfter(ctx, opened.tx, v.last.n, end), p)); err != nil {
+	if err := again.each(ctx, v.checked(ctx, opened, p, end)); err != nil {
 		return err
 	}
 	if v.last.answer == unknown && isLast {
@@ -395,35 +387,41 @@ func (v *verifier) sayAdopted(p *part) {
 	fmt.Fprintf(v.Out, "entry %d begins %s: adopted %s, for %q\n", p.first, what, p.adoption, p.reason)
 }
 
-// checked returns entries as next does, after it has checked their links.
-func (v *verifier) checked(next func() (*entry, error), p part) func() (*entry, error) {
-	return func() (*entry, error) {
-		e, err := next()
-		if err != nil || e == nil {
-			return e, err
-		}
-		isFirst := p.why != joined && e.n == p.first
-		link, isKnown := v.heads[e.n]
-		switch {
-		case e.n != v.last.n+1:
-			return nil, fmt.Errorf("entry %d is missing", v.last.n+1)
-		case e.ch == "":
-			return nil, fmt.Errorf("entry %d has no answer", e.n)
-		case chained(v.last.ch, e) != e.ch:
-			return nil, fmt.Errorf("the chain breaks at entry %d: it or the one before it was changed", e.n)
-		case isKnown && link != e.ch:
-			return nil, fmt.Errorf("entry %d has another link than the one that is known: the chain was computed anew", e.n)
-		case v.last.answer == unknown && e.answer != unknown && !(isFirst && p.why == adopted):
-			return nil, fmt.Errorf("nobody knows the answer to entry %d, and no part begins anew after it", v.last.n)
-		case isFirst && !p.begins(e) || !isFirst && !e.isCommand() && !e.isReview() && !e.isBounded():
-			return nil, fmt.Errorf("entry %d is not what its part says", e.n)
-		}
-		if isFirst && p.why == adopted {
-			v.sayAdopted(&p)
-		}
-		v.last = *e
-		return e, nil
+// checked are the entries of a part after the last one that was read, up to a number, whose links are checked.
+func (v *verifier) checked(ctx context.Context, opened *view, p part, to int64) entries {
+	return func(do func(e *entry) error) error {
+		return entriesAfter(ctx, opened.tx, v.last.n, to)(func(e *entry) error {
+			if err := v.check(e, &p); err != nil {
+				return err
+			}
+			v.last = *e
+			return do(e)
+		})
 	}
+}
+
+// check refuses an entry that can't be the next one of a part.
+func (v *verifier) check(e *entry, p *part) error {
+	isFirst := p.why != joined && e.n == p.first
+	link, isKnown := v.heads[e.n]
+	switch {
+	case e.n != v.last.n+1:
+		return fmt.Errorf("entry %d is missing", v.last.n+1)
+	case e.ch == "":
+		return fmt.Errorf("entry %d has no answer", e.n)
+	case chained(v.last.ch, e) != e.ch:
+		return fmt.Errorf("the chain breaks at entry %d: it or the one before it was changed", e.n)
+	case isKnown && link != e.ch:
+		return fmt.Errorf("entry %d has another link than the one that is known: the chain was computed anew", e.n)
+	case v.last.answer == unknown && e.answer != unknown && !(isFirst && p.why == adopted):
+		return fmt.Errorf("nobody knows the answer to entry %d, and no part begins anew after it", v.last.n)
+	case isFirst && !p.begins(e) || !isFirst && !e.isCommand() && !e.isReview() && !e.isBounded():
+		return fmt.Errorf("entry %d is not what its part says", e.n)
+	}
+	if isFirst && p.why == adopted {
+		v.sayAdopted(p)
+	}
+	return nil
 }
 
 // compare compares the rows of the office with those that the record gives. The last entries may have no answer yet.

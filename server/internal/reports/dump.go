@@ -28,103 +28,86 @@ func room(office *state.Frozen) *Report {
 // dump returns the office as request lines, byte for byte as tools/dump.sql prints it. The line of a session has its digest, and
 // would be refused: nobody makes a session whose name is known.
 func dump(office *state.Frozen) *Report {
-	tables := []struct {
-		function string
-		rows     []state.Row
-		keys     []string
-	}{
+	before := []table{
 		{"addUser", office.Users, []string{"user"}},
 		{"addRole", office.Roles, []string{"role"}},
 		{"addInheritance", office.Graph.Edges, []string{"asc", "desc"}},
 		{"addPermObj", office.Objects, []string{"object"}},
 		{"addPermission", office.Permissions, []string{"object", "operation"}},
 		{"grantPermission", office.Grants, []string{"object", "operation", "role"}},
-		{"", nil, nil}, // The sets.
-		{"assignUser", office.Assigned, []string{"user", "role"}},
-		{"createSession", nil, nil},
-		{"lockUserAccount", office.Locked, []string{"user"}},
 	}
-	static, dynamic := office.Graph.Sets(true), office.Graph.Sets(false)
+	assigned := table{"assignUser", office.Assigned, []string{"user", "role"}}
+	locked := table{"lockUserAccount", office.Locked, []string{"user"}}
+	static, dynamic := office.Graph.Static, office.Graph.Dynamic
 	report := &Report{Lines: int64(len(static) + len(dynamic) + len(office.Sessions))}
-	for _, one := range tables {
+	for _, one := range append(before, assigned, locked) {
 		report.Lines += int64(len(one.rows))
 	}
 	report.Write = func(add func(cells ...string) error) error {
 		w := &dumping{add: add}
-		for _, one := range tables {
-			switch one.function {
-			case "":
-				w.sets("createSsdSet", static)
-				w.sets("createDsdSet", dynamic)
-			case "createSession":
-				w.sessions(office.Sessions)
-			}
-			for _, row := range one.rows {
-				w.begin(one.function)
-				for i, key := range one.keys {
-					w.text(key, row[i])
-				}
-				w.end()
-			}
-		}
+		w.tables(before...)
+		w.sets("createSsdSet", static)
+		w.sets("createDsdSet", dynamic)
+		w.tables(assigned)
+		w.sessions(office.Sessions)
+		w.tables(locked)
 		return w.err
 	}
 	return report
 }
 
+// A table has the rows that a function makes, and the keys of their names.
+type table struct {
+	function string
+	rows     []state.Row
+	keys     []string
+}
+
 // A dumping makes lines until the first error.
 type dumping struct {
-	add  func(cells ...string) error
-	line []byte
-	err  error
+	add func(cells ...string) error
+	err error
 }
 
-func (w *dumping) begin(function string) {
-	w.line = append(append(append(w.line[:0], `{"fn":"`...), function...), '"')
-}
-
-func (w *dumping) key(key string) { w.line = append(append(append(w.line, `,"`...), key...), `":`...) }
-
-func (w *dumping) text(key, text string) {
-	w.key(key)
-	w.line = api.AppendQuoted(w.line, text)
-}
-
-func (w *dumping) texts(key string, texts []string) {
-	w.key(key)
-	w.line = append(w.line, '[')
-	for i, text := range texts {
-		if i > 0 {
-			w.line = append(w.line, ',')
-		}
-		w.line = api.AppendQuoted(w.line, text)
-	}
-	w.line = append(w.line, ']')
-}
-
-func (w *dumping) end() {
+func (w *dumping) line(text []byte) {
 	if w.err == nil {
-		w.err = w.add(string(append(w.line, '}')))
+		w.err = w.add(string(text))
+	}
+}
+
+// call makes the line of a call.
+func (w *dumping) call(call *api.Call, err error) {
+	if err != nil {
+		w.err = err
+		return
+	}
+	w.line(call.Line)
+}
+
+func (w *dumping) tables(tables ...table) {
+	for _, one := range tables {
+		pairs := make([]string, 2*len(one.keys))
+		for _, row := range one.rows {
+			for i, key := range one.keys {
+				pairs[2*i], pairs[2*i+1] = key, row[i]
+			}
+			w.call(api.NewCall(one.function, pairs...))
+		}
 	}
 }
 
 func (w *dumping) sets(function string, sets []state.NamedSet) {
 	for _, one := range sets {
-		w.begin(function)
-		w.text("set", one.Name)
-		w.texts("roles", one.Roles)
-		w.key("cardinality")
-		w.line = strconv.AppendInt(w.line, one.Cardinality, 10)
-		w.end()
+		cardinality := strconv.FormatInt(one.Cardinality, 10)
+		w.call(api.NewCallWith(function, api.Arguments{Set: one.Name, Roles: one.Roles, Cardinality: cardinality}))
 	}
 }
 
 func (w *dumping) sessions(sessions []state.Session) {
 	for _, one := range sessions {
-		w.begin("createSession")
-		w.text("user", one.User)
-		w.texts("roles", one.Active)
-		w.text("digest", one.Digest)
-		w.end()
+		text := api.AppendQuoted([]byte(`{"fn":"createSession","user":`), one.User)
+		text = api.AppendTexts(append(text, `,"roles":`...), one.Active)
+		text = api.AppendQuoted(append(text, `,"digest":`...), one.Digest)
+		w.line(append(text, '}'))
 	}
 }

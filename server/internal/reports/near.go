@@ -21,9 +21,8 @@ func (s *dutySet) mask(r *roles, role int) (mask uint32) {
 	if has {
 		return mask
 	}
-	below := r.under(role)
 	for i, member := range s.Roles {
-		if number := r.number(member); number >= 0 && below.has(number) {
+		if r.has(role, r.numbers[member]) {
 			mask |= 1 << i
 		}
 	}

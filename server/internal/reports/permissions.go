@@ -51,9 +51,8 @@ func (g *given) count(role int) int64 {
 	if has {
 		return count
 	}
-	below := g.under(role)
 	for junior, grants := range g.byRole {
-		if grants > 0 && below.has(junior) && g.wants(role, junior) {
+		if grants > 0 && g.has(role, junior) && g.wants(role, junior) {
 			count += grants
 		}
 	}
@@ -70,9 +69,8 @@ func (g *given) of(role int) []int {
 	if has || g.count(role) == 0 {
 		return list
 	}
-	below := g.under(role)
 	for i, one := range g.grants {
-		if below.has(one.role) && g.wants(role, one.role) {
+		if g.has(role, one.role) && g.wants(role, one.role) {
 			list = append(list, i)
 		}
 	}
@@ -105,8 +103,7 @@ func permissions(office *state.Frozen, filter Filter) *Report {
 			for _, w := range ways {
 				to := g.grants[w.grant]
 				granted := g.name(to.role)
-				violated, _ := office.Graph.Blocked(granted)
-				if err := add(one.name, isLocked, to.object, to.operation, g.name(w.assigned), granted, violated); err != nil {
+				if err := add(one.name, isLocked, to.object, to.operation, g.name(w.assigned), granted, g.violates(to.role)); err != nil {
 					return err
 				}
 			}

@@ -58,23 +58,16 @@ func New(name string, office *state.Frozen, filter Filter) (*Report, error) {
 	return nil, fmt.Errorf("no report is called %q", name)
 }
 
-// A roleSet is a set of roles by their numbers.
-type roleSet []uint64
-
-func (s roleSet) has(number int) bool { return s[number/64]&(1<<(number%64)) != 0 }
-
-func (s roleSet) add(number int) { s[number/64] |= 1 << (number % 64) }
-
-// Roles have the roles of an office by their numbers, which are in the order of their names, and what is below those that were
-// asked for.
+// Roles have the roles of an office by their numbers, which are in the order of their names.
 type roles struct {
 	office  *state.Frozen
 	numbers map[string]int
-	below   map[int]roleSet
+	// violated keeps what was found.
+	violated map[int]string
 }
 
 func newRoles(office *state.Frozen) *roles {
-	r := &roles{office: office, numbers: make(map[string]int, len(office.Roles)), below: map[int]roleSet{}}
+	r := &roles{office: office, numbers: make(map[string]int, len(office.Roles)), violated: map[int]string{}}
 	for i, row := range office.Roles {
 		r.numbers[row[0]] = i
 	}
@@ -91,19 +84,17 @@ func (r *roles) number(name string) int {
 	return -1
 }
 
-// under returns a role and its juniors.
-func (r *roles) under(number int) roleSet {
-	found, has := r.below[number]
-	if !has {
-		found = make(roleSet, (len(r.office.Roles)+63)/64)
-		for name := range r.office.Graph.Below(r.name(number)) {
-			if one := r.number(name); one >= 0 {
-				found.add(one)
-			}
-		}
-		r.below[number] = found
+// has reports whether a role is another one or a senior of it.
+func (r *roles) has(role, junior int) bool { return r.office.Juniors[role].Bit(junior) == 1 }
+
+// violates returns the first dynamic set that a role violates alone, or nothing.
+func (r *roles) violates(role int) string {
+	set, isKept := r.violated[role]
+	if !isKept {
+		set, _ = r.office.Graph.Violated(func(name string) bool { return r.has(role, r.numbers[name]) })
+		r.violated[role] = set
 	}
-	return found
+	return set
 }
 
 // A holder is a user with the assigned roles, or a session with the activated ones. The roles are in their order.

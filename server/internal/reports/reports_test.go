@@ -36,7 +36,7 @@ func made(t *testing.T, lines ...string) *state.Frozen {
 	if _, err := s.Try(calls); err != nil {
 		t.Fatal(err)
 	}
-	frozen, err := s.Freeze()
+	frozen, err := s.FreezeWithJuniors()
 	if err != nil {
 		t.Fatal(err)
 	}
@@ -88,10 +88,41 @@ func drawn(rng *rand.Rand) (lines []string) {
 
 func orAll(text, name string) bool { return text == "" || text == name }
 
+// below returns a role and its juniors, by the inheritances.
+func below(office *state.Frozen, role string) map[string]bool {
+	found := map[string]bool{role: true}
+	for count := 0; count < len(found); {
+		count = len(found)
+		for _, edge := range office.Graph.Edges {
+			if found[edge[0]] {
+				found[edge[1]] = true
+			}
+		}
+	}
+	return found
+}
+
+// violated returns the first dynamic set that a role violates alone, or nothing.
+func violated(office *state.Frozen, role string) string {
+	below := below(office, role)
+	for _, set := range office.Graph.Dynamic {
+		count := int64(0)
+		for _, member := range set.Roles {
+			if below[member] {
+				count++
+			}
+		}
+		if count >= set.Cardinality {
+			return set.Name
+		}
+	}
+	return ""
+}
+
 // wantedPermissions makes the lines in the simplest way.
 func wantedPermissions(office *state.Frozen, filter Filter) (lines [][]string) {
 	for _, pair := range office.Assigned {
-		below := office.Graph.Below(pair[1])
+		below := below(office, pair[1])
 		for _, one := range office.Grants {
 			isWanted := orAll(filter.User, pair[0]) && orAll(filter.Object, one[0]) && orAll(filter.Operation, one[1]) &&
 				(orAll(filter.Role, one[2]) || filter.Role == pair[1])
@@ -104,8 +135,7 @@ func wantedPermissions(office *state.Frozen, filter Filter) (lines [][]string) {
 					locked = "yes"
 				}
 			}
-			set, _ := office.Graph.Blocked(one[2])
-			lines = append(lines, []string{pair[0], locked, one[0], one[1], pair[1], one[2], set})
+			lines = append(lines, []string{pair[0], locked, one[0], one[1], pair[1], one[2], violated(office, one[2])})
 		}
 	}
 	sort.Slice(lines, func(i, j int) bool { return strings.Join(lines[i], "\t") < strings.Join(lines[j], "\t") })

@@ -57,11 +57,7 @@ func (report *Report) WriteLines(to io.Writer, most int64) error {
 		if report.Columns == nil {
 			line = append(line, cells[0]...)
 		} else {
-			for i, cell := range cells {
-				line = append(line, "[,"[min(i, 1)])
-				line = api.AppendQuoted(line, cell)
-			}
-			line = append(line, ']')
+			line = api.AppendTexts(line, cells)
 		}
 		_, err := w.Write(append(line, '\n'))
 		return err
@@ -70,13 +66,6 @@ func (report *Report) WriteLines(to io.Writer, most int64) error {
 		return err
 	}
 	return w.Flush()
-}
-
-func min(a, b int) int {
-	if a < b {
-		return a
-	}
-	return b
 }
 
 // first makes the first lines.

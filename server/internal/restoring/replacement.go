@@ -10,6 +10,7 @@ import (
 	"syscall"
 	"unicode"
 
+	"rbac-node/internal/disk"
 	"rbac-node/internal/single"
 )
 
@@ -123,20 +124,14 @@ func (r replacement) write(p plan) error {
 	if err := os.WriteFile(making, text, 0o600); err != nil {
 		return err
 	}
-	err = filepath.Walk(r.folder(), func(path string, _ os.FileInfo, err error) error {
-		if err != nil {
-			return err
-		}
-		return sync(path)
-	})
-	if err == nil {
-		err = sync(filepath.Dir(r.office))
+	if err = disk.SyncAll(r.folder()); err == nil {
+		err = disk.Sync(filepath.Dir(r.office))
 	}
 	if err == nil {
 		err = os.Rename(making, r.planPath())
 	}
 	if err == nil {
-		err = sync(r.folder())
+		err = disk.Sync(r.folder())
 	}
 	return err
 }
@@ -162,7 +157,7 @@ func (r replacement) finish(p plan) error {
 			return err
 		}
 	}
-	if err := sync(filepath.Dir(r.office)); err != nil {
+	if err := disk.Sync(filepath.Dir(r.office)); err != nil {
 		return err
 	}
 	return os.RemoveAll(r.folder())
@@ -190,7 +185,7 @@ func (r replacement) putOffice() error {
 	if err := os.Remove(r.office + walSuffix); err != nil && !errors.Is(err, os.ErrNotExist) {
 		return err
 	}
-	if err := sync(filepath.Dir(r.office)); err != nil {
+	if err := disk.Sync(filepath.Dir(r.office)); err != nil {
 		return err
 	}
 	return os.Rename(r.in(officeName), r.office)
@@ -213,7 +208,7 @@ func (p *plan) keep(path string, by func(from, to string) error) error {
 	case errors.Is(err, os.ErrNotExist):
 		err = by(path, to)
 		if err == nil {
-			err = sync(p.Before)
+			err = disk.Sync(p.Before)
 		}
 		return err
 	case err != nil:
@@ -231,14 +226,4 @@ func exists(path string) (bool, error) {
 		return false, nil
 	}
 	return err == nil, err
-}
-
-// sync makes a file, or the names in a folder, durable.
-func sync(path string) error {
-	file, err := os.Open(path)
-	if err != nil {
-		return err
-	}
-	defer file.Close()
-	return file.Sync()
 }

@@ -7,7 +7,6 @@ import (
 	"crypto/rand"
 	"crypto/sha256"
 	"encoding/hex"
-	"encoding/json"
 	"errors"
 	"fmt"
 	"io"
@@ -217,16 +216,8 @@ func digests(tokens map[string]string) []byte {
 func callersFile() []byte {
 	var text bytes.Buffer
 	add := func(function string, pairs ...string) {
-		call := []byte(`{"fn":`)
-		for i, word := range append([]string{function}, pairs...) {
-			quoted, _ := json.Marshal(word) // A text can always be written.
-			call = append(call, quoted...)
-			if i == len(pairs) {
-				break
-			}
-			call = append(call, ",:"[i%2])
-		}
-		text.Write(append(call, "}\n"...))
+		call, _ := api.NewCall(function, pairs...) // These names make no line too long.
+		text.Write(append(call.Line, '\n'))
 	}
 	add("addRole", "role", "administrator")
 	add("addRole", "role", "monitor")

@@ -4,7 +4,6 @@ import (
 	"errors"
 	"fmt"
 	"os"
-	"path/filepath"
 	"strconv"
 	"strings"
 	"sync"
@@ -68,7 +67,7 @@ func (n *numbering) read() (int64, error) {
 func (n *numbering) reserve(number int64) error {
 	n.writing.Lock()
 	defer n.writing.Unlock()
-	if err := writeDurably(n.path, strconv.FormatInt(number+block, 10)+"\n"); err != nil {
+	if err := disk.Write(n.path, strconv.FormatInt(number+block, 10)+"\n"); err != nil {
 		return err
 	}
 	n.reserved.Store(number + block)
@@ -96,23 +95,4 @@ func (n *numbering) keepAhead(number int64) {
 		defer n.isReserving.Store(false)
 		_ = n.reserve(number)
 	}()
-}
-
-// writeDurably writes a file. After a crash it has this text or that of before.
-func writeDurably(path, text string) error {
-	file, err := os.OpenFile(path+".new", os.O_WRONLY|os.O_CREATE|os.O_TRUNC, 0o600)
-	if err != nil {
-		return err
-	}
-	defer file.Close()
-	if _, err := file.WriteString(text); err != nil {
-		return err
-	}
-	if err := file.Sync(); err != nil {
-		return err
-	}
-	if err := os.Rename(path+".new", path); err != nil {
-		return err
-	}
-	return syncFolder(filepath.Dir(path))
 }

@@ -16,10 +16,12 @@ import (
 	"time"
 
 	"rbac-node/internal/api"
+	"rbac-node/internal/disk"
 	"rbac-node/internal/faults"
 	"rbac-node/internal/feed"
 	"rbac-node/internal/logs"
 	"rbac-node/internal/office"
+	"rbac-node/internal/recorded"
 )
 
 const (
@@ -59,6 +61,9 @@ type Recorder interface {
 	Before(ctx context.Context) error
 	// Why says why no command is recorded now, or is empty.
 	Why() string
+	// Recorded returns entries, and Links the next ones after an entry, up to the head.
+	Recorded(ctx context.Context, query recorded.Query) (recorded.Page, error)
+	Links(ctx context.Context, after int64) (recorded.Links, error)
 	// Close ends the record. No replay runs any more, and the last one has ended in order or not.
 	Close(isInOrder bool) error
 }
@@ -194,20 +199,7 @@ func makeIfMissing(ctx context.Context, program, path string) error {
 	if err := os.Rename(making, path); err != nil {
 		return fmt.Errorf("make an office: %w", err)
 	}
-	return syncFolder(filepath.Dir(path))
-}
-
-// syncFolder makes the names in a folder durable.
-func syncFolder(path string) error {
-	folder, err := os.Open(path)
-	if err != nil {
-		return err
-	}
-	defer folder.Close()
-	if err := folder.Sync(); err != nil {
-		return fmt.Errorf("sync %s: %w", path, err)
-	}
-	return nil
+	return disk.Sync(filepath.Dir(path))
 }
 
 // Run answers until the context ends, and then those that have asked before.

@@ -20,9 +20,12 @@ func (v *View) Whole() Part { return v.Graph().part(firsts(v.all(rbacoffice.Role
 
 // Around returns a role with its immediate seniors and juniors. It leaves out the last ones if there are more roles than may be.
 func (g *Graph) Around(role string, most int) Part {
-	near := append([]string(nil), g.juniors[role]...)
+	var near []string
 	for _, edge := range g.Edges {
-		if edge[1] == role {
+		switch role {
+		case edge[0]:
+			near = append(near, edge[1])
+		case edge[1]:
 			near = append(near, edge[0])
 		}
 	}
@@ -38,18 +41,18 @@ func (g *Graph) Around(role string, most int) Part {
 }
 
 // Between returns the roles on the ways from some roles down to another one.
-func (g *Graph) Between(seniors []string, junior string) Part {
+func (v *View) Between(seniors []string, junior string) Part {
 	var roles []string
-	found := map[string]bool{}
+	isFound := map[string]bool{}
 	for _, senior := range seniors {
-		for role := range g.Below(senior) {
-			if !found[role] && g.Below(role)[junior] {
-				found[role] = true
+		for role := range v.Below(senior) {
+			if !isFound[role] {
+				isFound[role] = true
 				roles = append(roles, role)
 			}
 		}
 	}
-	return g.part(roles)
+	return v.Graph().part(v.Above([]string{junior}, roles)[junior])
 }
 
 // part returns the part that some roles are.

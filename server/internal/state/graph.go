@@ -1,7 +1,7 @@
 package state
 
 import (
-	"sync"
+	"math/big"
 
 	"rbac/clients/go/rbacoffice"
 )
@@ -13,15 +13,6 @@ type Graph struct {
 	// Edges are the immediate inheritances, and Static and Dynamic the sets, in the order of their names.
 	Edges           []Row
 	Static, Dynamic []NamedSet
-	// blocked keeps what Blocked has found.
-	mutex   sync.Mutex
-	blocked map[string]violation
-}
-
-// A violation is a dynamic set with too many of its members, or empty.
-type violation struct {
-	set     string
-	members []string
 }
 
 // Graph returns the graph of the moment.
@@ -39,7 +30,7 @@ func (v *View) Graph() *Graph {
 }
 
 func newGraph(edges []Row) *Graph {
-	g := &Graph{juniors: map[string][]string{}, Edges: edges, blocked: map[string]violation{}}
+	g := &Graph{juniors: map[string][]string{}, Edges: edges}
 	for _, edge := range edges {
 		g.juniors[edge[0]] = append(g.juniors[edge[0]], edge[1])
 	}
@@ -67,7 +58,7 @@ func (g *Graph) Sets(isStatic bool) []NamedSet {
 	return g.Dynamic
 }
 
-// Below returns a role and its juniors.
+// Below returns a role and its juniors in a graph that may not be that of the office yet.
 func (g *Graph) Below(role string) map[string]bool {
 	found := map[string]bool{role: true}
 	for todo := []string{role}; len(todo) > 0; {
@@ -83,26 +74,12 @@ func (g *Graph) Below(role string) map[string]bool {
 	return found
 }
 
-// Blocked returns the first dynamic set of which a role with its juniors has too many members, and these, or nothing. Such a role can
-// never be activated.
-func (g *Graph) Blocked(role string) (set string, members []string) {
-	g.mutex.Lock()
-	defer g.mutex.Unlock()
-	found, isKept := g.blocked[role]
-	if !isKept {
-		found.set, found.members = g.Violated(g.Below(role))
-		g.blocked[role] = found
-	}
-	return found.set, found.members
-}
-
-// Violated returns the first dynamic set, in the order of their names, of which these roles are too many, and the members that they
-// are.
-func (g *Graph) Violated(roles map[string]bool) (name string, members []string) {
+// Violated returns the first dynamic set, in the order of their names, of which too many members are among some roles, and these members.
+func (g *Graph) Violated(isAmong func(role string) bool) (name string, members []string) {
 	for _, set := range g.Dynamic {
 		var held []string
 		for _, role := range set.Roles {
-			if roles[role] {
+			if isAmong(role) {
 				held = append(held, role)
 			}
 		}
@@ -111,4 +88,51 @@ func (g *Graph) Violated(roles map[string]bool) (name string, members []string) 
 		}
 	}
 	return "", nil
+}
+
+// Below returns a role and its juniors, which librbac knows.
+func (v *View) Below(role string) map[string]bool {
+	rows, err := v.state.office.RowsWith(rbacoffice.ClosurePairs, role)
+	v.fail(err)
+	found := map[string]bool{role: true}
+	for _, row := range rows {
+		found[row.Names[1]] = true
+	}
+	return found
+}
+
+// Above returns, for each role of a list, those of some other roles that are this role or a senior of it, in the order of these.
+func (v *View) Above(list, others []string) map[string][]string {
+	found := map[string][]string{}
+	for _, other := range others {
+		below := v.Below(other)
+		for _, role := range list {
+			if below[role] {
+				found[role] = append(found[role], other)
+			}
+		}
+	}
+	return found
+}
+
+// Blocked returns the first dynamic set of which a role with its juniors has too many members, and these, or nothing. Such a role can
+// never be activated.
+func (v *View) Blocked(role string) (set string, members []string) {
+	below := v.Below(role)
+	return v.Graph().Violated(func(role string) bool { return below[role] })
+}
+
+// juniors returns, for each role of a list that has all in their order, it and its juniors: a bit for each place in the list.
+func (v *View) juniors(roles []Row) []*big.Int {
+	places, below := make(map[string]int, len(roles)), make([]*big.Int, len(roles))
+	for i, row := range roles {
+		places[row[0]] = i
+		below[i] = new(big.Int).SetBit(new(big.Int), i, 1)
+	}
+	v.scan(rbacoffice.ClosurePairs, 0, func(row Row) bool {
+		one := below[places[row[0]]]
+		one.SetBit(one, places[row[1]], 1)
+		return true
+	})
+	return below
 }

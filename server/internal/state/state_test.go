@@ -13,24 +13,30 @@ import (
 func TestViolated(t *testing.T) {
 	s := begun(t, `{"fn":"addRole","role":"a"}`, `{"fn":"addRole","role":"b"}`, `{"fn":"addAscendant","asc":"c","desc":"a"}`,
 		`{"fn":"addInheritance","asc":"c","desc":"b"}`, `{"fn":"createDsdSet","set":"s","roles":["a","b"],"cardinality":2}`)
-	graph := func() (graph *Graph) {
-		if err := s.Look(func(v *View) { graph = v.Graph() }); err != nil {
+	blocked := func(role string) (set string, members []string) {
+		if err := s.Look(func(v *View) { set, members = v.Blocked(role) }); err != nil {
 			t.Fatal(err)
 		}
-		return graph
+		return set, members
 	}
-	before := graph()
+	frozen, err := s.FreezeWithJuniors()
+	if err != nil {
+		t.Fatal(err)
+	}
 	for role, wanted := range map[string]string{"a": "", "b": "", "c": "s"} {
-		if set, _ := before.Blocked(role); set != wanted {
+		if set, _ := blocked(role); set != wanted {
 			t.Errorf("%s: %q", role, set)
 		}
 	}
+	if _, members := blocked("c"); !reflect.DeepEqual(members, []string{"a", "b"}) {
+		t.Errorf("the members of c: %q", members)
+	}
 	follow(t, s, `{"fn":"deleteInheritance","asc":"c","desc":"b"}`)
-	if set, _ := graph().Blocked("c"); set != "" {
+	if set, _ := blocked("c"); set != "" {
 		t.Errorf("after the inheritance is deleted: %q", set)
 	}
-	if set, members := before.Violated(before.Below("c")); set != "s" || !reflect.DeepEqual(members, []string{"a", "b"}) {
-		t.Errorf("an earlier graph has changed: %q %v", set, members)
+	if below := fmt.Sprint(frozen.Juniors); below != "[1 2 7]" {
+		t.Errorf("the office that was frozen has changed: %s", below)
 	}
 }
 

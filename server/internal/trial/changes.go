@@ -2,6 +2,7 @@ package trial
 
 import (
 	"context"
+	"math/big"
 	"math/bits"
 	"sort"
 	"strings"
@@ -29,43 +30,18 @@ type Changes struct {
 // activated, unless they are locked.
 type view struct {
 	permissions []state.Row
-	users       map[string]set
+	// users has the permissions of each user, as bits for their places.
+	users map[string]*big.Int
 	// sessions are those that there are, and isThere has their names.
 	sessions []state.Session
 	isThere  map[string]bool
-}
-
-// A set has permissions by their places.
-type set []uint64
-
-const word = 64
-
-func (s set) with(i int) set {
-	for len(s) <= i/word {
-		s = append(s, 0)
-	}
-	s[i/word] |= 1 << (i % word)
-	return s
-}
-
-func (s set) has(i int) bool { return i/word < len(s) && s[i/word]>>(i%word)&1 > 0 }
-
-// union adds another set to this one.
-func (s set) union(other set) set {
-	for len(s) < len(other) {
-		s = append(s, 0)
-	}
-	for i, part := range other {
-		s[i] |= part
-	}
-	return s
 }
 
 // look asks the clone what users can do, or all users if none are named, and which sessions there are. The roles of each permission and of
 // each user are its answers.
 func look(ctx context.Context, clone *state.State, users []string) (seen *view, err error) {
 	failed := clone.Look(func(v *state.View) {
-		seen = &view{permissions: v.Permissions(), users: map[string]set{}, sessions: v.Sessions(), isThere: map[string]bool{}}
+		seen = &view{permissions: v.Permissions(), users: map[string]*big.Int{}, sessions: v.Sessions(), isThere: map[string]bool{}}
 		for _, one := range seen.sessions {
 			seen.isThere[one.Name] = true
 		}
@@ -73,7 +49,7 @@ func look(ctx context.Context, clone *state.State, users []string) (seen *view, 
 		if users == nil {
 			users = v.Users()
 		}
-		same := map[string]set{} // Many users have the same roles.
+		same := map[string]*big.Int{} // Many users have the same roles.
 		for _, user := range users {
 			if err = ctx.Err(); err != nil {
 				return
@@ -84,8 +60,11 @@ func look(ctx context.Context, clone *state.State, users []string) (seen *view, 
 			roles := v.Names("authorizedRoles", "user", user) // A user that isn't there has none.
 			has, isKnown := same[strings.Join(roles, separator)]
 			if !isKnown {
+				has = new(big.Int)
 				for _, role := range roles {
-					has = has.union(granted[role])
+					if own := granted[role]; own != nil {
+						has.Or(has, own)
+					}
 				}
 				same[strings.Join(roles, separator)] = has
 			}
@@ -102,15 +81,18 @@ func look(ctx context.Context, clone *state.State, users []string) (seen *view, 
 const separator = "\t"
 
 // grants returns the permissions that are granted to each role itself, except the roles that no session can have.
-func (seen *view) grants(v *state.View) map[string]set {
-	granted, graph := map[string]set{}, v.Graph()
+func (seen *view) grants(v *state.View) map[string]*big.Int {
+	granted := map[string]*big.Int{}
 	for i, one := range seen.permissions {
 		for _, role := range v.Names("permissionRoles", "object", one[0], "operation", one[1]) {
-			granted[role] = granted[role].with(i)
+			if granted[role] == nil {
+				granted[role] = new(big.Int)
+			}
+			granted[role].SetBit(granted[role], i, 1)
 		}
 	}
 	for role := range granted {
-		if set, _ := graph.Blocked(role); set != "" {
+		if set, _ := v.Blocked(role); set != "" {
 			delete(granted, role)
 		}
 	}
@@ -122,9 +104,9 @@ func changes(before, after *view) (gained, lost Changes) {
 	gained.Rows, lost.Rows = []Change{}, []Change{}
 	first := placesIn(after.permissions, before.permissions)
 	for _, user := range usersIn(before, after) {
-		had, has := first.translate(before.users[user]), after.users[user]
-		gained.add(user, minus(has, had), first.all)
-		lost.add(user, minus(had, has), first.all)
+		had, has := first.translate(orNone(before.users[user])), orNone(after.users[user])
+		gained.add(user, new(big.Int).AndNot(has, had), first.all)
+		lost.add(user, new(big.Int).AndNot(had, has), first.all)
 	}
 	return gained, lost
 }
@@ -169,37 +151,37 @@ func placesIn(later, earlier []state.Row) places {
 	return p
 }
 
-// translate returns a set of the earlier view by the places in all.
-func (p places) translate(s set) (found set) {
-	if p.isSame {
-		return s
+// orNone returns some permissions, or none.
+func orNone(permissions *big.Int) *big.Int {
+	if permissions == nil {
+		return new(big.Int)
 	}
+	return permissions
+}
+
+// translate returns permissions of the earlier view by the places in all.
+func (p places) translate(had *big.Int) *big.Int {
+	if p.isSame {
+		return had
+	}
+	found := new(big.Int)
 	for i, place := range p.of {
-		if s.has(i) {
-			found = found.with(place)
+		if had.Bit(i) == 1 {
+			found.SetBit(found, place, 1)
 		}
 	}
 	return found
 }
 
-// minus returns what is in one set and not in another.
-func minus(one, other set) set {
-	left := append(set(nil), one...)
-	for i := range left {
-		if i < len(other) {
-			left[i] &^= other[i]
-		}
-	}
-	return left
-}
-
 // add counts what a user has gained or lost, and lists it if there is room.
-func (c *Changes) add(user string, found set, permissions []state.Row) {
+func (c *Changes) add(user string, found *big.Int, permissions []state.Row) {
 	var own []state.Row
-	for i, part := range found {
-		c.Count += int64(bits.OnesCount64(part))
-		for ; part != 0 && len(c.Rows) < mostRows; part &= part - 1 {
-			own = append(own, permissions[i*word+bits.TrailingZeros64(part)])
+	for _, word := range found.Bits() {
+		c.Count += int64(bits.OnesCount(uint(word)))
+	}
+	for i := 0; i < found.BitLen() && len(c.Rows) < mostRows; i++ {
+		if found.Bit(i) == 1 {
+			own = append(own, permissions[i])
 		}
 	}
 	sort.Slice(own, func(i, k int) bool { return own[i].IsBefore(own[k]) })

@@ -4,6 +4,7 @@ import (
 	"context"
 	"errors"
 	"fmt"
+	"math/big"
 	"strings"
 	"testing"
 
@@ -119,13 +120,13 @@ func TestTryEnds(t *testing.T) {
 }
 
 func TestChangesAreListedUpToALimit(t *testing.T) {
-	before, after := &view{users: map[string]set{}}, &view{users: map[string]set{}}
+	before, after := &view{users: map[string]*big.Int{}}, &view{users: map[string]*big.Int{}}
 	for i := 0; i < 300; i++ {
 		after.permissions = append(after.permissions, state.Row{fmt.Sprintf("o%03d", i), "p"})
 	}
-	var all set
+	all := new(big.Int)
 	for i := range after.permissions {
-		all = all.with(i)
+		all.SetBit(all, i, 1)
 	}
 	for i := 0; i < 4; i++ {
 		after.users[fmt.Sprintf("u%d", i)] = all
