@@ -105,6 +105,9 @@ def judge_faults(bench, folder, node, count, between, seed):
         bench.judge("as many faults as wanted", [] if often >= count else [f"only {often}"])
 
 
+# How often a wrong node is tried at most.
+TRIES = 8
+
 # By its fault: what reveals it.
 WRONG = {
     "AppendsTwice": [Faults.pause_member],
@@ -128,8 +131,9 @@ def faults_of(folder, node, kinds, seed):
 @pytest.mark.gate
 @pytest.mark.parametrize("wrong", WRONG)
 def check_wrong_nodes(bench, faulty, wrong):
-    """The wrong node is caught, and by answers alone. It may show its fault at the second or third try only."""
+    """The wrong node is caught, and by answers alone. On a busy machine it may show its fault at a later try only."""
     node = faulty(wrong)
-    found = next((it for it in (faults_of(bench.folder / str(seed), node, WRONG[wrong], seed) for seed in (1, 2, 3)) if it), [])
+    tries = (faults_of(bench.folder / str(seed), node, WRONG[wrong], seed) for seed in range(1, TRIES + 1))
+    found = next((it for it in tries if it), [])
     print(f"{len(found)} faults, such as {found[0][:300] if found else None}")
     bench.judge("it is caught", [] if found else ["no fault was found"])
