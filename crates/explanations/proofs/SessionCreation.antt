@@ -22,14 +22,13 @@ use Rattle.admin_mgr.specs.Good.{IsGood}
 use Rattle.admin_mgr.specs.RbacState.{RbacState, has_session}
 use Rattle.admin_mgr.specs.Refusals.{violates_dynamic}
 use Rattle.admin_mgr.specs.Separation.{is_kept_dynamically}
-use Rattle.admin_mgr.specs.private.HolderRoles.{has_all, is_reached_from, reached_from, run_of}
+use Rattle.admin_mgr.specs.private.HolderRoles.{has_all, is_reached_from, run_of}
 use Rattle.admin_mgr.proofs.StateAfter.SessionLaws.{none_ends_where}
 use Rattle.admin_mgr.proofs.Verdicts.SessionCommandLaws.{created_active, created_goes_on, created_owned, created_roles, created_sessions, not_new}
 use Rattle.admin_mgr.proofs.Verdicts.TouchLaws.{with_sessions, OthersStay, session_violates}
 use Rattle.admin_mgr.proofs.Verdicts.ViolationLaws.{with_paired-others}
 use Rattle.explanations.specs.Conflicts.{dynamic_violations, had_members, violated_members}
 use Rattle.explanations.specs.private.Found.{violated_with_roles}
-use Rattle.explanations.specs.private.Found as found
 use Rattle.explanations.proofs.Finds.{find_passes, is_behind, is_here}
 use Rattle.explanations.proofs.SessionViolations.{dynamic_refusal_of_first}
 use Rattle.explanations.proofs.ViolatedSets.{violated_are}

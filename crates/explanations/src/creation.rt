@@ -1,5 +1,5 @@
 //! The separation of duty sets that a new session would violate, and with which of its roles.
-ghost use Rattle.std.specs.Prelude.{◌≡◌, ◌⊎◌, [], ◌∷◌, ◌++◌, false, None, Some, IfOk, IfErr, filter, not, nat_lt, slice_get};
+ghost use Rattle.std.specs.Prelude.{◌≡◌, ◌⊎◌, [], ◌∷◌, ◌++◌, false, None, Some, IfOk, IfErr, slice_get};
 ghost use Rattle.std.specs.List.{list_all};
 ghost use Rattle.std.specs.Option.{option_map};
 ghost use Rattle.rbac_sets.specs.Sets.{Bytes, Pair, contains, name_cmp, pair_cmp};

@@ -8,7 +8,7 @@ use Rattle.rbac_sets.specs.declared.refusal.Refusal.TheVariants.{DynamicSeparati
 use Rattle.admin_mgr.specs.After.{after}
 use Rattle.admin_mgr.specs.Authorization.{is_authorized}
 use Rattle.admin_mgr.specs.RbacState.{has_session}
-use Rattle.admin_mgr.specs.Refusals.{first, violates_dynamic}
+use Rattle.admin_mgr.specs.Refusals.{first}
 use Rattle.admin_mgr.specs.Verdict.{create_session_refusals, refusals, verdict}
 use Rattle.admin_mgr.proofs.Verdicts.VerdictLaws.{none_unless_some, passed, refuse_if-None, refuse_unless-None}
 use Rattle.explanations.specs.Conflicts.{creation_refusals, violated_members}
