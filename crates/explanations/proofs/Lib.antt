@@ -4,6 +4,7 @@ mod InheritanceConflicts
 mod KeptNames
 mod Least
 mod ReasonLaws
+mod SessionCreation
 mod SessionReasonLaws
 mod SessionViolations
 mod ViolatedSets

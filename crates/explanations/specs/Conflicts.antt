@@ -1,10 +1,10 @@
 -- The separation of duty sets that a state violates, and the questions for those that it would violate after a command.
-use Rattle.std.specs.Prelude.{ℕ, Bool, not, nat_lt, List, [], ◌∷◌, map, Option}
-use Rattle.std.specs.List.{filter_map}
+use Rattle.std.specs.Prelude.{ℕ, Bool, not, ◌&&◌, nat_lt, List, [], ◌∷◌, map, Option}
+use Rattle.std.specs.List.{filter_map, flat_map}
 use Rattle.std.specs.Option.{option_map}
-use Rattle.rbac_sets.specs.Sets.{Bytes, Names, Pair, Cardinality, contains, count, members, retain}
+use Rattle.rbac_sets.specs.Sets.{Bytes, Names, Pair, Pairs, Cardinality, all, contains, count, members, retain, same_name}
 use Rattle.rbac_sets.specs.declared.refusal.Refusal.{Refusal}
-use Rattle.rbac_sets.specs.declared.refusal.Refusal.TheVariants.{NoUser, NoRole, Cycle, NoSession, NotOwner, NotAuthorized}
+use Rattle.rbac_sets.specs.declared.refusal.Refusal.TheVariants.{NoUser, NoRole, Cycle, NoSession, NotOwner, NotAuthorized, UserLocked}
 use Rattle.role_order.specs.Order.{geq}
 use Rattle.admin_mgr.specs.Authorization.{is_authorized, is_session_role}
 use Rattle.admin_mgr.specs.RbacState.{RbacState, Separation, has_session, members_of}
@@ -53,6 +53,16 @@ static_conflicts S = violated_by_first (first_user_with S) S.ssd
 abbrev pub dynamic_conflicts : RbacState → List Pair
 dynamic_conflicts S = violated_by_first (first_session_with S) S.dsd
 
+-- ---- the dynamic sets with those of their roles that a session has
+
+-- the roles of a set that the session has, as pairs (set, role)
+unfoldable pub had_members : RbacState → Bytes → Bytes → Pairs
+had_members S session set = retain S.dsd.members (λ (member : Pair). same_name member.0 set && is_session_role S session member.1)
+
+-- those of each dynamic set that the state violates
+unfoldable pub violated_members : RbacState → Bytes → List Pair
+violated_members S session = flat_map (λ set. members (had_members S session set)) (dynamic_violations S)
+
 -- ---- the refusals of the questions
 
 -- for an assignment the user and the role have to exist
@@ -71,6 +81,18 @@ activation_refusals S user session role =
 
 abbrev pub activation_refused : RbacState → Bytes → Bytes → Bytes → Option Refusal
 activation_refused S user session role = first (activation_refusals S user session role)
+
+-- for a new session the user and the roles have to exist, and the user has to be authorized for them and not to be locked
+abbrev pub creation_refusals : RbacState → Bytes → Names → List (Option Refusal)
+creation_refusals S user roles =
+    refuse_unless (contains S.users user) NoUser
+    ∷ refuse_unless (all (contains S.roles) roles) NoRole
+    ∷ refuse_unless (all (is_authorized S user) roles) NotAuthorized
+    ∷ refuse_if (contains S.locked user) UserLocked
+    ∷ []
+
+abbrev pub creation_refused : RbacState → Bytes → Names → Option Refusal
+creation_refused S user roles = first (creation_refusals S user roles)
 
 -- for an inheritance the roles have to exist, and the ascendant must be no junior of the descendant
 abbrev pub inheritance_refusals : RbacState → Bytes → Bytes → List (Option Refusal)

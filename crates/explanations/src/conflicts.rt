@@ -101,7 +101,7 @@ fn refuse_activation(state: &State, user: &Name, session: &Name, role: &Name) ->
 }
 
 // Whether the user is authorized for the role.
-fn is_authorized(state: &State, user: &Name, role: &Name) -> bool
+pub(crate) fn is_authorized(state: &State, user: &Name, role: &Name) -> bool
     ensures { result ≡ is_authorized state.now.facts user.now role.now }
 {
     let held = state.assignments().with_first(user);

@@ -25,11 +25,13 @@
 #![tactic(auto)]
 
 pub use conflicts::{violated_by_activation, violated_by_assignment};
+pub use creation::violated_by_creation;
 pub use inheritance::{violated_by_inheritance, violated_in_sessions};
 pub use session_access::{SessionReason, explain_session_access};
 pub use user_access::{UserReason, explain_user_access};
 
 pub mod conflicts;
+pub mod creation;
 pub mod inheritance;
 pub mod session_access;
 pub mod user_access;

@@ -1,13 +1,13 @@
 -- What the functions of this crate look for, in the rows of a holder, of a permission and of a set. A holder is a user or a session; its
 -- rows are the pairs (holder, role) of the roles that are assigned to it, or activated in it.
-use Rattle.std.specs.Prelude.{ℕ, Bool, true, false, not, ◌&&◌, nat_lt, List, map, filter, find, Option, count_by}
-use Rattle.std.specs.List.{filter_map}
+use Rattle.std.specs.Prelude.{ℕ, Bool, true, false, cond, not, ◌&&◌, nat_lt, List, [], map, filter, find, Option, count_by}
+use Rattle.std.specs.List.{filter_map, flat_map}
 use Rattle.std.specs.Option.{option_map}
 use Rattle.rbac_sets.specs.Sets.{Bytes, Pair, Pairs, Triple, Cardinality, members}
 use Rattle.role_order.specs.Order.{geq}
 use Rattle.admin_mgr.specs.RbacState.{RbacState}
 use Rattle.admin_mgr.specs.UserAccess.{stands_alone}
-use Rattle.admin_mgr.specs.private.HolderRoles.{is_reached, reached_with, run_of}
+use Rattle.admin_mgr.specs.private.HolderRoles.{has_all, is_reached, is_reached_from, reached_with, run_of}
 
 -- ---- roles to which a permission is granted, of the rows of its grants
 
@@ -64,3 +64,14 @@ first_holder_below false S asc desc roles cardinality = first_user_below S.edges
 abbrev pub conflicts_with : (List Pair → ℕ → Option Bytes) → Pairs → List Cardinality → List Pair
 conflicts_with first_of pairs sets =
     filter_map (λ (entry : Cardinality). option_map (λ holder. (entry.0, holder)) (first_of (run_of pairs entry.0) entry.1)) sets
+
+-- ---- the same for somebody who has these roles and their juniors
+
+-- the members that are one of the roles, or a junior of one
+abbrev pub had_members : Pairs → List Bytes → List Pair → List Pair
+had_members edges roles members = filter (λ (member : Pair). is_reached_from edges roles member.1) members
+
+-- those of each set of which they are no fewer than the cardinality
+abbrev pub violated_with_roles : Pairs → List Bytes → Pairs → List Cardinality → List Pair
+violated_with_roles edges roles pairs sets =
+    flat_map (λ (entry : Cardinality). cond (has_all edges roles (run_of pairs entry.0) entry.1) (had_members edges roles (run_of pairs entry.0)) []) sets
