@@ -2,6 +2,7 @@
 
 import contextlib
 import errno
+import itertools
 import os
 import random
 import socket
@@ -40,11 +41,17 @@ BAD_REQUEST = b'{"code":34,"error":"BadRequest"}'
 NO_FUNCTION = b'{"code":35,"error":"UnknownFunction"}'
 
 
+# How many processes that test side by side have ports of their own, and which of its ports this one takes next.
+PROCESSES = 40
+NEXT = itertools.count(random.Random(os.urandom(8)).randrange(PORTS[1]))
+
+
 def free_port():
-    """A port on which nobody listens."""
-    draws = random.Random(os.urandom(8))
+    """A port on which nobody listens, and that no test beside this one takes. It comes again only after all others."""
+    count = (PORTS[1] - PORTS[0]) // PROCESSES
+    process = int(os.environ.get("PYTEST_XDIST_WORKER", "gw0").removeprefix("gw")) % PROCESSES
     while True:
-        port = draws.randrange(*PORTS)
+        port = PORTS[0] + process * count + next(NEXT) % count
         with socket.socket() as probe:
             try:
                 probe.bind((HOST, port))
