@@ -27,13 +27,9 @@ type frozen struct {
 	snapshot office.Snapshot
 }
 
-// takeSnapshot keeps what is in the office. What takes long is done in the background. If an earlier snapshot isn't finished yet, there
-// is none of this place.
+// takeSnapshot keeps what is in the office. What takes long is done in the background. If an earlier place still waits for that, there is
+// no snapshot of it: the newest place always has one, since there may be no later command for a long time.
 func (n *Node) takeSnapshot() {
-	if len(n.frozen) == cap(n.frozen) {
-		n.log.Warn("no snapshot: the last one is not finished yet", "revision", n.revision)
-		return
-	}
 	if why := n.options.Record.Why(); why != "" {
 		n.noteSnapshot(n.revision, errors.New(why)) // It would take up room that a start needs.
 		return
@@ -42,6 +38,11 @@ func (n *Node) takeSnapshot() {
 	if err != nil {
 		n.noteSnapshot(n.revision, err)
 		return
+	}
+	select {
+	case earlier := <-n.frozen:
+		n.log.Warn("no snapshot: the one before is not finished yet", "revision", earlier.snapshot.Revision)
+	default:
 	}
 	n.frozen <- one
 }

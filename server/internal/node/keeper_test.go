@@ -69,17 +69,17 @@ func TestPlaces(t *testing.T) {
 	}
 }
 
-// While a snapshot is not finished none is made.
+// The office of a later place takes the place of one that waits: the newest always becomes a snapshot.
 func TestTakeSnapshot(t *testing.T) {
 	n, _ := newNode(t)
 	n.options.SnapshotCommands = 2
 	n.apply(entry(1, "a", "b"))
 	n.apply(entry(2, "c", "d"))
 	one := <-n.frozen
-	if string(one.lines) != "{\"fn\":\"addUser\",\"user\":\"a\"}\n{\"fn\":\"addUser\",\"user\":\"b\"}\n" {
+	if lines := strings.Split(string(one.lines), "\n"); len(lines) != 5 || lines[3] != `{"fn":"addUser","user":"d"}` {
 		t.Errorf("the lines are %s", one.lines)
 	}
-	if one.snapshot.Revision != 1 || one.snapshot.Count != 2 || n.err != nil || len(n.frozen) > 0 {
+	if one.snapshot.Revision != 2 || one.snapshot.Count != 4 || n.err != nil || len(n.frozen) > 0 {
 		t.Errorf("%+v, %v", one.snapshot, n.err)
 	}
 }
