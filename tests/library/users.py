@@ -9,6 +9,7 @@ import pytest
 from .building import built
 
 OFFICES, MOST_ROLES = 1_000, 3
+CHANGED, CHANGES = 200, 8
 USERS = ["ann", "bob", "eve"]
 PERMISSIONS = [("safe", "open"), ("safe", "close"), ("vault", "open")]
 
@@ -89,6 +90,56 @@ def check_all_sessions(bench):
     for why, count in counted.items():
         bench.same(f"at least 100: {why}", count >= 100, True)
     return {f"decisions about users: {why}": count for why, count in counted.items()}
+
+
+def draw_change(draws, roles):
+    """Returns a random command that may change what users may do."""
+    role, other, user = draws.choice(roles), draws.choice(roles), draws.choice(USERS)
+    object, operation = draws.choice(PERMISSIONS)
+    grant, name = {"object": object, "operation": operation, "role": role}, draws.choice(["d0", "d1"])
+    return draws.choice([
+        ("addInheritance", {"asc": role, "desc": other}),
+        ("deleteInheritance", {"asc": role, "desc": other}),
+        ("createDsdSet", {"set": name, "roles": draws.sample(roles, 2), "cardinality": 2}),
+        ("deleteDsdSet", {"set": name}),
+        ("addDsdRoleMember", {"set": name, "role": role}),
+        ("deleteDsdRoleMember", {"set": name, "role": role}),
+        ("setDsdSetCardinality", {"set": name, "cardinality": draws.choice([2, 3])}),
+        ("assignUser", {"user": user, "role": role}),
+        ("deassignUser", {"user": user, "role": role}),
+        ("grantPermission", grant),
+        ("revokePermission", grant),
+        ("deleteRole", {"role": role}),
+        ("addRole", {"role": role}),
+        ("lockUserAccount", {"user": user}),
+        ("unlockUserAccount", {"user": user}),
+    ])
+
+
+@pytest.mark.needs("python-headers")
+def check_changed_offices(bench):
+    """Decisions about users are those of all sessions after random commands too, some of which change what bars a role."""
+    sys.path.insert(0, str(built() / "python"))
+    from rbac_office import Office
+
+    draws, done, counted, wrong = random.Random(71), 0, {True: 0, False: 0}, []
+    for number in range(CHANGED):
+        roles, commands = draw_commands(draws)
+        with Office() as office:
+            for function, it in commands:
+                is_done(office, function, it)
+            for _ in range(CHANGES):
+                done += sum(is_done(office, *draw_change(draws, roles)) for _ in range(draws.randint(1, 4)))
+                user = draws.choice(USERS)
+                had = had_in_a_session(office, user, roles)
+                for permission in PERMISSIONS:
+                    says = office.check_user(user, permission[1], permission[0])
+                    counted[says] += 1
+                    if says != (permission in had):
+                        wrong.append(f"office {number}, {user}, {permission}: {says}")
+    bench.judge("decisions about users after commands", wrong)
+    bench.same("at least 100 of each decision", min(counted.values()) >= 100, True)
+    return {"commands between decisions about users": done, "decisions about users after commands": sum(counted.values())}
 
 
 @pytest.mark.needs("python-headers")

@@ -22,21 +22,21 @@ use Rattle.review_mgr.proofs.AccessByRuns.{any_second}
 use Rattle.access_index.specs.declared.index.AccessIndex.{AccessIndex}
 use Rattle.access_index.specs.Decision.{IsDecision}
 use Rattle.access_index.specs.private.Reaching.{Reaches}
-use Rattle.access_index.specs.Index.{Indexes, number_of, is_used, is_below, is_below_number, session_bits, grant_bits, is_activated, is_granted, is_junior}
+use Rattle.access_index.specs.Index.{Indexes, number_of, is_used, is_below, is_below_number, rows_of, session_bits, grant_bits, is_activated, is_granted, is_junior}
 use Rattle.bit_tables.proofs.ByName.{same_bytes}
 use Rattle.access_index.proofs.FollowLaws.{some-is}
 
 -- ---- the facts as rows
 
-activated-is : (S : RbacState) (session role : Bytes) → is_activated (has_row S) session role ≡ contains S.active (session, role)
+activated-is : (S : RbacState) (session role : Bytes) → is_activated (rows_of S) session role ≡ contains S.active (session, role)
 unfolding has_row
 activated-is S session role = refl
 
-granted-is : (S : RbacState) (p : Pair) (role : Bytes) → is_granted (has_row S) p role ≡ contains S.grants (p.0, p.1, role)
+pub granted-is : (S : RbacState) (p : Pair) (role : Bytes) → is_granted (rows_of S) p role ≡ contains S.grants (p.0, p.1, role)
 unfolding has_row
 granted-is S p role = refl
 
-junior-is : (S : RbacState) (senior role : Bytes) → is_junior (has_row S) senior role ≡ is_above S senior role
+pub junior-is : (S : RbacState) (senior role : Bytes) → is_junior (rows_of S) senior role ≡ is_above S senior role
 unfolding has_row
 junior-is S senior role = refl
 
@@ -56,7 +56,7 @@ module _ (index : AccessIndex) (S : RbacState) (keeps : Indexes index S) (sessio
       let owner = keeps.numbers.has_role n used in
       (owner.0, owner.1, sym (activated-is S session owner.0) ∙ sym (keeps.sessions.same session owner.0 n owner.1) ∙ bit)
 
-  granted_at : (n : ℕ) → IsTrue (grant_bits index (object, operation) n) → (role : Bytes) × (number_of index role ≡ Some n) × IsTrue (contains S.grants (object, operation, role))
+  pub granted_at : (n : ℕ) → IsTrue (grant_bits index (object, operation) n) → (role : Bytes) × (number_of index role ≡ Some n) × IsTrue (contains S.grants (object, operation, role))
   granted_at n bit =
       let used : IsTrue (is_used index n) = elim (cases_Bool (is_used index n)) [ inl is ↦ is | inr out ↦ absurd (true≢false (sym bit ∙ keeps.grants.unused (object, operation) n out)) ] in
       let owner = keeps.numbers.has_role n used in
@@ -109,7 +109,7 @@ module _ (index : AccessIndex) (S : RbacState) (keeps : Indexes index S) (sessio
       (above.0, r, (seconds-Decides S.active session above.0).0 above.1, above.2, found.2)
 
   -- the bit of a junior
-  junior_bit : (a r : Bytes) (i j : ℕ) → number_of index a ≡ Some i → number_of index r ≡ Some j → is_below index.juniors.items i j ≡ is_above S a r
+  pub junior_bit : (a r : Bytes) (i j : ℕ) → number_of index a ≡ Some i → number_of index r ≡ Some j → is_below index.juniors.items i j ≡ is_above S a r
   junior_bit a r i j at_a at_r =
       sym (ap (λ number. is_below_number index.juniors.items number j) at_a) ∙ keeps.juniors.same a r j at_r ∙ junior-is S a r
 

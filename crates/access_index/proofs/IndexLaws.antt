@@ -1,6 +1,6 @@
 -- How an index keeps rows when one row changes.
-use Rattle.std.proofs.Common.{◌≡◌, ◌≢◌, ℕ, ◌<◌, Bool, false, List, [], ◌∷◌, ◌++◌, zero, suc, ◌+◌, ◌||◌, length, take, get_or, inl, inr, refl, sym, ◌∙◌, ap}
-use Rattle.std.specs.Prelude.{IsTrue, Option, Some, None, Result, Ok, Err, OnOk}
+use Rattle.std.proofs.Common.{◌≡◌, ◌≢◌, ℕ, ◌<◌, Bool, false, not, List, [], ◌∷◌, ◌++◌, zero, suc, ◌+◌, ◌||◌, length, take, get_or, inl, inr, refl, sym, ◌∙◌, ap}
+use Rattle.std.specs.Prelude.{IsTrue, Option, Some, None, Result, Ok, Err, OnOk, IfSome}
 use Rattle.std.proofs.lemmas.Bool.{true≢false, cases_eq, cases_Bool, false_from_ne_true}
 use Rattle.admin_mgr.specs.Changes.{same_row}
 use Rattle.std.proofs.lemmas.List.{take_more}
@@ -11,21 +11,21 @@ use Rattle.bit_rows.specs.Rows.{has}
 use Rattle.rbac_sets.specs.Sets.{Bytes, Pair}
 use Rattle.rbac_sets.specs.declared.row.Row.{Row}
 use Rattle.rbac_sets.specs.declared.row.Row.TheVariants.{PairRow, GrantRow}
-use Rattle.rbac_sets.specs.declared.row.TheConstants.Row.{CLOSURE_PAIR, ACTIVATED_ROLE}
+use Rattle.rbac_sets.specs.declared.row.TheConstants.Row.{ASSIGNMENT, CLOSURE_PAIR, ACTIVATED_ROLE}
 use Rattle.rbac_sets.specs.declared.row.Change.TheVariants.{Put, Take}
 use Rattle.admin_mgr.specs.RbacState.{empty_state}
-use Rattle.admin_mgr.specs.Rows.{has_row}
 use Rattle.admin_mgr.specs.StoredSets.{is_among}
 use Rattle.admin_mgr.proofs.StateAfter.EmptyLaws.{empty_has_no_row}
+use Rattle.access_index.proofs.BarLaws.{empty_alone}
 use Rattle.access_index.specs.declared.index.AccessIndex.{AccessIndex}
 use Rattle.bit_tables.specs.declared.table.BitTable.{BitTable}
 use Rattle.bit_tables.specs.declared.pair_table.PairTable.{PairTable}
 use Rattle.bit_tables.specs.Tables.{has_at, has_pair}
 use Rattle.access_index.specs.Following.{Follow}
-use Rattle.access_index.specs.Index.{Rows, Keeps, number_of, is_used, is_below, is_below_number, session_bits, grant_bits, junior_bits, is_activated, is_granted, is_junior}
+use Rattle.access_index.specs.Index.{AreTurned, Rows, Keeps, no_rows, rows_of, number_of, is_used, is_below, is_below_number, assigned_bits, session_bits, grant_bits, junior_bits, is_assigned, is_activated, is_granted, is_junior}
 use Rattle.access_index.specs.private.Changing.{IsNowhere, rows_by}
 use Rattle.bit_tables.proofs.ByName.{same_bytes, same_pair}
-use Rattle.access_index.proofs.FollowLaws.{follow_put, follow_take, follow_more, follow_less, numbers_more, numbers_less}
+use Rattle.access_index.proofs.FollowLaws.{some-is, follow_put, follow_take, follow_more, follow_less, numbers_more, numbers_less}
 use Rattle.access_index.proofs.RowLaws.{or_false, put_here, put_apart, put_other, taken_here, taken_apart, taken_other, taken_absent, pair_differs, grant_differs}
 
 -- facts that are the same are followed too
@@ -37,15 +37,82 @@ follow_same number used bits fact fact' equal follow = record {
   numbered = λ x role is. follow.numbered x role (sym (equal x role) ∙ is);
 }
 
+-- the numbers of the barred roles follow facts that are the same
+barred_same : (number : Bytes → Option ℕ) (used : ℕ → Bool) (row : Option BitRow) (fact fact' : Bytes → Bool) → ((role : Bytes) → fact' role ≡ fact role)
+    → IfSome row (λ r. Follow (Unit {0}) number used (λ _. has r) (λ _. fact)) → IfSome row (λ r. Follow (Unit {0}) number used (λ _. has r) (λ _. fact'))
+barred_same number used None fact fact' equal follow = tt
+barred_same number used (Some r) fact fact' equal follow = follow_same {X = Unit {0}} number used (λ _. has r) (λ _. fact) (λ _. fact') (λ _. equal) follow
+
 -- an index keeps rows that are the same
-pub keeps_same : (index : AccessIndex) (rows rows' : Rows) → ((row : Row) → rows' row ≡ rows row) → Keeps index rows → Keeps index rows'
-keeps_same index rows rows' equal keeps = record {
+pub keeps_same : (index : AccessIndex) (rows rows' : Rows) → ((row : Row) → rows'.stored row ≡ rows.stored row) → ((role : Bytes) → rows'.barred role ≡ rows.barred role) → Keeps index rows → Keeps index rows'
+keeps_same index rows rows' equal barred keeps = record {
   numbers = keeps.numbers;
+  assigned = follow_same (number_of index) (is_used index) (assigned_bits index) (is_assigned rows) (is_assigned rows') (λ user role. equal _) keeps.assigned;
   sessions = follow_same (number_of index) (is_used index) (session_bits index) (is_activated rows) (is_activated rows') (λ session role. equal _) keeps.sessions;
   grants = follow_same (number_of index) (is_used index) (grant_bits index) (is_granted rows) (is_granted rows') (λ permission role. equal _) keeps.grants;
   juniors = follow_same (number_of index) (is_used index) (junior_bits index) (is_junior rows) (is_junior rows') (λ senior role. equal _) keeps.juniors;
   clear = keeps.clear;
+  turned = keeps.turned;
+  barred = barred_same (number_of index) (is_used index) index.barred rows.barred rows'.barred barred keeps.barred;
 }
+
+-- an index that doesn't know which roles are barred keeps the same rows with any
+pub keeps_unknown : (index : AccessIndex) (rows : Rows) (barred : Bytes → Bool) → Keeps index rows → Keeps (record index { barred = None }) (record rows { barred = barred })
+keeps_unknown index rows barred keeps = record {
+  numbers = keeps.numbers;
+  assigned = keeps.assigned;
+  sessions = keeps.sessions;
+  grants = keeps.grants;
+  juniors = keeps.juniors;
+  clear = keeps.clear;
+  turned = keeps.turned;
+  barred = tt;
+}
+
+-- an index with a row of the barred roles
+pub keeps_barred : (index : AccessIndex) (rows : Rows) (row : Option BitRow) → IfSome row (λ r. Follow (Unit {0}) (number_of index) (is_used index) (λ _. has r) (λ _. rows.barred)) → Keeps index rows → Keeps (record index { barred = row }) rows
+keeps_barred index rows row follow keeps = record {
+  numbers = keeps.numbers;
+  assigned = keeps.assigned;
+  sessions = keeps.sessions;
+  grants = keeps.grants;
+  juniors = keeps.juniors;
+  clear = keeps.clear;
+  turned = keeps.turned;
+  barred = follow;
+}
+
+-- ---- an assigned role
+
+module _ (index : AccessIndex) (rows : Rows) (keeps : Keeps index rows) (session role : Bytes) (n : ℕ) (at : number_of index role ≡ Some n)
+    (table : BitTable) (others : (other : Bytes) (m : ℕ) → (other ≡ session → m ≢ n) → has_at table other m ≡ has_at index.assigned other m) where
+  pub keeps_put_assigned : IsTrue (has_at table session n) → Keeps (record index { assigned = table }) (rows_by rows (Put (PairRow ASSIGNMENT session role)))
+  keeps_put_assigned there = record {
+    numbers = keeps.numbers;
+    sessions = follow_same (number_of index) (is_used index) (session_bits index) (is_activated rows) _ (λ user other. put_apart rows (PairRow ASSIGNMENT session role) _ refl) keeps.sessions;
+    assigned = follow_put same_bytes same_bytes (number_of index) (is_used index) keeps.numbers (assigned_bits index) (has_at table) (is_assigned rows) (is_assigned (rows_by rows (Put (PairRow ASSIGNMENT session role)))) session role n at others
+        (λ y other differ. put_other rows (PairRow ASSIGNMENT session role) (PairRow ASSIGNMENT y other) (pair_differs ASSIGNMENT session role y other differ))
+        there (put_here rows (PairRow ASSIGNMENT session role)) keeps.assigned;
+    grants = follow_same (number_of index) (is_used index) (grant_bits index) (is_granted rows) _ (λ permission other. put_apart rows (PairRow ASSIGNMENT session role) _ refl) keeps.grants;
+    juniors = follow_same (number_of index) (is_used index) (junior_bits index) (is_junior rows) _ (λ senior other. put_apart rows (PairRow ASSIGNMENT session role) _ refl) keeps.juniors;
+    clear = keeps.clear;
+    turned = keeps.turned;
+    barred = keeps.barred;
+  }
+
+  pub keeps_take_assigned : has_at table session n ≡ false → Keeps (record index { assigned = table }) (rows_by rows (Take (PairRow ASSIGNMENT session role)))
+  keeps_take_assigned gone = record {
+    numbers = keeps.numbers;
+    sessions = follow_same (number_of index) (is_used index) (session_bits index) (is_activated rows) _ (λ user other. taken_apart rows (PairRow ASSIGNMENT session role) _ refl) keeps.sessions;
+    assigned = follow_take same_bytes same_bytes (number_of index) (is_used index) keeps.numbers (assigned_bits index) (has_at table) (is_assigned rows) (is_assigned (rows_by rows (Take (PairRow ASSIGNMENT session role)))) session role n at others
+        (λ y other differ. taken_other rows (PairRow ASSIGNMENT session role) (PairRow ASSIGNMENT y other) (pair_differs ASSIGNMENT session role y other differ))
+        gone (taken_here rows (PairRow ASSIGNMENT session role)) keeps.assigned;
+    grants = follow_same (number_of index) (is_used index) (grant_bits index) (is_granted rows) _ (λ permission other. taken_apart rows (PairRow ASSIGNMENT session role) _ refl) keeps.grants;
+    juniors = follow_same (number_of index) (is_used index) (junior_bits index) (is_junior rows) _ (λ senior other. taken_apart rows (PairRow ASSIGNMENT session role) _ refl) keeps.juniors;
+    clear = keeps.clear;
+    turned = keeps.turned;
+    barred = keeps.barred;
+  }
 
 -- ---- an activated role
 
@@ -54,23 +121,29 @@ module _ (index : AccessIndex) (rows : Rows) (keeps : Keeps index rows) (session
   pub keeps_put_activated : IsTrue (has_at table session n) → Keeps (record index { sessions = table }) (rows_by rows (Put (PairRow ACTIVATED_ROLE session role)))
   keeps_put_activated there = record {
     numbers = keeps.numbers;
+    assigned = follow_same (number_of index) (is_used index) (assigned_bits index) (is_assigned rows) _ (λ user other. put_apart rows (PairRow ACTIVATED_ROLE session role) _ refl) keeps.assigned;
     sessions = follow_put same_bytes same_bytes (number_of index) (is_used index) keeps.numbers (session_bits index) (has_at table) (is_activated rows) (is_activated (rows_by rows (Put (PairRow ACTIVATED_ROLE session role)))) session role n at others
         (λ y other differ. put_other rows (PairRow ACTIVATED_ROLE session role) (PairRow ACTIVATED_ROLE y other) (pair_differs ACTIVATED_ROLE session role y other differ))
         there (put_here rows (PairRow ACTIVATED_ROLE session role)) keeps.sessions;
     grants = follow_same (number_of index) (is_used index) (grant_bits index) (is_granted rows) _ (λ permission other. put_apart rows (PairRow ACTIVATED_ROLE session role) _ refl) keeps.grants;
     juniors = follow_same (number_of index) (is_used index) (junior_bits index) (is_junior rows) _ (λ senior other. put_apart rows (PairRow ACTIVATED_ROLE session role) _ refl) keeps.juniors;
     clear = keeps.clear;
+    turned = keeps.turned;
+    barred = keeps.barred;
   }
 
   pub keeps_take_activated : has_at table session n ≡ false → Keeps (record index { sessions = table }) (rows_by rows (Take (PairRow ACTIVATED_ROLE session role)))
   keeps_take_activated gone = record {
     numbers = keeps.numbers;
+    assigned = follow_same (number_of index) (is_used index) (assigned_bits index) (is_assigned rows) _ (λ user other. taken_apart rows (PairRow ACTIVATED_ROLE session role) _ refl) keeps.assigned;
     sessions = follow_take same_bytes same_bytes (number_of index) (is_used index) keeps.numbers (session_bits index) (has_at table) (is_activated rows) (is_activated (rows_by rows (Take (PairRow ACTIVATED_ROLE session role)))) session role n at others
         (λ y other differ. taken_other rows (PairRow ACTIVATED_ROLE session role) (PairRow ACTIVATED_ROLE y other) (pair_differs ACTIVATED_ROLE session role y other differ))
         gone (taken_here rows (PairRow ACTIVATED_ROLE session role)) keeps.sessions;
     grants = follow_same (number_of index) (is_used index) (grant_bits index) (is_granted rows) _ (λ permission other. taken_apart rows (PairRow ACTIVATED_ROLE session role) _ refl) keeps.grants;
     juniors = follow_same (number_of index) (is_used index) (junior_bits index) (is_junior rows) _ (λ senior other. taken_apart rows (PairRow ACTIVATED_ROLE session role) _ refl) keeps.juniors;
     clear = keeps.clear;
+    turned = keeps.turned;
+    barred = keeps.barred;
   }
 
 -- ---- a grant
@@ -83,29 +156,35 @@ module _ (index : AccessIndex) (rows : Rows) (keeps : Keeps index rows) (object 
   pub keeps_put_grant : IsTrue (has_pair table object operation n) → Keeps (record index { grants = table }) (rows_by rows (Put (GrantRow object operation role)))
   keeps_put_grant there = record {
     numbers = keeps.numbers;
+    assigned = follow_same (number_of index) (is_used index) (assigned_bits index) (is_assigned rows) _ (λ user other. put_apart rows (GrantRow object operation role) _ refl) keeps.assigned;
     sessions = follow_same (number_of index) (is_used index) (session_bits index) (is_activated rows) _ (λ session other. put_apart rows (GrantRow object operation role) _ refl) keeps.sessions;
     grants = follow_put same_bytes same_pair (number_of index) (is_used index) keeps.numbers (grant_bits index) (λ p m. has_pair table p.0 p.1 m) (is_granted rows) (is_granted (rows_by rows (Put (GrantRow object operation role)))) (object, operation) role n at bits_others
         (λ y other differ. put_other rows (GrantRow object operation role) (GrantRow y.0 y.1 other) (grant_differs (object, operation) role y other differ))
         there (put_here rows (GrantRow object operation role)) keeps.grants;
     juniors = follow_same (number_of index) (is_used index) (junior_bits index) (is_junior rows) _ (λ senior other. put_apart rows (GrantRow object operation role) _ refl) keeps.juniors;
     clear = keeps.clear;
+    turned = keeps.turned;
+    barred = keeps.barred;
   }
 
   pub keeps_take_grant : has_pair table object operation n ≡ false → Keeps (record index { grants = table }) (rows_by rows (Take (GrantRow object operation role)))
   keeps_take_grant gone = record {
     numbers = keeps.numbers;
+    assigned = follow_same (number_of index) (is_used index) (assigned_bits index) (is_assigned rows) _ (λ user other. taken_apart rows (GrantRow object operation role) _ refl) keeps.assigned;
     sessions = follow_same (number_of index) (is_used index) (session_bits index) (is_activated rows) _ (λ session other. taken_apart rows (GrantRow object operation role) _ refl) keeps.sessions;
     grants = follow_take same_bytes same_pair (number_of index) (is_used index) keeps.numbers (grant_bits index) (λ p m. has_pair table p.0 p.1 m) (is_granted rows) (is_granted (rows_by rows (Take (GrantRow object operation role)))) (object, operation) role n at bits_others
         (λ y other differ. taken_other rows (GrantRow object operation role) (GrantRow y.0 y.1 other) (grant_differs (object, operation) role y other differ))
         gone (taken_here rows (GrantRow object operation role)) keeps.grants;
     juniors = follow_same (number_of index) (is_used index) (junior_bits index) (is_junior rows) _ (λ senior other. taken_apart rows (GrantRow object operation role) _ refl) keeps.juniors;
     clear = keeps.clear;
+    turned = keeps.turned;
+    barred = keeps.barred;
   }
 
 -- ---- a closure pair
 
 module _ (index new : AccessIndex) (rows : Rows) (keeps : Keeps index rows) (senior junior : Bytes) (i j : ℕ) (at_senior : number_of index senior ≡ Some i) (at_junior : number_of index junior ≡ Some j)
-    (others : (k m : ℕ) → (k ≡ i → m ≢ j) → is_below new.juniors.items k m ≡ is_below index.juniors.items k m) where
+    (others : (k m : ℕ) → (k ≡ i → m ≢ j) → is_below new.juniors.items k m ≡ is_below index.juniors.items k m) (turned : AreTurned new.juniors.items new.seniors.items) where
   new_bits : Bytes → ℕ → Bool
   new_bits x m = is_below_number new.juniors.items (number_of index x) m
 
@@ -124,72 +203,90 @@ module _ (index new : AccessIndex) (rows : Rows) (keeps : Keeps index rows) (sen
   clear_others : (k m : ℕ) → is_used index k ≡ false → is_below new.juniors.items k m ≡ false
   clear_others k m is = others k m (λ same. absurd (true≢false (sym (keeps.numbers.is_used senior i at_senior) ∙ ap (is_used index) (sym same) ∙ is))) ∙ keeps.clear k m is
 
-  pub keeps_put_junior : IsTrue (is_below new.juniors.items i j) → Keeps (record index { juniors = new.juniors }) (rows_by rows (Put (PairRow CLOSURE_PAIR senior junior)))
+  pub keeps_put_junior : IsTrue (is_below new.juniors.items i j) → Keeps (record index { juniors = new.juniors; seniors = new.seniors }) (rows_by rows (Put (PairRow CLOSURE_PAIR senior junior)))
   unfolding new_bits
   keeps_put_junior there = record {
     numbers = keeps.numbers;
+    assigned = follow_same (number_of index) (is_used index) (assigned_bits index) (is_assigned rows) _ (λ user other. put_apart rows (PairRow CLOSURE_PAIR senior junior) _ refl) keeps.assigned;
     sessions = follow_same (number_of index) (is_used index) (session_bits index) (is_activated rows) _ (λ session other. put_apart rows (PairRow CLOSURE_PAIR senior junior) _ refl) keeps.sessions;
     grants = follow_same (number_of index) (is_used index) (grant_bits index) (is_granted rows) _ (λ permission other. put_apart rows (PairRow CLOSURE_PAIR senior junior) _ refl) keeps.grants;
     juniors = follow_put same_bytes same_bytes (number_of index) (is_used index) keeps.numbers (junior_bits index) new_bits (is_junior rows) (is_junior (rows_by rows (Put (PairRow CLOSURE_PAIR senior junior)))) senior junior j at_junior junior_others
         (λ y other differ. put_other rows (PairRow CLOSURE_PAIR senior junior) (PairRow CLOSURE_PAIR y other) (pair_differs CLOSURE_PAIR senior junior y other differ))
         (bit_at_senior ∙ there) (put_here rows (PairRow CLOSURE_PAIR senior junior)) keeps.juniors;
     clear = clear_others;
+    turned = turned;
+    barred = keeps.barred;
   }
 
-  pub keeps_take_junior : is_below new.juniors.items i j ≡ false → Keeps (record index { juniors = new.juniors }) (rows_by rows (Take (PairRow CLOSURE_PAIR senior junior)))
+  pub keeps_take_junior : is_below new.juniors.items i j ≡ false → Keeps (record index { juniors = new.juniors; seniors = new.seniors }) (rows_by rows (Take (PairRow CLOSURE_PAIR senior junior)))
   unfolding new_bits
   keeps_take_junior gone = record {
     numbers = keeps.numbers;
+    assigned = follow_same (number_of index) (is_used index) (assigned_bits index) (is_assigned rows) _ (λ user other. taken_apart rows (PairRow CLOSURE_PAIR senior junior) _ refl) keeps.assigned;
     sessions = follow_same (number_of index) (is_used index) (session_bits index) (is_activated rows) _ (λ session other. taken_apart rows (PairRow CLOSURE_PAIR senior junior) _ refl) keeps.sessions;
     grants = follow_same (number_of index) (is_used index) (grant_bits index) (is_granted rows) _ (λ permission other. taken_apart rows (PairRow CLOSURE_PAIR senior junior) _ refl) keeps.grants;
     juniors = follow_take same_bytes same_bytes (number_of index) (is_used index) keeps.numbers (junior_bits index) new_bits (is_junior rows) (is_junior (rows_by rows (Take (PairRow CLOSURE_PAIR senior junior)))) senior junior j at_junior junior_others
         (λ y other differ. taken_other rows (PairRow CLOSURE_PAIR senior junior) (PairRow CLOSURE_PAIR y other) (pair_differs CLOSURE_PAIR senior junior y other differ))
         (bit_at_senior ∙ gone) (taken_here rows (PairRow CLOSURE_PAIR senior junior)) keeps.juniors;
     clear = clear_others;
+    turned = turned;
+    barred = keeps.barred;
   }
 
 -- ---- a row that the index doesn't have, and a take of what has no number
 
 -- the row is none of those that the index keeps
 pub record IsOther (row : Row) : Type 0 where
+  pub assigned : (user role : Bytes) → same_row row (PairRow ASSIGNMENT user role) ≡ false
   pub activated : (session role : Bytes) → same_row row (PairRow ACTIVATED_ROLE session role) ≡ false
   pub granted : (object operation role : Bytes) → same_row row (GrantRow object operation role) ≡ false
   pub junior : (senior role : Bytes) → same_row row (PairRow CLOSURE_PAIR senior role) ≡ false
 
 module _ (index : AccessIndex) (rows rows' : Rows) (keeps : Keeps index rows) where
-  -- the index keeps rows that have the same activated roles, grants and closure pairs
-  pub keeps_alike : ((session role : Bytes) → is_activated rows' session role ≡ is_activated rows session role) → ((p : Pair) (role : Bytes) → is_granted rows' p role ≡ is_granted rows p role)
-      → ((senior role : Bytes) → is_junior rows' senior role ≡ is_junior rows senior role) → Keeps index rows'
-  keeps_alike sessions grants juniors = record {
+  -- the index keeps rows that have the same assignments, activated roles, grants and closure pairs, and the same barred roles
+  pub keeps_alike : ((user role : Bytes) → is_assigned rows' user role ≡ is_assigned rows user role) → ((session role : Bytes) → is_activated rows' session role ≡ is_activated rows session role)
+      → ((p : Pair) (role : Bytes) → is_granted rows' p role ≡ is_granted rows p role) → ((senior role : Bytes) → is_junior rows' senior role ≡ is_junior rows senior role)
+      → ((role : Bytes) → rows'.barred role ≡ rows.barred role) → Keeps index rows'
+  keeps_alike assigned sessions grants juniors barred = record {
     numbers = keeps.numbers;
+    assigned = follow_same (number_of index) (is_used index) (assigned_bits index) (is_assigned rows) (is_assigned rows') assigned keeps.assigned;
     sessions = follow_same (number_of index) (is_used index) (session_bits index) (is_activated rows) (is_activated rows') sessions keeps.sessions;
     grants = follow_same (number_of index) (is_used index) (grant_bits index) (is_granted rows) (is_granted rows') grants keeps.grants;
     juniors = follow_same (number_of index) (is_used index) (junior_bits index) (is_junior rows) (is_junior rows') juniors keeps.juniors;
     clear = keeps.clear;
+    turned = keeps.turned;
+    barred = barred_same (number_of index) (is_used index) index.barred rows.barred rows'.barred barred keeps.barred;
   }
 
 pub keeps_put_other : (index : AccessIndex) (rows : Rows) → Keeps index rows → (row : Row) → IsOther row → Keeps index (rows_by rows (Put row))
 keeps_put_other index rows keeps row other =
     keeps_alike index rows (rows_by rows (Put row)) keeps
+    (λ user role. put_apart rows row (PairRow ASSIGNMENT user role) (other.assigned user role))
     (λ session role. put_apart rows row (PairRow ACTIVATED_ROLE session role) (other.activated session role))
     (λ p role. put_apart rows row (GrantRow p.0 p.1 role) (other.granted p.0 p.1 role))
     (λ senior role. put_apart rows row (PairRow CLOSURE_PAIR senior role) (other.junior senior role))
+    (λ role. refl)
 
 pub keeps_take_other : (index : AccessIndex) (rows : Rows) → Keeps index rows → (row : Row) → IsOther row → Keeps index (rows_by rows (Take row))
 keeps_take_other index rows keeps row other =
     keeps_alike index rows (rows_by rows (Take row)) keeps
+    (λ user role. taken_apart rows row (PairRow ASSIGNMENT user role) (other.assigned user role))
     (λ session role. taken_apart rows row (PairRow ACTIVATED_ROLE session role) (other.activated session role))
     (λ p role. taken_apart rows row (GrantRow p.0 p.1 role) (other.granted p.0 p.1 role))
     (λ senior role. taken_apart rows row (PairRow CLOSURE_PAIR senior role) (other.junior senior role))
+    (λ role. refl)
 
 -- a row that isn't there is taken
-pub keeps_take_absent : (index : AccessIndex) (rows : Rows) → Keeps index rows → (row : Row) → rows row ≡ false → Keeps index (rows_by rows (Take row))
-keeps_take_absent index rows keeps row absent = keeps_same index rows (rows_by rows (Take row)) (taken_absent rows row absent) keeps
+pub keeps_take_absent : (index : AccessIndex) (rows : Rows) → Keeps index rows → (row : Row) → rows.stored row ≡ false → Keeps index (rows_by rows (Take row))
+keeps_take_absent index rows keeps row absent = keeps_same index rows (rows_by rows (Take row)) (taken_absent rows row absent) (λ role. refl) keeps
 
--- a role without a number is activated in no session, granted nothing, and no junior of a role
+-- a role without a number is assigned to no user, activated in no session, granted nothing, and no junior of a role
 module _ (index : AccessIndex) (rows : Rows) (keeps : Keeps index rows) (role : Bytes) (none : number_of index role ≡ None) where
   no_number : (n : ℕ) → number_of index role ≡ Some n → ⊥
   no_number n is = let clash : None ≡ Some n = sym none ∙ is in cc
+
+  pub not_assigned : (user : Bytes) → is_assigned rows user role ≡ false
+  not_assigned user = false_from_ne_true (is_assigned rows user role) (λ is. let at = keeps.assigned.numbered user role is in no_number at.0 at.1)
 
   pub not_activated : (session : Bytes) → is_activated rows session role ≡ false
   not_activated session = false_from_ne_true (is_activated rows session role) (λ is. let at = keeps.sessions.numbered session role is in no_number at.0 at.1)
@@ -230,13 +327,18 @@ pub on_three : {X E : Type 0} (r : Result X E) (P Q R W : Type 0) → (P → Q �
 on_three (Ok x) P Q R W all first second third = all first second third
 on_three (Err e) P Q R W all first second third = tt
 
+pub on_four : {X E : Type 0} (r : Result X E) (P Q R W V : Type 0) → (P → Q → R → W → V) → OnOk r P → OnOk r Q → OnOk r R → OnOk r W → OnOk r V
+on_four (Ok x) P Q R W V all first second third fourth = all first second third fourth
+on_four (Err e) P Q R W V all first second third fourth = tt
+
 -- ---- numbers
 
 -- a role gets a number
 module _ (index new : AccessIndex) (rows : Rows) (keeps : Keeps index rows) (role : Bytes) (n : ℕ) (none : number_of index role ≡ None) (free : is_used index n ≡ false) (within : n < WIDTH)
     (here : number_of new role ≡ Some n) (others : (other : Bytes) → other ≢ role → number_of new other ≡ number_of index other)
     (put : IsTrue (is_used new n)) (kept : (m : ℕ) → m ≢ n → is_used new m ≡ is_used index m)
-    (same_sessions : new.sessions ≡ index.sessions) (same_grants : new.grants ≡ index.grants) (same_juniors : new.juniors ≡ index.juniors) where
+    (same_assigned : new.assigned ≡ index.assigned) (same_sessions : new.sessions ≡ index.sessions) (same_grants : new.grants ≡ index.grants)
+    (same_juniors : new.juniors ≡ index.juniors) (same_seniors : new.seniors ≡ index.seniors) (same_barred : new.barred ≡ index.barred) where
   bits_at : (x : Bytes) (m : ℕ) → is_below_number index.juniors.items (number_of new x) m ≡ junior_bits index x m
   bits_at x m = elim (same_bytes x role) [
     | inl same ↦
@@ -246,15 +348,30 @@ module _ (index new : AccessIndex) (rows : Rows) (keeps : Keeps index rows) (rol
     | inr differ ↦ ap (λ number. is_below_number index.juniors.items number m) (others x differ)
   ]
 
+  turned_same : AreTurned new.juniors.items new.seniors.items
+  turned_same i j = ap (λ v. is_below v.items j i) same_seniors ∙ keeps.turned i j ∙ sym (ap (λ v. is_below v.items i j) same_juniors)
+
+  barred_more : (row row' : Option BitRow) → row ≡ row' → IfSome row (λ r. Follow (Unit {0}) (number_of index) (is_used index) (λ _. has r) (λ _. rows.barred))
+      → IfSome row' (λ r. Follow (Unit {0}) (number_of new) (is_used new) (λ _. has r) (λ _. rows.barred))
+  barred_more None None same follow = tt
+  barred_more None (Some r) same follow = let clash : None ≡ Some r = same in cc
+  barred_more (Some r) None same follow = let clash : Some r ≡ None = same in cc
+  barred_more (Some r) (Some r') same follow =
+      follow_more same_bytes (number_of index) (number_of new) (is_used index) (is_used new) role n none free within here others put kept {X = Unit {0}} (λ _. has r) (λ _. has r') (λ _. rows.barred)
+      (λ _ m. ap (λ row. has row m) (sym (some-is r r' same))) follow
+
   pub keeps_numbered : Keeps new rows
   keeps_numbered =
       let more = λ (X : Type 0). follow_more same_bytes (number_of index) (number_of new) (is_used index) (is_used new) role n none free within here others put kept {X = X} in
       record {
         numbers = numbers_more same_bytes (number_of index) (number_of new) (is_used index) (is_used new) role n none free within here others put kept keeps.numbers;
+        assigned = more Bytes (assigned_bits index) (assigned_bits new) (is_assigned rows) (λ x m. ap (λ t. has_at t x m) same_assigned) keeps.assigned;
         sessions = more Bytes (session_bits index) (session_bits new) (is_activated rows) (λ x m. ap (λ t. has_at t x m) same_sessions) keeps.sessions;
         grants = more Pair (grant_bits index) (grant_bits new) (is_granted rows) (λ x m. ap (λ t. has_pair t x.0 x.1 m) same_grants) keeps.grants;
         juniors = more Bytes (junior_bits index) (junior_bits new) (is_junior rows) (λ x m. ap (λ v. is_below_number v.items (number_of new x) m) same_juniors ∙ bits_at x m) keeps.juniors;
         clear = λ k m is. ap (λ v. is_below v.items k m) same_juniors ∙ keeps.clear k m (unused_before k is);
+        turned = turned_same;
+        barred = barred_more index.barred new.barred (sym same_barred) keeps.barred;
       }
     where
       unused_before : (m : ℕ) → is_used new m ≡ false → is_used index m ≡ false
@@ -264,7 +381,8 @@ module _ (index new : AccessIndex) (rows : Rows) (keeps : Keeps index rows) (rol
 module _ (index new : AccessIndex) (rows : Rows) (keeps : Keeps index rows) (role : Bytes) (nowhere : IsNowhere rows role) (n : ℕ) (at : number_of index role ≡ Some n)
     (gone : number_of new role ≡ None) (others : (other : Bytes) → other ≢ role → number_of new other ≡ number_of index other)
     (free : is_used new n ≡ false) (kept : (m : ℕ) → m ≢ n → is_used new m ≡ is_used index m)
-    (same_sessions : new.sessions ≡ index.sessions) (same_grants : new.grants ≡ index.grants) (same_juniors : new.juniors ≡ index.juniors) where
+    (same_assigned : new.assigned ≡ index.assigned) (same_sessions : new.sessions ≡ index.sessions) (same_grants : new.grants ≡ index.grants)
+    (same_juniors : new.juniors ≡ index.juniors) (same_seniors : new.seniors ≡ index.seniors) (same_barred : new.barred ≡ index.barred) where
   -- the role has no juniors, so its row is empty
   own_row : (m : ℕ) → is_below index.juniors.items n m ≡ false
   own_row m = elim (cases_Bool (is_used index m)) [
@@ -282,11 +400,24 @@ module _ (index new : AccessIndex) (rows : Rows) (keeps : Keeps index rows) (rol
     | inr differ ↦ ap (λ number. is_below_number index.juniors.items number m) (others x differ)
   ]
 
+  freed_turned : AreTurned new.juniors.items new.seniors.items
+  freed_turned i j = ap (λ v. is_below v.items j i) same_seniors ∙ keeps.turned i j ∙ sym (ap (λ v. is_below v.items i j) same_juniors)
+
+  barred_less : (row row' : Option BitRow) → row ≡ row' → IfSome row (λ r. Follow (Unit {0}) (number_of index) (is_used index) (λ _. has r) (λ _. rows.barred))
+      → IfSome row' (λ r. Follow (Unit {0}) (number_of new) (is_used new) (λ _. has r) (λ _. rows.barred))
+  barred_less None None same follow = tt
+  barred_less None (Some r) same follow = let clash : None ≡ Some r = same in cc
+  barred_less (Some r) None same follow = let clash : Some r ≡ None = same in cc
+  barred_less (Some r) (Some r') same follow =
+      follow_less same_bytes (number_of index) (number_of new) (is_used index) (is_used new) role n at gone others free kept {X = Unit {0}} (λ _. has r) (λ _. has r') (λ _. rows.barred)
+      (λ _ m. ap (λ row. has row m) (sym (some-is r r' same))) (λ _. nowhere.barred) follow
+
   pub keeps_freed : Keeps new rows
   keeps_freed =
       let less = λ (X : Type 0). follow_less same_bytes (number_of index) (number_of new) (is_used index) (is_used new) role n at gone others free kept {X = X} in
       record {
         numbers = numbers_less same_bytes (number_of index) (number_of new) (is_used index) (is_used new) role n at gone others free kept keeps.numbers;
+        assigned = less Bytes (assigned_bits index) (assigned_bits new) (is_assigned rows) (λ x m. ap (λ t. has_at t x m) same_assigned) nowhere.assigned keeps.assigned;
         sessions = less Bytes (session_bits index) (session_bits new) (is_activated rows) (λ x m. ap (λ t. has_at t x m) same_sessions) nowhere.activated keeps.sessions;
         grants = less Pair (grant_bits index) (grant_bits new) (is_granted rows) (λ x m. ap (λ t. has_pair t x.0 x.1 m) same_grants) nowhere.granted keeps.grants;
         juniors = less Bytes (junior_bits index) (junior_bits new) (is_junior rows) (λ x m. ap (λ v. is_below_number v.items (number_of new x) m) same_juniors ∙ freed_bits_at x m) nowhere.junior keeps.juniors;
@@ -294,13 +425,15 @@ module _ (index new : AccessIndex) (rows : Rows) (keeps : Keeps index rows) (rol
           | inl same ↦ ap (λ i. is_below index.juniors.items i m) same ∙ own_row m
           | inr differ ↦ keeps.clear k m (sym (kept k differ) ∙ is)
         ];
+        turned = freed_turned;
+        barred = barred_less index.barred new.barred (sym same_barred) keeps.barred;
       }
 
 -- the empty index keeps no rows
-pub keeps_none : (index : AccessIndex) → ((role : Bytes) → number_of index role ≡ None) → ((n : ℕ) → is_used index n ≡ false) → ((session : Bytes) (n : ℕ) → session_bits index session n ≡ false)
-    → ((p : Pair) (n : ℕ) → grant_bits index p n ≡ false) → ((i j : ℕ) → is_below index.juniors.items i j ≡ false) → Keeps index (λ row. false)
-keeps_none index numbers used sessions grants juniors =
-    let no : (role : Bytes) (n : ℕ) → number_of index role ≡ Some n → ⊥ = λ role n is. let clash : None ≡ Some n = sym (numbers role) ∙ is in cc in
+pub keeps_none : (index : AccessIndex) → ((role : Bytes) → number_of index role ≡ None) → ((n : ℕ) → is_used index n ≡ false) → ((user : Bytes) (n : ℕ) → assigned_bits index user n ≡ false)
+    → ((session : Bytes) (n : ℕ) → session_bits index session n ≡ false) → ((p : Pair) (n : ℕ) → grant_bits index p n ≡ false) → ((i j : ℕ) → is_below index.juniors.items i j ≡ false)
+    → ((i j : ℕ) → is_below index.seniors.items i j ≡ false) → IfSome index.barred (λ row. (n : ℕ) → has row n ≡ false) → Keeps index no_rows
+keeps_none index numbers used assigned sessions grants juniors seniors barred =
     record {
       numbers = record {
         within = λ role n is. absurd (no role n is);
@@ -308,28 +441,41 @@ keeps_none index numbers used sessions grants juniors =
         one_role = λ a b n is_a is_b. absurd (no a n is_a);
         has_role = λ n is. absurd (true≢false (sym is ∙ used n));
       };
-      sessions = record { same = λ x role n is. absurd (no role n is); unused = λ x n is. sessions x n; numbered = λ x role is. absurd (true≢false (sym is)) };
-      grants = record { same = λ x role n is. absurd (no role n is); unused = λ x n is. grants x n; numbered = λ x role is. absurd (true≢false (sym is)) };
-      juniors = record {
-        same = λ x role n is. absurd (no role n is);
-        unused = λ x n is. ap (λ number. is_below_number index.juniors.items number n) (numbers x);
-        numbered = λ x role is. absurd (true≢false (sym is));
-      };
+      assigned = nothing {X = Bytes} (assigned_bits index) assigned;
+      sessions = nothing {X = Bytes} (session_bits index) sessions;
+      grants = nothing {X = Pair} (grant_bits index) grants;
+      juniors = nothing {X = Bytes} (junior_bits index) (λ x n. ap (λ number. is_below_number index.juniors.items number n) (numbers x));
       clear = λ i j is. juniors i j;
+      turned = λ i j. seniors j i ∙ sym (juniors i j);
+      barred = empty_row index.barred barred;
     }
+  where
+    no : (role : Bytes) (n : ℕ) → number_of index role ≡ Some n → ⊥
+    no role n is = let clash : None ≡ Some n = sym (numbers role) ∙ is in cc
+
+    nothing : {X : Type 0} (bits : X → ℕ → Bool) → ((x : X) (n : ℕ) → bits x n ≡ false) → Follow X (number_of index) (is_used index) bits (λ x role. false)
+    nothing bits none = record { same = λ x role n is. absurd (no role n is); unused = λ x n is. none x n; numbered = λ x role is. absurd (true≢false (sym is)) }
+
+    empty_row : (row : Option BitRow) → IfSome row (λ r. (n : ℕ) → has r n ≡ false) → IfSome row (λ r. Follow (Unit {0}) (number_of index) (is_used index) (λ _. has r) (λ _ role. false))
+    empty_row None none = tt
+    empty_row (Some r) none = nothing {X = Unit {0}} (λ _. has r) (λ _. none)
 
 -- it is the index of a state without rows
-pub keeps_empty : (index : AccessIndex) → Keeps index (λ row. false) → (version : ℕ) → Keeps index (has_row (empty_state version))
-keeps_empty index keeps version = keeps_same index (λ row. false) (has_row (empty_state version)) (λ row. empty_has_no_row version row) keeps
+pub keeps_empty : (index : AccessIndex) → Keeps index no_rows → (version : ℕ) → Keeps index (rows_of (empty_state version))
+keeps_empty index keeps version = keeps_same index no_rows (rows_of (empty_state version)) (λ row. empty_has_no_row version row) (λ role. ap not (empty_alone version role)) keeps
 
 -- ---- rows put one after the other
 
+-- rows by a list of them
+abbrev pub among : List Row → (Bytes → Bool) → Rows
+among rows barred = record { stored = is_among rows; barred = barred }
+
 -- the index keeps the rows up to a place, and with the row there those up to the next
-pub keeps_more : (index : AccessIndex) (rows : List Row) (i : ℕ) (row : Row) → i < length rows → row ≡ get_or rows i row → Keeps index (rows_by (is_among (take i rows)) (Put row)) → Keeps index (is_among (take (i + 1) rows))
-keeps_more index rows i row within is keeps =
-    keeps_same index (rows_by (is_among (take i rows)) (Put row)) (is_among (take (i + 1) rows))
+pub keeps_more : (index : AccessIndex) (rows : List Row) (barred : Bytes → Bool) (i : ℕ) (row : Row) → i < length rows → row ≡ get_or rows i row → Keeps index (rows_by (among (take i rows) barred) (Put row)) → Keeps index (among (take (i + 1) rows) barred)
+keeps_more index rows barred i row within is keeps =
+    keeps_same index (rows_by (among (take i rows) barred) (Put row)) (among (take (i + 1) rows) barred)
     (λ other.
     ap (λ l. is_among l other) (take_more rows i row within)
     ∙ list_any-append (λ (r : Row). same_row r other) (take i rows) (get_or rows i row ∷ [])
     ∙ ap (λ b. is_among (take i rows) other || b) (or_false (same_row (get_or rows i row) other) ∙ ap (λ r. same_row r other) (sym is)))
-    keeps
+    (λ role. refl) keeps

@@ -1,5 +1,8 @@
+pub mod BarLaws
 pub mod FindLaws
 pub mod FollowLaws
 pub mod IndexLaws
+pub mod LevelLaws
 pub mod PlanLaws
 pub mod RowLaws
+pub mod UserLaws

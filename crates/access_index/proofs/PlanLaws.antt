@@ -36,22 +36,28 @@ put_first false true false put none = refl
 put_first false false false put none = refl
 
 -- a row is there after the changes exactly if it was and isn't taken, or is put
-pub rows_after_are : (changes : List Change) (rows : Rows) (row : Row) → TakesFirst changes → rows_after rows changes row ≡ ((rows row && not (is_taken changes row)) || is_put changes row)
+pub rows_after_are : (changes : List Change) (rows : Rows) (row : Row) → TakesFirst changes → (rows_after rows changes).stored row ≡ ((rows.stored row && not (is_taken changes row)) || is_put changes row)
 unfolding is_taken is_put
-rows_after_are [] rows row takes = by (rows row)
+rows_after_are [] rows row takes = by (rows.stored row)
   where
     by : (b : Bool) → b ≡ ((b && true) || false)
     by true = refl
     by false = refl
 rows_after_are (Take first ∷ changes) rows row takes =
     rows_after_are changes (rows_by rows (Take first)) row takes
-    ∙ take_first (rows row) (same_row first row) (is_taken changes row) (is_put changes row)
+    ∙ take_first (rows.stored row) (same_row first row) (is_taken changes row) (is_put changes row)
 rows_after_are (Put first ∷ changes) rows row takes =
     rows_after_are changes (rows_by rows (Put first)) row takes.1
-    ∙ put_first (rows row) (same_row first row) (is_taken changes row) (is_put changes row) (takes.0 row)
+    ∙ put_first (rows.stored row) (same_row first row) (is_taken changes row) (is_put changes row) (takes.0 row)
 
-pub rows_of_plan : (S T : RbacState) (changes : List Change) → Turns S changes T → (row : Row) → has_row T row ≡ rows_after (has_row S) changes row
-rows_of_plan S T changes turns row = turns.rows row ∙ sym (rows_after_are changes (has_row S) row turns.takes_first)
+pub rows_of_plan : (S T : RbacState) (changes : List Change) → Turns S changes T → (barred : Bytes → Bool) (row : Row) → has_row T row ≡ (rows_after (record { stored = has_row S; barred = barred }) changes).stored row
+rows_of_plan S T changes turns barred row = turns.rows row ∙ sym (rows_after_are changes (record { stored = has_row S; barred = barred }) row turns.takes_first)
+
+-- changes don't say which roles are barred
+pub barred_after : (changes : List Change) (rows : Rows) → (rows_after rows changes).barred ≡ rows.barred
+barred_after [] rows = refl
+barred_after (Put row ∷ changes) rows = barred_after changes (rows_by rows (Put row))
+barred_after (Take row ∷ changes) rows = barred_after changes (rows_by rows (Take row))
 
 -- a role that is taken is gone
 pub taken_gone : (S T : RbacState) (changes : List Change) → Turns S changes T → (row : Row) → is_taken changes row ≡ true → has_row T row ≡ false
@@ -79,15 +85,22 @@ above_is_role S well_formed a b above =
     let first = leads_from S well_formed a b leads differ in
     (first, leads_to S well_formed a b leads first)
 
-pub nowhere : (S : RbacState) → IsWellFormed S → (role : Bytes) → has_row S (NameRow ROLE role) ≡ false → IsNowhere (has_row S) role
+-- a role that isn't there has no juniors
+pub no_junior : (S : RbacState) → IsWellFormed S → (role : Bytes) → has_row S (NameRow ROLE role) ≡ false → (junior : Bytes) → is_above S role junior ≡ false
 unfolding has_row
-nowhere S well_formed role gone =
+no_junior S well_formed role gone junior = false_from_ne_true (is_above S role junior) (λ is. true≢false (sym (above_is_role S well_formed role junior is).0 ∙ gone))
+
+pub nowhere : (S : RbacState) → IsWellFormed S → (role : Bytes) → has_row S (NameRow ROLE role) ≡ false → (barred : Bytes → Bool) → barred role ≡ false → IsNowhere (record { stored = has_row S; barred = barred }) role
+unfolding has_row
+nowhere S well_formed role gone barred stands =
     let none : IsTrue (contains S.roles role) → ⊥ = λ is. true≢false (sym is ∙ gone) in
     record {
+      assigned = λ user. false_from_ne_true (contains S.assignments (user, role)) (λ is. none (well_formed.assignments user role is).1);
       activated = λ session. false_from_ne_true (contains S.active (session, role)) (λ is. none (well_formed.active session role is));
       granted = λ p. false_from_ne_true (contains S.grants (p.0, p.1, role)) (λ is. none (well_formed.grants p.0 p.1 role is).1);
       senior = λ junior. false_from_ne_true (is_above S role junior) (λ is. none (above_is_role S well_formed role junior is).0);
       junior = λ senior. false_from_ne_true (is_above S senior role) (λ is. none (above_is_role S well_formed senior role is).1);
+      barred = stands;
     }
 
 -- ---- one change after another

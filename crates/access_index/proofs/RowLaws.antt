@@ -25,35 +25,35 @@ and_false false = refl
 
 module _ (rows : Rows) (row : Row) where
   -- the row itself
-  pub put_here : IsTrue (rows_by rows (Put row) row)
-  put_here = or_right (rows row) (same_row row row) (same_row-self row)
+  pub put_here : IsTrue ((rows_by rows (Put row)).stored row)
+  put_here = or_right (rows.stored row) (same_row row row) (same_row-self row)
 
-  pub taken_here : rows_by rows (Take row) row ≡ false
-  taken_here = ap (λ b. rows row && not b) (same_row-self row) ∙ and_false (rows row)
+  pub taken_here : (rows_by rows (Take row)).stored row ≡ false
+  taken_here = ap (λ b. rows.stored row && not b) (same_row-self row) ∙ and_false (rows.stored row)
 
   module _ (other : Row) where
     -- a row that the test tells from it
-    pub put_apart : same_row row other ≡ false → rows_by rows (Put row) other ≡ rows other
-    put_apart apart = ap (λ b. rows other || b) apart ∙ or_false (rows other)
+    pub put_apart : same_row row other ≡ false → (rows_by rows (Put row)).stored other ≡ rows.stored other
+    put_apart apart = ap (λ b. rows.stored other || b) apart ∙ or_false (rows.stored other)
 
-    pub taken_apart : same_row row other ≡ false → rows_by rows (Take row) other ≡ rows other
-    taken_apart apart = ap (λ b. rows other && not b) apart ∙ and_true (rows other)
+    pub taken_apart : same_row row other ≡ false → (rows_by rows (Take row)).stored other ≡ rows.stored other
+    taken_apart apart = ap (λ b. rows.stored other && not b) apart ∙ and_true (rows.stored other)
 
     -- another row
     apart : other ≢ row → same_row row other ≡ false
     apart differ = false_from_ne_true (same_row row other) (λ same. differ (same_row-is row other same))
 
-    pub put_other : other ≢ row → rows_by rows (Put row) other ≡ rows other
+    pub put_other : other ≢ row → (rows_by rows (Put row)).stored other ≡ rows.stored other
     put_other differ = put_apart (apart differ)
 
-    pub taken_other : other ≢ row → rows_by rows (Take row) other ≡ rows other
+    pub taken_other : other ≢ row → (rows_by rows (Take row)).stored other ≡ rows.stored other
     taken_other differ = taken_apart (apart differ)
 
 -- a row that isn't there is taken, which changes nothing
-pub taken_absent : (rows : Rows) (row : Row) → rows row ≡ false → (other : Row) → rows_by rows (Take row) other ≡ rows other
+pub taken_absent : (rows : Rows) (row : Row) → rows.stored row ≡ false → (other : Row) → (rows_by rows (Take row)).stored other ≡ rows.stored other
 taken_absent rows row absent other = elim (cases_Bool (same_row row other)) [
   | inl same ↦
-      let is : rows other ≡ false = ap rows (same_row-is row other same) ∙ absent in
+      let is : rows.stored other ≡ false = ap rows.stored (same_row-is row other same) ∙ absent in
       ap (λ b. b && not (same_row row other)) is ∙ sym is
   | inr differ ↦ taken_apart rows row other differ
 ]

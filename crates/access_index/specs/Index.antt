@@ -1,5 +1,5 @@
 -- What an index for decisions has to do with the rows of a state.
-use Rattle.std.specs.Prelude.{◌≡◌, ℕ, Bool, false, Option, Some, None, List}
+use Rattle.std.specs.Prelude.{◌≡◌, ℕ, Bool, false, not, Option, Some, None, List, IfSome}
 use Rattle.std.specs.List.{slice_get}
 use Rattle.std.specs.HashMap.{get_by_text}
 use Rattle.bit_rows.specs.declared.row.BitRow.{BitRow}
@@ -7,9 +7,10 @@ use Rattle.bit_rows.specs.Rows.{has}
 use Rattle.rbac_sets.specs.Sets.{Bytes, Pair}
 use Rattle.rbac_sets.specs.declared.row.Row.{Row}
 use Rattle.rbac_sets.specs.declared.row.Row.TheVariants.{PairRow, GrantRow}
-use Rattle.rbac_sets.specs.declared.row.TheConstants.Row.{CLOSURE_PAIR, ACTIVATED_ROLE}
+use Rattle.rbac_sets.specs.declared.row.TheConstants.Row.{ASSIGNMENT, CLOSURE_PAIR, ACTIVATED_ROLE}
 use Rattle.admin_mgr.specs.RbacState.{RbacState}
 use Rattle.admin_mgr.specs.Rows.{has_row}
+use Rattle.admin_mgr.specs.UserAccess.{stands_alone}
 use Rattle.bit_tables.specs.Tables.{has_at, has_pair, is_in}
 use Rattle.access_index.specs.Following.{AreNumbers, Follow}
 use Rattle.access_index.specs.declared.index.AccessIndex.{AccessIndex}
@@ -30,7 +31,14 @@ abbrev pub is_below_number : List BitRow → Option ℕ → ℕ → Bool
 is_below_number rows None j = false
 is_below_number rows (Some i) j = is_below rows i j
 
+-- the second rows have the bits of the first ones, turned: that of j and i in place of that of i and j
+abbrev pub AreTurned : List BitRow → List BitRow → Type 0
+AreTurned rows turned = (i j : ℕ) → is_below turned j i ≡ is_below rows i j
+
 -- ---- the bits, and the facts that they stand for
+
+abbrev pub assigned_bits : AccessIndex → Bytes → ℕ → Bool
+assigned_bits index user n = has_at index.assigned user n
 
 abbrev pub session_bits : AccessIndex → Bytes → ℕ → Bool
 session_bits index session n = has_at index.sessions session n
@@ -41,27 +49,43 @@ grant_bits index permission n = has_pair index.grants permission.0 permission.1 
 abbrev pub junior_bits : AccessIndex → Bytes → ℕ → Bool
 junior_bits index senior n = is_below_number index.juniors.items (number_of index senior) n
 
--- rows, by the test whether a row is one of them
-abbrev pub Rows : Type 0
-Rows = Row → Bool
+-- rows, by the test whether a row is one of them, and the roles that are barred
+pub record Rows : Type 0 where
+  pub stored : Row → Bool
+  pub barred : Bytes → Bool
+
+-- no rows, and no barred role
+abbrev pub no_rows : Rows
+no_rows = record { stored = λ row. false; barred = λ role. false }
+
+-- The rows of a state. A role is barred if it violates a dynamic separation of duty set alone: no session may have it.
+abbrev pub rows_of : RbacState → Rows
+rows_of S = record { stored = has_row S; barred = λ role. not (stands_alone S role) }
+
+abbrev pub is_assigned : Rows → Bytes → Bytes → Bool
+is_assigned rows user role = rows.stored (PairRow ASSIGNMENT user role)
 
 abbrev pub is_activated : Rows → Bytes → Bytes → Bool
-is_activated rows session role = rows (PairRow ACTIVATED_ROLE session role)
+is_activated rows session role = rows.stored (PairRow ACTIVATED_ROLE session role)
 
 abbrev pub is_granted : Rows → Pair → Bytes → Bool
-is_granted rows permission role = rows (GrantRow permission.0 permission.1 role)
+is_granted rows permission role = rows.stored (GrantRow permission.0 permission.1 role)
 
 abbrev pub is_junior : Rows → Bytes → Bytes → Bool
-is_junior rows senior role = rows (PairRow CLOSURE_PAIR senior role)
+is_junior rows senior role = rows.stored (PairRow CLOSURE_PAIR senior role)
 
--- The index has the activated roles, the grants and the closure pairs of these rows. The row of a number that isn't used is empty.
+-- The index has the assignments, the activated roles, the grants and the closure pairs of these rows, and the barred roles if it
+-- knows them. The row of a number that isn't used is empty.
 pub record Keeps (index : AccessIndex) (rows : Rows) : Type 0 where
   pub numbers : AreNumbers (number_of index) (is_used index)
+  pub assigned : Follow Bytes (number_of index) (is_used index) (assigned_bits index) (is_assigned rows)
   pub sessions : Follow Bytes (number_of index) (is_used index) (session_bits index) (is_activated rows)
   pub grants : Follow Pair (number_of index) (is_used index) (grant_bits index) (is_granted rows)
   pub juniors : Follow Bytes (number_of index) (is_used index) (junior_bits index) (is_junior rows)
   pub clear : (i j : ℕ) → is_used index i ≡ false → is_below index.juniors.items i j ≡ false
+  pub turned : AreTurned index.juniors.items index.seniors.items
+  pub barred : IfSome index.barred (λ row. Follow (Unit {0}) (number_of index) (is_used index) (λ _. has row) (λ _. rows.barred))
 
 -- the index has the rows of the state
 abbrev pub Indexes : AccessIndex → RbacState → Type 0
-Indexes index S = Keeps index (has_row S)
+Indexes index S = Keeps index (rows_of S)

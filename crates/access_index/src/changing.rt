@@ -17,7 +17,7 @@ use rbac_sets::{Change, Name, Refusal, Row};
 use std::alloc::Global;
 
 impl AccessIndex {
-    /// The index of the state that has these rows, each once and in any order.
+    /// The index of the state that has these rows, each once and in any order. Which roles are barred isn't known.
     ///
     /// # Errors
     ///
@@ -27,6 +27,7 @@ impl AccessIndex {
         ensures cause { IfErr result (λ refusal. refusal ≡ Refusal.Memory) }
     {
         let mut index = AccessIndex::empty(alloc, seed);
+        index.barred = None;
         for row in rows {
             index.put_row(alloc, row)?;
         }
@@ -34,7 +35,8 @@ impl AccessIndex {
     }
 
     /// Makes the changes of a plan, which leads from the state of the index to another: then the index is that of the other
-    /// state. A change of one row is one of one bit.
+    /// state. A change of one row is one of one bit. Which roles are barred isn't known after a change of a closure pair or
+    /// of a dynamic separation of duty set.
     ///
     /// # Errors
     ///
@@ -45,6 +47,7 @@ impl AccessIndex {
         ensures freed { OnOk result ((role : Bytes) → is_taken changes.now (NameRow Row.ROLE role) ≡ true → number_of self.new role ≡ None) }
         ensures cause { IfErr result (λ refusal. refusal ≡ Refusal.Memory) }
     {
+        self.forget_barred(changes);
         self.change_bits(alloc, changes)?;
         self.free_numbers(changes);
         Ok(())
@@ -94,6 +97,7 @@ impl AccessIndex {
         ensures cause { IfErr result (λ refusal. refusal ≡ Refusal.Memory) }
     {
         match row {
+            Row::PairRow(Row::ASSIGNMENT, user, role) => self.put_assigned(alloc, user, role),
             Row::PairRow(Row::ACTIVATED_ROLE, session, role) => self.put_activated(
                 alloc, session, role,
             ),
@@ -112,6 +116,7 @@ impl AccessIndex {
         ensures cause { IfErr result (λ refusal. refusal ≡ Refusal.Memory) }
     {
         match row {
+            Row::PairRow(Row::ASSIGNMENT, user, role) => self.take_assigned(user, role),
             Row::PairRow(Row::ACTIVATED_ROLE, session, role) => self.take_activated(session, role),
             Row::PairRow(Row::CLOSURE_PAIR, senior, junior) => {
                 self.take_pair(senior, junior);
@@ -120,6 +125,26 @@ impl AccessIndex {
             Row::GrantRow(object, operation, role) => self.take_grant(object, operation, role),
             _ => Ok(()),
         }
+    }
+
+    fn put_assigned(&mut self, alloc: Global, user: &Name, role: &Name) -> Result<(), Refusal>
+        requires { (rows : Rows) × Keeps self.old rows }
+        ensures ok { OnOk result ((rows : Rows) → Keeps self.old rows → Keeps self.new (rows_by rows (Put (PairRow Row.ASSIGNMENT user.now role.now)))) }
+        ensures cause { IfErr result (λ refusal. refusal ≡ Refusal.Memory) }
+    {
+        let number = self.number_for(alloc, role)?;
+        self.assigned.put(alloc, user.as_str(), number)
+    }
+
+    fn take_assigned(&mut self, user: &Name, role: &Name) -> Result<(), Refusal>
+        requires { (rows : Rows) × Keeps self.old rows }
+        ensures ok { OnOk result ((rows : Rows) → Keeps self.old rows → Keeps self.new (rows_by rows (Take (PairRow Row.ASSIGNMENT user.now role.now)))) }
+        ensures cause { IfErr result (λ refusal. refusal ≡ Refusal.Memory) }
+    {
+        if let Some(number) = self.number(role) {
+            return self.assigned.take(user.as_str(), number);
+        }
+        Ok(())
     }
 
     fn put_activated(&mut self, alloc: Global, session: &Name, role: &Name) -> Result<(), Refusal>

@@ -1,10 +1,10 @@
 //! Decisions by the index.
-ghost use Rattle.std.specs.Prelude.{◌≡◌, ◌↔◌, ◌⊎◌, ℕ, IsTrue, false, IfSome, IfNone};
+ghost use Rattle.std.specs.Prelude.{◌≡◌, ◌↔◌, ◌⊎◌, ℕ, IsTrue, None, false, IfSome, IfNone};
 ghost use Rattle.rbac_sets.specs.Sets.{Bytes, contains};
 ghost use Rattle.bit_rows.specs.Rows.{has};
 ghost use Rattle.admin_mgr.specs.RbacState.{RbacState};
 ghost use Rattle.admin_mgr.specs.Good.{IsGood};
-ghost use Rattle.access_index.specs.Decision.{HasNothing, IsDecision};
+ghost use Rattle.access_index.specs.Decision.{HasNothing, HasNothingAssigned, IsDecision, IsUserDecision};
 ghost use Rattle.access_index.specs.private.Reaching.{Reaches};
 ghost use Rattle.access_index.specs.Index.{Indexes, is_below};
 
@@ -33,6 +33,34 @@ impl AccessIndex {
             return None;
         }
         Some(self.reaches(active, granted))
+    }
+
+    /// Whether the user could do the operation on the object in some session, but for a lock: if some role is assigned to the
+    /// user, the permission is granted to some role, and it is known which roles are barred. Otherwise there is no decision. The
+    /// three may be any texts.
+    ///
+    /// It doesn't allocate, and takes no longer if there are many users, sessions or permissions.
+    pub fn find_for_user(&self, user: &str, operation: &str, object: &str) -> Option<bool>
+        ensures found { IfSome result (λ usable. (S : RbacState) → IsGood S → Indexes self.now S → IsUserDecision S user.now operation.now object.now usable) }
+        ensures none { IfNone result ((self.now.barred ≡ None) ⊎ ((S : RbacState) → Indexes self.now S → HasNothingAssigned S user.now operation.now object.now)) }
+    {
+        let Some(barred) = &self.barred else {
+            return None;
+        };
+        let Some(assigned) = self.assigned.row(user) else {
+            return None;
+        };
+        let Some(roles) = self.grants.row(object, operation) else {
+            return None;
+        };
+        if assigned.is_empty() {
+            return None;
+        }
+        if roles.is_empty() {
+            return None;
+        }
+        let usable = roles.difference(barred);
+        Some(self.reaches(assigned, &usable))
     }
 
     // Whether one of the granted roles is one of the active ones, or a junior of one.

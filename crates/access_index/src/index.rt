@@ -4,7 +4,7 @@ ghost use Rattle.rbac_sets.specs.Sets.{Bytes};
 ghost use Rattle.rbac_sets.specs.declared.row.Row.TheVariants.{PairRow, GrantRow};
 ghost use Rattle.admin_mgr.specs.RbacState.{empty_state};
 ghost use Rattle.access_index.specs.Following.{AreNumbers};
-ghost use Rattle.access_index.specs.Index.{Indexes, Keeps, Rows, is_below, is_used, number_of};
+ghost use Rattle.access_index.specs.Index.{AreTurned, Indexes, Keeps, Rows, is_below, is_used, no_rows, number_of};
 ghost use Rattle.access_index.specs.private.Changing.{IsNowhere};
 
 use bit_rows::{BitRow, WIDTH};
@@ -22,24 +22,33 @@ pub struct AccessIndex {
     pub(crate) used: BitRow,
     // By the number of a role the numbers of its juniors, without its own.
     pub(crate) juniors: Vec<BitRow>,
+    // By the number of a role the numbers of its seniors, without its own.
+    pub(crate) seniors: Vec<BitRow>,
+    // By user the roles that are assigned to the user.
+    pub(crate) assigned: BitTable,
     // By session the roles that were activated in it.
     pub(crate) sessions: BitTable,
     // By object and operation the roles that the permission is granted to.
     pub(crate) grants: PairTable,
+    // The numbers of the barred roles, if they are known: each of them violates a dynamic separation of duty set alone.
+    pub(crate) barred: Option<BitRow>,
 }
 
 impl AccessIndex {
     /// The index of an office without any row, such as a new one. It doesn't allocate.
     pub fn empty(alloc: Global, seed: Seed) -> AccessIndex
-        ensures rows { Keeps result (λ row. false) }
+        ensures rows { Keeps result no_rows }
         ensures state { (version : ℕ) → Indexes result (empty_state version) }
     {
         AccessIndex {
             numbers: HashMap::with_hasher(alloc, seed),
             used: BitRow::empty(),
             juniors: Vec::new(alloc),
+            seniors: Vec::new(alloc),
+            assigned: BitTable::new(alloc, seed),
             sessions: BitTable::new(alloc, seed),
             grants: PairTable::new(alloc, seed),
+            barred: Some(BitRow::empty()),
         }
     }
 
@@ -84,33 +93,59 @@ impl AccessIndex {
         }
     }
 
-    // Puts the second number into the row of the first.
+    // Makes the role of the second number a junior of that of the first.
     pub(crate) fn put_junior(&mut self, senior: usize, junior: usize) -> Result<(), Refusal>
-        requires { junior < WIDTH }
+        requires senior { senior < WIDTH }
+        requires junior { junior < WIDTH }
         ensures there { OnOk result (IsTrue (is_below self.new.juniors.items senior junior)) }
         ensures others { OnOk result ((i j : ℕ) → (i ≡ senior → j ≢ junior) → is_below self.new.juniors.items i j ≡ is_below self.old.juniors.items i j) }
-        ensures rest { OnOk result (self.new ≡ record self.old { juniors = self.new.juniors }) }
+        ensures turned { OnOk result (AreTurned self.old.juniors.items self.old.seniors.items → AreTurned self.new.juniors.items self.new.seniors.items) }
+        ensures rest { OnOk result (self.new ≡ record self.old { juniors = self.new.juniors; seniors = self.new.seniors }) }
         ensures cause { IfErr result (λ refusal. refusal ≡ Refusal.Memory) }
     {
-        reach(&mut self.juniors, senior)?;
-        let mut row = self.juniors[senior];
-        row.put(junior);
-        self.juniors[senior] = row;
+        put_bit(&mut self.juniors, senior, junior)?;
+        put_bit(&mut self.seniors, junior, senior)?;
         Ok(())
     }
 
-    // Takes the second number out of the row of the first.
+    // Makes the role of the second number no junior of that of the first.
     pub(crate) fn take_junior(&mut self, senior: usize, junior: usize)
-        requires { junior < WIDTH }
+        requires senior { senior < WIDTH }
+        requires junior { junior < WIDTH }
         ensures gone { is_below self.new.juniors.items senior junior ≡ false }
         ensures others { (i j : ℕ) → (i ≡ senior → j ≢ junior) → is_below self.new.juniors.items i j ≡ is_below self.old.juniors.items i j }
-        ensures rest { self.new ≡ record self.old { juniors = self.new.juniors } }
+        ensures turned { AreTurned self.old.juniors.items self.old.seniors.items → AreTurned self.new.juniors.items self.new.seniors.items }
+        ensures rest { self.new ≡ record self.old { juniors = self.new.juniors; seniors = self.new.seniors } }
     {
-        if senior < self.juniors.len() {
-            let mut row = self.juniors[senior];
-            row.take(junior);
-            self.juniors[senior] = row;
-        }
+        take_bit(&mut self.juniors, senior, junior);
+        take_bit(&mut self.seniors, junior, senior);
+    }
+}
+
+// Puts the second number into the row of the first.
+fn put_bit(rows: &mut Vec<BitRow>, first: usize, second: usize) -> Result<(), Refusal>
+    requires { second < WIDTH }
+    ensures there { OnOk result (IsTrue (is_below rows.new.items first second)) }
+    ensures others { OnOk result ((i j : ℕ) → (i ≡ first → j ≢ second) → is_below rows.new.items i j ≡ is_below rows.old.items i j) }
+    ensures cause { IfErr result (λ refusal. refusal ≡ Refusal.Memory) }
+{
+    reach(rows, first)?;
+    let mut row = rows[first];
+    row.put(second);
+    rows[first] = row;
+    Ok(())
+}
+
+// Takes the second number out of the row of the first.
+fn take_bit(rows: &mut Vec<BitRow>, first: usize, second: usize)
+    requires { second < WIDTH }
+    ensures gone { is_below rows.new.items first second ≡ false }
+    ensures others { (i j : ℕ) → (i ≡ first → j ≢ second) → is_below rows.new.items i j ≡ is_below rows.old.items i j }
+{
+    if first < rows.len() {
+        let mut row = rows[first];
+        row.take(second);
+        rows[first] = row;
     }
 }
 

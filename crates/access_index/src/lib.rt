@@ -1,8 +1,10 @@
-//! An index for decisions: what a session's roles are granted, by numbers.
+//! An index for decisions: what a session's or a user's roles are granted, by numbers.
 //!
 //! Each role has a number, and sets of roles are rows of bits. The index has a row for each session, of the roles that were
-//! activated in it, a row for each permission, of the roles that it is granted to, and a row for each role, of its juniors. A
-//! decision looks up two rows and compares bits. A change of one row of a state changes one bit, and nothing is built anew.
+//! activated in it, one for each user, of the assigned roles, one for each permission, of the roles that it is granted to, and
+//! two for each role, of its juniors and of its seniors. A decision looks up two rows and compares bits. A change of one row of a
+//! state changes one bit or two. Only the row of the barred roles is built anew, after a change of the role hierarchy or of a
+//! dynamic separation of duty set.
 //!
 //! # Example
 //!
@@ -31,6 +33,7 @@
 
 pub use index::AccessIndex;
 
+mod barring;
 pub mod changing;
 pub mod finding;
 pub mod index;

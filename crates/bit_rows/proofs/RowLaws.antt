@@ -1,11 +1,11 @@
 -- The numbers of a row, word by word.
-use Rattle.std.proofs.Common.{◌≡◌, ◌≢◌, ℕ, ◌+◌, ◌*◌, ◌/◌, ◌%◌, ◌<◌, ◌≤◌, true, false, List, length, refl, sym, ◌∙◌, ap, inl, inr, arith}
+use Rattle.std.proofs.Common.{◌≡◌, ◌≢◌, ℕ, ◌+◌, ◌*◌, ◌/◌, ◌%◌, ◌<◌, ◌≤◌, Bool, true, false, not, ◌&&◌, ◌||◌, List, length, refl, sym, ◌∙◌, ap, inl, inr, arith}
 use Rattle.std.specs.Prelude.{IsTrue, nat_eq, slice_index, slice_set}
 use Rattle.std.specs.Int.{bit_at}
 use Rattle.std.proofs.lemmas.Bool.{cases_eq, cases_lt, eq-eqb, ne_eqb, eqb-true, true≢false}
-use Rattle.std.proofs.lemmas.List.{get_or-set_same, get_or-set_other, get_or_past}
+use Rattle.std.proofs.lemmas.List.{get_or-set_same, get_or-set_other, get_or_past, length-set}
 use Rattle.std.proofs.lemmas.Nat.Bits.{bit_at-zero}
-use Rattle.bit_rows.specs.Rows.{HaveCommon, has_bit}
+use Rattle.bit_rows.specs.Rows.{HaveCommon, has_bit, word_has}
 
 -- ---- one number
 
@@ -142,3 +142,62 @@ none_past a b i apart whole n in_a in_b = elim (cases_lt (n / 64) i) [
   | inl below ↦ apart (n / 64) below (common_word a b n in_a in_b)
   | inr past ↦ true≢false (sym in_a ∙ absent_past a n (omega (arith, past, whole)))
 ]
+
+-- ---- words are written one after the other
+
+-- the words below the place have the numbers that pass the test, and the others are the old ones
+pub record AreChanged (words old : List ℕ) (test : ℕ → Bool) (upto : ℕ) : Type 0 where
+  pub size : length words ≡ length old
+  pub done : (n : ℕ) → n / 64 < upto → has_bit words n ≡ test n
+  pub rest : (k : ℕ) → upto ≤ k → slice_index words k ≡ slice_index old k
+
+pub changed_more : (words old : List ℕ) (test : ℕ → Bool) (i word : ℕ) → i < length words → AreChanged words old test i → ((n : ℕ) → n / 64 ≡ i → word_has word (n % 64) ≡ test n)
+    → AreChanged (slice_set words i word) old test (i + 1)
+unfolding has_bit
+changed_more words old test i word within before written = record {
+  size = length-set words i word ∙ before.size;
+  done = λ n below. elim (cases_eq (n / 64) i) [
+    | inl same ↦ ap (λ w. word_has w (n % 64)) (ap (slice_index (slice_set words i word)) same ∙ get_or-set_same words i word 0 within) ∙ written n same
+    | inr differ ↦ ap (λ w. word_has w (n % 64)) (get_or-set_other words i (n / 64) word 0 differ) ∙ before.done n (omega (arith, below, differ))
+  ];
+  rest = λ k late. get_or-set_other words i k word 0 (λ same. omega (arith, late, same)) ∙ before.rest k (omega (arith, late));
+}
+
+-- after the last word
+pub changed_all : (words old : List ℕ) (test : ℕ → Bool) (upto : ℕ) → length old ≤ upto → ((n : ℕ) → upto ≤ n / 64 → test n ≡ false) → AreChanged words old test upto → (n : ℕ) → has_bit words n ≡ test n
+changed_all words old test upto whole none changed n = elim (cases_lt (n / 64) upto) [
+  | inl below ↦ changed.done n below
+  | inr past ↦ absent_past words n (omega (arith, past, whole, changed.size)) ∙ sym (none n (omega (arith, past)))
+]
+
+-- the numbers of one row that aren't in another
+abbrev pub in_difference : List ℕ → List ℕ → ℕ → Bool
+in_difference a b n = has_bit a n && not (has_bit b n)
+
+pub difference_more : (words a b : List ℕ) (i word : ℕ) → i < length words → AreChanged words a (in_difference a b) i
+    → ((k : ℕ) → k < 64 → word_has word k ≡ (word_has (slice_index words i) k && not (word_has (slice_index b i) k))) → AreChanged (slice_set words i word) a (in_difference a b) (i + 1)
+unfolding has_bit
+difference_more words a b i word within before made =
+    changed_more words a (in_difference a b) i word within before
+    (λ n at. made (n % 64) (omega arith)
+    ∙ (λ j. word_has ((before.rest i (omega arith) ∙ ap (slice_index a) (sym at)) j) (n % 64) && not (word_has (slice_index b (sym at j)) (n % 64))))
+
+pub no_difference : (a b : List ℕ) (upto : ℕ) → length a ≤ upto → (n : ℕ) → upto ≤ n / 64 → in_difference a b n ≡ false
+no_difference a b upto whole n past = ap (λ t. t && not (has_bit b n)) (absent_past a n (omega (arith, past, whole)))
+
+-- a row with the numbers that two others have
+abbrev pub in_either : List ℕ → List ℕ → List ℕ → ℕ → Bool
+in_either words a b n = has_bit words n || (has_bit a n && has_bit b n)
+
+pub common_more : (words old a b : List ℕ) (i word : ℕ) → i < length words → AreChanged words old (in_either old a b) i
+    → ((k : ℕ) → k < 64 → word_has word k ≡ (word_has (slice_index words i) k || (word_has (slice_index a i) k && word_has (slice_index b i) k)))
+    → AreChanged (slice_set words i word) old (in_either old a b) (i + 1)
+unfolding has_bit
+common_more words old a b i word within before made =
+    changed_more words old (in_either old a b) i word within before
+    (λ n at. made (n % 64) (omega arith)
+    ∙ (λ j. word_has ((before.rest i (omega arith) ∙ ap (slice_index old) (sym at)) j) (n % 64) || (word_has (slice_index a (sym at j)) (n % 64) && word_has (slice_index b (sym at j)) (n % 64))))
+
+pub no_common : (old a b : List ℕ) (upto : ℕ) → length old ≤ upto → length a ≤ upto → (n : ℕ) → upto ≤ n / 64 → in_either old a b n ≡ false
+no_common old a b upto whole_old whole_a n past =
+    (λ j. absent_past old n (omega (arith, past, whole_old)) j || (absent_past a n (omega (arith, past, whole_a)) j && has_bit b n))

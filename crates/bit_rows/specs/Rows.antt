@@ -7,6 +7,10 @@ use Rattle.bit_rows.specs.declared.row.BitRow.{BitRow}
 abbrev pub HaveCommon : ℕ → ℕ → Type 0
 HaveCommon a b = (i : ℕ) × (i < 64) × (bit_at a i ≡ 1) × (bit_at b i ≡ 1)
 
+-- whether the word has the bit
+abbrev pub word_has : ℕ → ℕ → Bool
+word_has word i = nat_eq (bit_at word i) 1
+
 -- whether words of 64 bits each have the bit of this number
 unfoldable pub has_bit : List ℕ → ℕ → Bool
 has_bit words n = nat_eq (bit_at (slice_index words (n / 64)) (n % 64)) 1

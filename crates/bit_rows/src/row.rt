@@ -1,5 +1,5 @@
 //! A row of bits.
-ghost use Rattle.std.specs.Prelude.{◌≡◌, ◌≢◌, ◌↔◌, ◌<◌, ◌≤◌, ℕ, IsTrue, true, false, IfSome, IfNone};
+ghost use Rattle.std.specs.Prelude.{◌≡◌, ◌≢◌, ◌↔◌, ◌<◌, ◌≤◌, ◌&&◌, ◌||◌, not, ℕ, IsTrue, true, false, IfSome, IfNone};
 ghost use Rattle.bit_rows.specs.Rows.{has, HaveNumber};
 
 use crate::word;
@@ -72,6 +72,26 @@ impl BitRow {
             }
         }
         false
+    }
+
+    /// The numbers of this set that aren't in the other.
+    pub fn difference(&self, other: &BitRow) -> BitRow
+        ensures { (n : ℕ) → has result n ≡ (has self.now n && not (has other.now n)) }
+    {
+        let mut row = *self;
+        for i in 0..WORDS {
+            row.words[i] = word::difference(row.words[i], other.words[i]);
+        }
+        row
+    }
+
+    /// Puts the numbers that both other sets have into this one.
+    pub fn put_common(&mut self, a: &BitRow, b: &BitRow)
+        ensures { (n : ℕ) → has self.new n ≡ (has self.old n || (has a.now n && has b.now n)) }
+    {
+        for i in 0..WORDS {
+            self.words[i] = word::with_common(self.words[i], a.words[i], b.words[i]);
+        }
     }
 
     /// The least number of the set that is at least `from`, or `None` if there is none.

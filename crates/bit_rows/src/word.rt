@@ -1,7 +1,7 @@
 //! One word of a row: a set of numbers below 64.
-ghost use Rattle.std.specs.Prelude.{◌≡◌, ◌≢◌, ◌↔◌, ◌+◌, ◌<◌, ◌≤◌, ◌*◌, ◌/◌, ◌^◌, ℕ, IsTrue, IfSome, IfNone};
+ghost use Rattle.std.specs.Prelude.{◌≡◌, ◌≢◌, ◌↔◌, ◌+◌, ◌<◌, ◌≤◌, ◌*◌, ◌/◌, ◌^◌, ◌&&◌, ◌||◌, not, ℕ, IsTrue, IfSome, IfNone};
 ghost use Rattle.std.specs.Int.{bit_at};
-ghost use Rattle.bit_rows.specs.Rows.{HaveCommon};
+ghost use Rattle.bit_rows.specs.Rows.{HaveCommon, word_has};
 
 /// Whether the two words have a bit in common.
 pub fn meets(a: u64, b: u64) -> bool
@@ -34,6 +34,20 @@ pub fn without(word: u64, number: u32) -> u64
     ensures others { (i : ℕ) → i < 64 → i ≢ number → bit_at result i ≡ bit_at word i }
 {
     word & !(1 << number)
+}
+
+/// The numbers of the first set that aren't in the second.
+pub fn difference(a: u64, b: u64) -> u64
+    ensures { (i : ℕ) → i < 64 → word_has result i ≡ (word_has a i && not (word_has b i)) }
+{
+    a & !b
+}
+
+/// The set with the numbers that both others have.
+pub fn with_common(word: u64, a: u64, b: u64) -> u64
+    ensures { (i : ℕ) → i < 64 → word_has result i ≡ (word_has word i || (word_has a i && word_has b i)) }
+{
+    word | (a & b)
 }
 
 /// The least number of the set that is at least `from`, or `None` if there is none.

@@ -21,7 +21,7 @@ use crate::handle::OfficeHandle;
 use crate::range::range;
 use bit_tables::Seed;
 use rbac_sets::{Name, Refusal};
-use role_lines::{MemoryOffice, decide_for_user, row_at, row_of, table_numbered};
+use role_lines::{MemoryOffice, row_at, row_of, table_numbered};
 use std::alloc::Global;
 use std::mem::replace;
 
@@ -479,7 +479,7 @@ fn decide_about(
     ensures refused { IfErr result (λ refusal. IsRefused office.now of_user holder.now operation.now object.now refusal) }
 {
     if of_user {
-        decide_for_user(office.state(), holder, operation, object)
+        office.decide_for_user(holder, operation, object)
     } else {
         office.decide(holder, operation, object)
     }

@@ -7,13 +7,13 @@ ghost use Rattle.admin_mgr.specs.RbacState.{RbacState, empty_state};
 ghost use Rattle.admin_mgr.specs.RowChecks.{IsStateOf, RefusesRows};
 ghost use Rattle.admin_mgr.specs.Verdict.{verdict};
 ghost use Rattle.access_index.specs.Index.{Indexes};
-ghost use Rattle.role_lines.specs.Decision.{Decides, Refuses};
+ghost use Rattle.role_lines.specs.Decision.{Decides, DecidesUser, Refuses, RefusesUser};
 
-use crate::deciding::decide;
+use crate::deciding::{decide, decide_for_user};
 use access_index::AccessIndex;
 use admin_mgr::{Plan, Report, State};
 use bit_tables::Seed;
-use rbac_sets::{Change, Command, Refusal, Row};
+use rbac_sets::{BorrowedName, Change, Command, Refusal, Row};
 use std::alloc::Global;
 use std::marker::Model;
 use std::mem::replace;
@@ -69,6 +69,7 @@ impl IndexedState {
     {
         let index = AccessIndex::of_rows(alloc, seed, &rows).ok();
         let state = State::of_rows(alloc, version, rows)?;
+        let index = with_barred(alloc, index, &state);
         Ok(IndexedState { state, index })
     }
 
@@ -115,7 +116,7 @@ impl IndexedState {
         let index = replace(&mut self.index, None);
         let index = followed(alloc, index, plan.changes());
         let report = self.state.commit(plan);
-        self.index = index;
+        self.index = with_barred(alloc, index, &self.state);
         report
     }
 
@@ -155,6 +156,67 @@ impl IndexedState {
         self.state.recall_good();
         index.find(session, operation, object)
     }
+
+    /// Whether the user could do the operation on the object in some session, as `decide_for_user` decides it: by the index, if
+    /// some role is assigned to the user and the permission is granted to one.
+    ///
+    /// It doesn't allocate.
+    ///
+    /// # Errors
+    ///
+    /// Those of `decide_for_user`.
+    pub fn decide_for_user(
+        &self,
+        user: &[u8],
+        operation: &[u8],
+        object: &[u8],
+    ) -> Result<bool, Refusal>
+        ensures decided { IfOk result (λ access. DecidesUser self.now.facts user.now operation.now object.now access) }
+        ensures refused { IfErr result (λ refusal. RefusesUser self.now.facts user.now operation.now object.now refusal) }
+    {
+        match self.found_for_user(user, operation, object) {
+            Some(access) => Ok(access),
+            None => decide_for_user(&self.state, user, operation, object),
+        }
+    }
+
+    // The decision about the user by the index, if it has one.
+    fn found_for_user(&self, user: &[u8], operation: &[u8], object: &[u8]) -> Option<bool>
+        ensures { IfSome result (λ access. DecidesUser self.now.facts user.now operation.now object.now access) }
+    {
+        let Some(index) = &self.index else {
+            return None;
+        };
+        let Ok(user) = str::from_utf8(user) else {
+            return None;
+        };
+        let Ok(operation) = str::from_utf8(operation) else {
+            return None;
+        };
+        let Ok(object) = str::from_utf8(object) else {
+            return None;
+        };
+        let Ok(name) = BorrowedName::new(user) else {
+            return None;
+        };
+        self.state.recall_good();
+        match index.find_for_user(user, operation, object) {
+            Some(usable) => Some(!self.state.locked().contains(&name) && usable),
+            None => None,
+        }
+    }
+}
+
+// The index with the barred roles of the state, if there is an index.
+fn with_barred(alloc: Global, index: Option<AccessIndex>, state: &State) -> Option<AccessIndex>
+    requires { IfSome index (λ old. Indexes old state.now.facts) }
+    ensures { IfSome result (λ new. Indexes new state.now.facts) }
+{
+    let Some(mut index) = index else {
+        return None;
+    };
+    index.find_barred(alloc, state);
+    Some(index)
 }
 
 // The index after the changes, if there is one and no allocation failed.

@@ -2,7 +2,7 @@
 ghost use Rattle.std.specs.Prelude.{◌≡◌, IfOk, IfErr, OnOk};
 ghost use Rattle.admin_mgr.specs.RbacState.{empty_state};
 ghost use Rattle.admin_mgr.specs.RowChecks.{IsStateOf, RefusesRows};
-ghost use Rattle.role_lines.specs.Decision.{Decides, Refuses};
+ghost use Rattle.role_lines.specs.Decision.{Decides, DecidesUser, Refuses, RefusesUser};
 ghost use Rattle.role_lines.specs.LineAnswer.{StopsAt};
 ghost use Rattle.role_lines.specs.OfficeInMemory.{after, starting, with_row, without_rows};
 
@@ -72,6 +72,25 @@ impl MemoryOffice {
         ensures refused { IfErr result (λ refusal. Refuses self.now.facts session.now operation.now object.now refusal) }
     {
         self.state.decide(session, operation, object)
+    }
+
+    /// Whether the user could do the operation on the object in some session. The three may be any bytes.
+    ///
+    /// It doesn't allocate.
+    ///
+    /// # Errors
+    ///
+    /// Those of `decide_for_user`.
+    pub fn decide_for_user(
+        &self,
+        user: &[u8],
+        operation: &[u8],
+        object: &[u8],
+    ) -> Result<bool, Refusal>
+        ensures decided { IfOk result (λ access. DecidesUser self.now.facts user.now operation.now object.now access) }
+        ensures refused { IfErr result (λ refusal. RefusesUser self.now.facts user.now operation.now object.now refusal) }
+    {
+        self.state.decide_for_user(user, operation, object)
     }
 
     /// How many commands the office has accepted.

@@ -4,19 +4,21 @@ use Rattle.rbac_sets.specs.Sets.{Bytes, Pair}
 use Rattle.rbac_sets.specs.declared.row.Change.{Change}
 use Rattle.rbac_sets.specs.declared.row.Change.TheVariants.{Put, Take}
 use Rattle.admin_mgr.specs.Changes.{same_row}
-use Rattle.access_index.specs.Index.{Rows, is_activated, is_granted, is_junior}
+use Rattle.access_index.specs.Index.{Rows, is_activated, is_assigned, is_granted, is_junior}
 
--- no row has the role, be it activated, granted something, a senior or a junior
+-- no row has the role, be it assigned, activated, granted something, a senior or a junior, and it isn't barred
 pub record IsNowhere (rows : Rows) (role : Bytes) : Type 0 where
+  pub assigned : (user : Bytes) → is_assigned rows user role ≡ false
   pub activated : (session : Bytes) → is_activated rows session role ≡ false
   pub granted : (permission : Pair) → is_granted rows permission role ≡ false
   pub senior : (junior : Bytes) → is_junior rows role junior ≡ false
   pub junior : (senior : Bytes) → is_junior rows senior role ≡ false
+  pub barred : rows.barred role ≡ false
 
--- the rows after one change
+-- the rows after one change; the barred roles are given
 abbrev pub rows_by : Rows → Change → Rows
-rows_by rows (Put row) other = rows other || same_row row other
-rows_by rows (Take row) other = rows other && not (same_row row other)
+rows_by rows (Put row) = record rows { stored = λ other. rows.stored other || same_row row other }
+rows_by rows (Take row) = record rows { stored = λ other. rows.stored other && not (same_row row other) }
 
 -- the rows after the changes, one after the other
 abbrev pub rows_after : Rows → List Change → Rows

@@ -1,14 +1,24 @@
+use Rattle.std.proofs.Common.{not, sym, ap}
 use Rattle.rbac_sets.specs.declared.row.Row.TheVariants.{NameRow}
 use Rattle.rbac_sets.specs.declared.row.TheConstants.Row.{ROLE}
-use Rattle.admin_mgr.specs.Rows.{has_row}
+use Rattle.access_index.specs.Index.{rows_of}
 use Rattle.access_index.specs.private.Changing.{rows_after}
+use Rattle.access_index.proofs.BarLaws.{alone_without_juniors}
 use Rattle.access_index.proofs.IndexLaws.{keeps_same}
-use Rattle.access_index.proofs.PlanLaws.{nowhere, rows_of_plan, taken_gone}
+use Rattle.access_index.proofs.PlanLaws.{barred_after, no_junior, nowhere, rows_of_plan, taken_gone}
 use Rattle.access_index.proofs.index.AccessIndex.follow.Goals as goal
+
+pub change_bits-requires : goal.change_bits-requires
+change_bits-requires c = (rows_of c.requires.0, c.forget_barred.ensures.keeps (rows_of c.requires.0) c.requires.1)
 
 pub returns-clause-ok : goal.returns-clause-ok
 returns-clause-ok c S T indexes turns good =
     let changes = c.args.changes.now in
-    let kept = c.in_ok-change_bits.ensures.ok (has_row S) indexes in
-    c.free_numbers.ensures.keeps (has_row T) (keeps_same c.change_bits.new.self (rows_after (has_row S) changes) (has_row T) (rows_of_plan S T changes turns) kept)
-    (λ role taken. nowhere T good.well_formed role (taken_gone S T changes turns (NameRow ROLE role) taken))
+    let barred = (rows_of T).barred in
+    let before = record (rows_of S) { barred = barred } in
+    let kept = c.in_ok-change_bits.ensures.ok before (c.forget_barred.ensures.follows S T indexes turns) in
+    c.free_numbers.ensures.keeps (rows_of T)
+    (keeps_same c.change_bits.new.self (rows_after before changes) (rows_of T) (rows_of_plan S T changes turns barred) (λ role. sym (λ i. barred_after changes before i role)) kept)
+    (λ role taken.
+    let gone = taken_gone S T changes turns (NameRow ROLE role) taken in
+    nowhere T good.well_formed role gone barred (ap not (alone_without_juniors T good role (no_junior T good.well_formed role gone))))

@@ -11,7 +11,7 @@ pub returns-in-Some-number : goal.returns-in-Some-number
 returns-in-Some-number c rows keeps =
     subst (λ index. Keeps index (rows_by rows (Take (PairRow CLOSURE_PAIR c.args.senior.now c.args.junior.now)))) (sym c.take_junior.ensures.rest)
     (keeps_take_junior c.args.self.now c.take_junior.new.self rows keeps c.args.senior.now c.args.junior.now c.in-Some.above c.in-Some-number.below
-    (sym c.number.ensures ∙ c.in-Some.is) (sym c.number-in-Some.ensures ∙ c.in-Some-number.is) c.take_junior.ensures.others c.take_junior.ensures.gone)
+    (sym c.number.ensures ∙ c.in-Some.is) (sym c.number-in-Some.ensures ∙ c.in-Some-number.is) c.take_junior.ensures.others (c.take_junior.ensures.turned keeps.turned) c.take_junior.ensures.gone)
 
 pub returns-in_default-number : goal.returns-in_default-number
 returns-in_default-number c rows keeps =

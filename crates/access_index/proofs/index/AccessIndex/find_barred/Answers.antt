@@ -1,0 +1,7 @@
+use Rattle.std.specs.Prelude.{Some}
+use Rattle.access_index.specs.Index.{rows_of}
+use Rattle.access_index.proofs.IndexLaws.{keeps_barred}
+use Rattle.access_index.proofs.index.AccessIndex.find_barred.Goals as goal
+
+pub returns-in-Ok : goal.returns-in-Ok
+returns-in-Ok c = keeps_barred c.args.self.now (rows_of c.args.state.now.facts) (Some c.in-Ok.row) c.in-Ok.ensures.ok c.requires

@@ -1,0 +1,34 @@
+use Rattle.std.proofs.Common.{not, inl, inr, refl, sym, ◌∙◌, ap, subst}
+use Rattle.std.specs.Prelude.{IfSome}
+use Rattle.bit_rows.specs.Rows.{has}
+use Rattle.bit_tables.specs.Tables.{is_in}
+use Rattle.admin_mgr.specs.UserAccess.{stands_alone}
+use Rattle.access_index.specs.Following.{Follow}
+use Rattle.access_index.specs.Index.{is_used, number_of}
+use Rattle.access_index.proofs.FindLaws.{not_granted}
+use Rattle.access_index.proofs.UserLaws.{none_assigned, user_decision}
+use Rattle.access_index.proofs.index.AccessIndex.find_for_user.Goals as goal
+
+pub returns-in_default-row-clause-none : goal.returns-in_default-row-clause-none
+returns-in_default-row-clause-none c =
+    inr (λ S keeps. inl (none_assigned c.args.self.now S keeps c.args.user.now c.args.operation.now c.args.object.now (λ n. ap (λ o. is_in o n) (sym c.in_default-row.ensures))))
+
+pub returns-in_default-row-2-clause-none : goal.returns-in_default-row-2-clause-none
+returns-in_default-row-2-clause-none c =
+    inr (λ S keeps. inr (not_granted c.args.self.now S keeps c.args.user.now c.args.operation.now c.args.object.now (λ n. ap (λ o. is_in o n) (sym c.in_default-row-2.ensures))))
+
+pub returns-then-is_empty-clause-none : goal.returns-then-is_empty-clause-none
+returns-then-is_empty-clause-none c =
+    inr (λ S keeps. inl (none_assigned c.args.self.now S keeps c.args.user.now c.args.operation.now c.args.object.now (λ n. ap (λ o. is_in o n) (sym c.in-Some-row.ensures) ∙ c.if-is_empty.ensures.empty refl n)))
+
+pub returns-then-is_empty-2-clause-none : goal.returns-then-is_empty-2-clause-none
+returns-then-is_empty-2-clause-none c =
+    inr (λ S keeps. inr (not_granted c.args.self.now S keeps c.args.user.now c.args.operation.now c.args.object.now (λ n. ap (λ o. is_in o n) (sym c.in-Some-row-2.ensures) ∙ c.if-is_empty-2.ensures.empty refl n)))
+
+pub returns-clause-found : goal.returns-clause-found
+returns-clause-found c S good keeps =
+    let some_assigned = c.if-is_empty.ensures.some refl in
+    let some_granted = c.if-is_empty-2.ensures.some refl in
+    user_decision c.args.self.now S keeps c.args.user.now c.args.operation.now c.args.object.now c.in-Some-row.assigned.now c.in-Some-row-2.roles.now c.in-Some.barred c.difference-usable.result
+    (λ n. ap (λ o. is_in o n) c.in-Some-row.ensures) (λ n. ap (λ o. is_in o n) c.in-Some-row-2.ensures) (subst (λ row. IfSome row (λ r. Follow (Unit {0}) (number_of c.args.self.now) (is_used c.args.self.now) (λ _. has r) (λ _ role. not (stands_alone S role)))) c.in-Some.is keeps.barred) c.difference-usable.ensures
+    good some_assigned.0 some_granted.0 some_assigned.1 some_granted.1 c.reaches.result c.reaches.ensures.0 c.reaches.ensures.1

@@ -1,0 +1,44 @@
+-- How the barred roles are found.
+use Rattle.std.specs.Prelude.{◌||◌, ℕ, zero, suc, Bool, true, false, not, nat_eq, nat_lt, count_by, List, Option, Some, None}
+use Rattle.bit_rows.specs.declared.row.BitRow.{BitRow}
+use Rattle.bit_rows.specs.Rows.{has}
+use Rattle.rbac_sets.specs.Sets.{Pair}
+use Rattle.rbac_sets.specs.declared.row.Row.{Row}
+use Rattle.rbac_sets.specs.declared.row.Row.TheVariants.{PairRow, SetRow}
+use Rattle.rbac_sets.specs.declared.row.TheConstants.Row.{CLOSURE_PAIR, DYNAMIC_MEMBER, DYNAMIC_CARDINALITY}
+use Rattle.rbac_sets.specs.declared.row.Change.{Change}
+use Rattle.rbac_sets.specs.declared.row.Change.TheVariants.{Put, Take}
+use Rattle.admin_mgr.specs.RbacState.{RbacState}
+use Rattle.admin_mgr.specs.UserAccess.{stands_alone}
+use Rattle.access_index.specs.Following.{Follow}
+use Rattle.access_index.specs.Index.{is_below, is_used, number_of}
+use Rattle.access_index.specs.declared.index.AccessIndex.{AccessIndex}
+
+-- the row has the numbers of the roles that violate a dynamic set of the state alone
+abbrev pub AreBarred : AccessIndex → RbacState → BitRow → Type 0
+AreBarred index S row = Follow (Unit {0}) (number_of index) (is_used index) (λ _. has row) (λ _ role. not (stands_alone S role))
+
+-- whether the role of the second number, if there is one, is that of the first, or a junior of it
+abbrev pub is_member : AccessIndex → ℕ → Option ℕ → Bool
+is_member index n None = false
+is_member index n (Some number) = nat_eq n number || is_below index.seniors.items number n
+
+-- whether at least so many of the members, pairs (set, role), are the role of the number or juniors of it
+abbrev pub has_members : AccessIndex → ℕ → List Pair → ℕ → Bool
+has_members index n members count = not (nat_lt (count_by (λ (member : Pair). is_member index n (number_of index member.1)) members) count)
+
+-- whether a number is in the first levels, as many as are given
+abbrev pub at_least : List BitRow → ℕ → ℕ → Bool
+at_least levels zero n = true
+at_least levels (suc level) n = is_below levels level n
+
+-- whether the row is a closure pair, or one of a dynamic separation of duty set
+abbrev pub can_bar : Row → Bool
+can_bar (PairRow kind a b) = nat_eq kind CLOSURE_PAIR || nat_eq kind DYNAMIC_MEMBER
+can_bar (SetRow kind a n) = nat_eq kind DYNAMIC_CARDINALITY
+can_bar _ = false
+
+-- the row that the change puts or takes
+abbrev pub changed_row : Change → Row
+changed_row (Put row) = row
+changed_row (Take row) = row
