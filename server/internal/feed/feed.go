@@ -384,8 +384,8 @@ func (f *Feed) start(ctx context.Context) error {
 	return f.open(ctx)
 }
 
-// before does what comes before a start, and then tells those that wait for the replay of before that they get no answer: what was done
-// of their lines is known by then, so that none of it is seen later only.
+// before does what comes before a start. Then it tells those who wait for the last replay that they get no answer: by then it is known
+// which of their lines were done, so nothing of them shows later that doesn't show at once.
 func (f *Feed) before(ctx context.Context) error {
 	defer f.lose()
 	if f.Before == nil {

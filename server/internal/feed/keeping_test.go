@@ -193,14 +193,14 @@ func TestLostReplay(t *testing.T) {
 	}
 }
 
-// TestLossIsToldLast ends the replay under a command. Whoever waits for it is told after what was done has been found out.
+// TestLossIsToldLast ends the replay during a command. Its client gets no answer, and learns that only after Before has returned.
 func TestLossIsToldLast(t *testing.T) {
 	var starts, told atomic.Int32
 	b := kept(t, &notebook{}, many, func(context.Context) error {
 		if starts.Add(1) == 2 {
 			time.Sleep(50 * time.Millisecond)
 			if told.Load() > 0 {
-				t.Error("it is told before")
+				t.Error("the client was told too early")
 			}
 		}
 		return nil

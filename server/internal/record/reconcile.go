@@ -83,10 +83,10 @@ func (r *Record) reconcile(ctx context.Context, scratch string) error {
 	return nil
 }
 
-// sayingInterval is after how many commands it is said how many were done again.
+// sayingInterval is after how many commands the log says how many were done again.
 const sayingInterval = 100
 
-// reporting are so many entries, of which it reports how many have been done.
+// reporting returns the same entries, which are count many, and reports again and again how many have been done.
 func (r *Record) reporting(all entries, count int64) entries {
 	done := 0
 	return func(do func(e *entry) error) error {

@@ -1,8 +1,10 @@
 // Package state has the office in this process, by librbac. It begins with the rows of the office's file, and does each command that
-// the program has accepted, or that the log of several machines has, in the one order. So it answers the questions of the office, and what no function of the office lists. Beside
-// it are kept the numbers of the order, the newest commands for those who watch, and the times of sessions: nothing else is known twice.
+// the program has accepted, or that the log of several machines has, in the one order. So it answers the questions of the office, and
+// lists what no function of the office lists. Beside it are kept the numbers of the order, the newest commands for those who watch, and
+// the times of sessions: nothing else is known twice.
 //
-// What it concludes itself is how roles, sets and holders belong together, for explanations and reports (Graph, Conflicts).
+// What it concludes itself is how separation of duty sets and holders belong together, for conflicts, explanations and reports (Graph,
+// Conflicts).
 package state
 
 import (
