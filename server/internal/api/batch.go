@@ -40,32 +40,42 @@ func (e *LineError) Error() string { return fmt.Sprintf("line %d: %s", e.Number,
 
 func (e *LineError) Unwrap() error { return e.Refusal }
 
-// parseBatchLine makes a call of what was read of a line, which asks for a function, or whether a user may do something in some session.
-func parseBatchLine(found Fields) (*Call, error) {
+// setLine makes a call of what was read of a line, which asks for a function, or whether a user may do something in some session. Its own
+// line is made behind others, which are returned with it.
+func (c *Call) setLine(found Fields, lines []byte) ([]byte, error) {
 	name, err := nameIn(found)
 	if err != nil {
 		return nil, err
 	}
-	if name != DecideByUser {
-		return newCall(name, found)
+	if name == DecideByUser {
+		*c = Call{Function: DecideByUser, Kind: Question, Line: placeholder}
+		return lines, c.read(others[name], found)
 	}
-	call := NewOther(name)
-	return call, call.read(others[name], found)
+	if err := c.readFunction(name, found); err != nil {
+		return nil, err
+	}
+	return c.writeBehind(lines)
 }
 
 // ParseBatch reads the lines of a batch. Each has to be a request; lines without text are none.
 func ParseBatch(body []byte) (calls []*Call, err error) {
+	most := bytes.Count(body, []byte("\n")) + 1
+	if most > MaxBatchLines {
+		most = MaxBatchLines + 1
+	}
+	// The calls are together in memory, and so are their lines, which are mostly as long as those that were read.
+	all, lines := make([]Call, most), make([]byte, 0, len(body))
 	var found Fields // Those of a line, in the memory of the one before.
-	calls = make([]*Call, 0, bytes.Count(body, []byte("\n"))+1)
-	commands := 0
+	add, commands := found.add, 0
+	calls = make([]*Call, 0, most)
 	for number := 1; len(body) > 0; number++ {
 		var line []byte
 		if line, body, _ = bytes.Cut(body, []byte("\n")); len(bytes.Trim(line, " \t\r")) == 0 {
 			continue
 		}
-		var call *Call
-		if found, err = appendFields(found[:0], line); err == nil {
-			call, err = parseBatchLine(found)
+		call := &all[len(calls)]
+		if found, err = found[:0], errNoObject; readMembers(string(line), '{', add) {
+			lines, err = call.setLine(found, lines)
 		}
 		if err != nil {
 			return nil, &LineError{number, RefusalOf(err)}

@@ -1,7 +1,6 @@
 package api
 
 import (
-	"bytes"
 	"net/http"
 	"strings"
 	"unicode/utf8"
@@ -14,8 +13,9 @@ import (
 // texts.
 const Importer = "importAssignments"
 
-// A function is one of the office: how it is answered, and its keys.
+// A function is one of the office: its name, how it is answered, and its keys.
 type function struct {
+	name string
 	kind Kind
 	keys []string
 }
@@ -27,7 +27,7 @@ var functions = func() map[string]function {
 		for _, line := range strings.Split(strings.TrimSpace(table), "\n") {
 			keys, names, _ := strings.Cut(line, ":")
 			for _, name := range strings.Fields(names) {
-				known[name] = function{kind, strings.Fields(keys)}
+				known[name] = function{name, kind, strings.Fields(keys)}
 			}
 		}
 	}
@@ -47,7 +47,7 @@ type Call struct {
 
 // ParseLine reads a line that names its function.
 func ParseLine(line []byte) (*Call, error) {
-	found, err := fieldsOf(line)
+	found, err := FieldsOf(string(line))
 	if err != nil {
 		return nil, err
 	}
@@ -60,11 +60,7 @@ func ParseLine(line []byte) (*Call, error) {
 
 // nameIn returns the name of the function that a line asks for.
 func nameIn(found Fields) (string, error) {
-	value := found.At("fn")
-	if len(value) == 0 || value[0] != '"' {
-		return "", wrongKey(found, "fn", "a text")
-	}
-	return wordOf(value), nil
+	return TextAt(found, "fn")
 }
 
 // parseBody reads what a body asks a function for. No body is an object without keys.
@@ -79,7 +75,7 @@ func parseBody(name string, body []byte) (*Call, error) {
 	if len(body) == 0 {
 		return newCall(name, nil)
 	}
-	found, err := fieldsOf(body)
+	found, err := FieldsOf(string(body))
 	if err != nil {
 		return nil, err
 	}
@@ -88,15 +84,21 @@ func parseBody(name string, body []byte) (*Call, error) {
 
 // newCall makes a call of what was read.
 func newCall(name string, found Fields) (*Call, error) {
-	called, known := functions[name]
-	if !known {
-		return nil, UnknownFunction
-	}
-	call := &Call{Function: name, Kind: called.kind}
-	if err := call.read(called.keys, found); err != nil {
+	call := &Call{}
+	if err := call.readFunction(name, found); err != nil {
 		return nil, err
 	}
 	return call, call.write()
+}
+
+// readFunction sets the function and what an object has at its keys.
+func (c *Call) readFunction(name string, found Fields) error {
+	called, known := functions[name]
+	if !known {
+		return UnknownFunction
+	}
+	c.Function, c.Kind = called.name, called.kind
+	return c.read(called.keys, found)
 }
 
 // read sets what an object has at some keys, and refuses an object that lacks one.
@@ -104,7 +106,7 @@ func (c *Call) read(keys []string, found Fields) (err error) {
 	for _, key := range keys {
 		switch value := found.At(key); key {
 		case "cardinality":
-			if c.Cardinality = string(value); len(value) == 0 || len(bytes.Trim(value, "0123456789")) > 0 {
+			if c.Cardinality = value; value == "" || strings.Trim(value, "0123456789") != "" {
 				return wrongKey(found, key, "a number")
 			}
 		case "roles":
@@ -132,7 +134,7 @@ func TextAt(found Fields, key string) (string, error) {
 // wrongKey is the refusal of a request with a key that is missing or has a value of another type. It names one that is there and
 // differs in the case of its letters alone.
 func wrongKey(found Fields, key, wanted string) Refusal {
-	if found.At(key) != nil {
+	if found.Has(key) {
 		return BadRequestSince(http.StatusBadRequest, "%s has to be %s", key, wanted)
 	}
 	for _, other := range found {
@@ -145,8 +147,14 @@ func wrongKey(found Fields, key, wanted string) Refusal {
 
 // write makes the line.
 func (c *Call) write() error {
-	line := append(append(make([]byte, 0, 128), `{"fn":"`...), c.Function...)
-	line = append(line, '"')
+	_, err := c.writeBehind(make([]byte, 0, 128))
+	return err
+}
+
+// writeBehind makes the line behind others, in their memory if there is room, and returns all of them.
+func (c *Call) writeBehind(lines []byte) ([]byte, error) {
+	begin := len(lines)
+	line := append(append(append(lines, `{"fn":"`...), c.Function...), '"')
 	for _, key := range functions[c.Function].keys {
 		line = append(append(append(line, `,"`...), key...), `":`...)
 		switch key {
@@ -158,11 +166,12 @@ func (c *Call) write() error {
 			line = AppendQuoted(line, c.Text(key))
 		}
 	}
-	c.Line = append(line, '}')
+	line = append(line, '}')
+	c.Line = line[begin:len(line):len(line)]
 	if len(c.Line) > office.MaxLineBytes {
-		return BadRequestSince(http.StatusRequestEntityTooLarge, "the request makes a line of more than %d bytes", office.MaxLineBytes)
+		return nil, BadRequestSince(http.StatusRequestEntityTooLarge, "the request makes a line of more than %d bytes", office.MaxLineBytes)
 	}
-	return nil
+	return line, nil
 }
 
 // AppendQuoted appends a text as JSON, in as few bytes as its control characters allow.

@@ -1,11 +1,11 @@
 package api
 
 import (
-	"bytes"
 	"encoding/json"
 	"math"
 	"net/http"
 	"strconv"
+	"strings"
 	"unicode/utf8"
 )
 
@@ -16,32 +16,25 @@ const maxDepth = 127
 type Fields []Field
 
 // A Field is a key, and its value: JSON that was read whole.
-type Field struct {
-	Key   string
-	Value json.RawMessage
-}
+type Field struct{ Key, Value string }
 
-// At returns the value at a key, or nil if there is none. If a key occurs twice, the last one counts, as in the office.
-func (f Fields) At(key string) json.RawMessage {
+// At returns the value at a key, or nothing if there is none. If a key occurs twice, the last one counts, as in the office.
+func (f Fields) At(key string) string {
 	for i := len(f) - 1; i >= 0; i-- {
 		if f[i].Key == key {
 			return f[i].Value
 		}
 	}
-	return nil
+	return ""
 }
 
 // Has reports whether there is a key.
-func (f Fields) Has(key string) bool { return f.At(key) != nil }
+func (f Fields) Has(key string) bool { return f.At(key) != "" }
 
-// FieldsOf reads an object of JSON as the office does. It has each key once.
-func FieldsOf(text []byte) (Fields, error) {
-	all, err := fieldsOf(text)
-	if err != nil {
-		return nil, err
-	}
-	found, places := all[:0], make(map[string]int, len(all))
-	for _, one := range all {
+// Distinct returns the fields with each key once.
+func (f Fields) Distinct() Fields {
+	found, places := f[:0], make(map[string]int, len(f))
+	for _, one := range f {
 		if place, has := places[one.Key]; has {
 			found[place] = one
 			continue
@@ -49,34 +42,38 @@ func FieldsOf(text []byte) (Fields, error) {
 		places[one.Key] = len(found)
 		found = append(found, one)
 	}
-	return found, nil
+	return found
 }
 
-// fieldsOf reads an object of JSON, which may have a key twice.
-func fieldsOf(text []byte) (Fields, error) { return appendFields(make(Fields, 0, 5), text) }
+// errNoObject refuses a text that is no object of JSON.
+var errNoObject error = BadRequestSince(http.StatusBadRequest, "this is no object of JSON")
 
-// appendFields appends the fields of an object of JSON, which may have a key twice. It refuses what the office refuses as no JSON, even at
+// FieldsOf reads an object of JSON as the office does, which may have a key twice. It refuses what the office refuses as no JSON, even at
 // keys that the office ignores: half a surrogate pair, numbers that are too large, and what nests too deep, all of which Go's library
 // accepts.
-func appendFields(found Fields, text []byte) (Fields, error) {
-	if !readMembers(text, '{', func(key, value []byte) { found = append(found, Field{wordOf(key), value}) }) {
-		return nil, BadRequestSince(http.StatusBadRequest, "this is no object of JSON")
+func FieldsOf(text string) (Fields, error) {
+	found := make(Fields, 0, 5)
+	if !readMembers(text, '{', found.add) {
+		return nil, errNoObject
 	}
 	return found, nil
 }
 
+// add appends a field, by its key as it is written.
+func (f *Fields) add(key, value string) { *f = append(*f, Field{unquote(key), value}) }
+
 // Items returns the values of a list that is written as JSON.
-func Items(value json.RawMessage) (items []json.RawMessage, err error) {
-	if !readMembers(value, '[', func(_, item []byte) { items = append(items, item) }) {
+func Items(value string) (items []string, err error) {
+	if !readMembers(value, '[', func(_, item string) { items = append(items, item) }) {
 		return nil, BadRequest(http.StatusBadRequest)
 	}
 	return items, nil
 }
 
 // Texts returns the texts of a list that is written as JSON.
-func Texts(value json.RawMessage) ([]string, error) {
+func Texts(value string) ([]string, error) {
 	texts, areTexts := []string{}, true
-	isList := readMembers(value, '[', func(_, item []byte) {
+	isList := readMembers(value, '[', func(_, item string) {
 		if areTexts = areTexts && item[0] == '"'; areTexts {
 			texts = append(texts, unquote(item))
 		}
@@ -88,48 +85,28 @@ func Texts(value json.RawMessage) ([]string, error) {
 }
 
 // Text returns the text that a value of an object or of a list is.
-func Text(value json.RawMessage) (string, error) {
-	if len(value) == 0 || value[0] != '"' {
+func Text(value string) (string, error) {
+	if value == "" || value[0] != '"' {
 		return "", BadRequest(http.StatusBadRequest)
 	}
 	return unquote(value), nil
 }
 
-// unquote returns the text that JSON which was read writes.
-func unquote(quoted []byte) string {
-	if bytes.IndexByte(quoted, '\\') >= 0 {
+// unquote returns the text that JSON which was read writes. It takes no memory unless it has escapes.
+func unquote(quoted string) string {
+	if strings.IndexByte(quoted, '\\') >= 0 {
 		var text string
-		_ = json.Unmarshal(quoted, &text) // It was read as a text.
+		_ = json.Unmarshal([]byte(quoted), &text) // It was read as a text.
 		return text
 	}
-	return string(quoted[1 : len(quoted)-1])
+	return quoted[1 : len(quoted)-1]
 }
-
-// wordOf is unquote for a key or the name of a function, which takes no memory if it is known.
-func wordOf(quoted []byte) string {
-	if word, known := words[string(quoted[1:len(quoted)-1])]; known {
-		return word
-	}
-	return unquote(quoted)
-}
-
-// words has the keys and the names of all functions.
-var words = func() map[string]string {
-	known := map[string]string{"fn": "fn"}
-	for name, called := range functions {
-		known[name] = name
-		for _, key := range called.keys {
-			known[key] = key
-		}
-	}
-	return known
-}()
 
 // readMembers calls a function for each member of the object or the list which a text is, and reports whether it is one. Members of a
 // list have no keys.
-func readMembers(text []byte, begin byte, do func(key, value []byte)) bool {
+func readMembers(text string, begin byte, do func(key, value string)) bool {
 	at := skipSpaces(text, 0)
-	if at == len(text) || text[at] != begin || !utf8.Valid(text) {
+	if at == len(text) || text[at] != begin || !utf8.ValidString(text) {
 		return false
 	}
 	after := afterMembers(text, at, maxDepth, do)
@@ -138,7 +115,7 @@ func readMembers(text []byte, begin byte, do func(key, value []byte)) bool {
 
 // afterMembers calls a function for each member of the object or the list that begins at a place. Like the functions below it returns the
 // place after it, or -1 if it is none.
-func afterMembers(text []byte, at, depth int, do func(key, value []byte)) int {
+func afterMembers(text string, at, depth int, do func(key, value string)) int {
 	if depth == 0 {
 		return -1
 	}
@@ -147,7 +124,7 @@ func afterMembers(text []byte, at, depth int, do func(key, value []byte)) int {
 		return at + 1
 	}
 	for {
-		var key []byte
+		var key string
 		if end == '}' {
 			after := afterText(text, at)
 			if after < 0 {
@@ -163,7 +140,7 @@ func afterMembers(text []byte, at, depth int, do func(key, value []byte)) int {
 		if after < 0 {
 			return -1
 		}
-		do(key, text[at:after:after])
+		do(key, text[at:after])
 		at = skipSpaces(text, after)
 		if at < len(text) && text[at] == end {
 			return at + 1
@@ -176,18 +153,18 @@ func afterMembers(text []byte, at, depth int, do func(key, value []byte)) int {
 }
 
 // afterValue is afterMembers for any value.
-func afterValue(text []byte, at, depth int) int {
+func afterValue(text string, at, depth int) int {
 	if at == len(text) {
 		return -1
 	}
 	switch text[at] {
 	case '{', '[':
-		return afterMembers(text, at, depth, func(_, _ []byte) {})
+		return afterMembers(text, at, depth, func(_, _ string) {})
 	case '"':
 		return afterText(text, at)
 	case 't', 'f', 'n':
 		for _, word := range []string{"true", "false", "null"} {
-			if bytes.HasPrefix(text[at:], []byte(word)) {
+			if strings.HasPrefix(text[at:], word) {
 				return at + len(word)
 			}
 		}
@@ -197,7 +174,7 @@ func afterValue(text []byte, at, depth int) int {
 }
 
 // afterText is afterMembers for a text.
-func afterText(text []byte, at int) int {
+func afterText(text string, at int) int {
 	if at == len(text) || text[at] != '"' {
 		return -1
 	}
@@ -219,9 +196,9 @@ func afterText(text []byte, at int) int {
 }
 
 // afterEscape is afterMembers for an escape, or for the two of a surrogate pair.
-func afterEscape(text []byte, at int) int {
+func afterEscape(text string, at int) int {
 	if at+1 == len(text) || text[at+1] != 'u' {
-		if at+1 == len(text) || bytes.IndexByte([]byte(`"\/bfnrt`), text[at+1]) < 0 {
+		if at+1 == len(text) || strings.IndexByte(`"\/bfnrt`, text[at+1]) < 0 {
 			return -1
 		}
 		return at + 2
@@ -233,18 +210,18 @@ func afterEscape(text []byte, at int) int {
 	case unit>>10 != high:
 		return at + 6
 	}
-	if at += 6; bytes.HasPrefix(text[at:], []byte(`\u`)) && unitAt(text, at+2)>>10 == low {
+	if at += 6; strings.HasPrefix(text[at:], `\u`) && unitAt(text, at+2)>>10 == low {
 		return at + 6
 	}
 	return -1
 }
 
 // unitAt returns the number that four hexadecimal digits at a place are, or -1.
-func unitAt(text []byte, at int) int {
+func unitAt(text string, at int) int {
 	if at+4 > len(text) {
 		return -1
 	}
-	unit, err := strconv.ParseUint(string(text[at:at+4]), 16, 16)
+	unit, err := strconv.ParseUint(text[at:at+4], 16, 16)
 	if err != nil {
 		return -1
 	}
@@ -252,7 +229,7 @@ func unitAt(text []byte, at int) int {
 }
 
 // afterNumber is afterMembers for a number that isn't too large.
-func afterNumber(text []byte, begin int) int {
+func afterNumber(text string, begin int) int {
 	at := begin
 	if text[at] == '-' {
 		at++
@@ -276,14 +253,14 @@ func afterNumber(text []byte, begin int) int {
 			return -1
 		}
 	}
-	if number, _ := strconv.ParseFloat(string(text[begin:at]), 64); math.IsInf(number, 0) {
+	if number, _ := strconv.ParseFloat(text[begin:at], 64); math.IsInf(number, 0) {
 		return -1
 	}
 	return at
 }
 
 // skipDigits returns the next place at or after this one that has no digit.
-func skipDigits(text []byte, at int) int {
+func skipDigits(text string, at int) int {
 	for at < len(text) && '0' <= text[at] && text[at] <= '9' {
 		at++
 	}
@@ -291,7 +268,7 @@ func skipDigits(text []byte, at int) int {
 }
 
 // skipSpaces returns the next place at or after this one that has no space.
-func skipSpaces(text []byte, at int) int {
+func skipSpaces(text string, at int) int {
 	for at < len(text) && (text[at] == ' ' || text[at] == '\n' || text[at] == '\r' || text[at] == '\t') {
 		at++
 	}

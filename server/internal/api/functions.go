@@ -31,6 +31,8 @@ var others = map[string][]string{
 // Placeholder is a question that costs the program little.
 const Placeholder = `{"fn":"sessionRoles","session":"-"}`
 
+var placeholder = []byte(Placeholder)
+
 // IsOther reports whether an operation is one of these.
 func IsOther(name string) bool {
 	_, is := others[name]
@@ -57,7 +59,7 @@ func Keys(name string) []string {
 // NewOther makes a call of such an operation, for those who judge it and for the office in this process. The program knows none: it gets
 // a question that costs it little, so that the call has its place among the commands.
 func NewOther(name string, pairs ...string) *Call {
-	call := &Call{Function: name, Kind: Question, Line: []byte(Placeholder)}
+	call := &Call{Function: name, Kind: Question, Line: placeholder}
 	call.setTexts(pairs)
 	return call
 }

@@ -71,7 +71,7 @@ func ValueOf(answer []byte, value any) error {
 
 // PairsOf reads the value of an answer that is a list of pairs of names, which may have thousands.
 func PairsOf(answer []byte) (pairs [][2]string, err error) {
-	found, err := FieldsOf(answer)
+	found, err := FieldsOf(string(answer))
 	if err != nil {
 		return nil, err
 	}

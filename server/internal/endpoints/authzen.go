@@ -60,15 +60,15 @@ func (e *Endpoints) evaluateOne(r *request, fields api.Fields) (int, error) {
 func (e *Endpoints) evaluations(r *request) (int, error) {
 	var fields api.Fields
 	leave, err := e.readLarge(r, func(body []byte) (err error) {
-		fields, err = api.FieldsOf(body)
+		fields, err = api.FieldsOf(string(body))
 		return err
 	})
 	defer leave()
 	if err != nil {
 		return 0, err
 	}
-	var list []json.RawMessage
-	if value := fields.At("evaluations"); value != nil {
+	var list []string
+	if value := fields.At("evaluations"); value != "" {
 		if list, err = api.Items(value); err != nil {
 			return 0, notRead("evaluations has to be a list of objects")
 		}
@@ -152,12 +152,12 @@ func readObject(r *request) (api.Fields, error) {
 	if err != nil {
 		return nil, err
 	}
-	return api.FieldsOf(body)
+	return api.FieldsOf(string(body))
 }
 
 // readSemantic reads the options of evaluations.
-func readSemantic(options json.RawMessage) (wanted semantic, err error) {
-	if options == nil {
+func readSemantic(options string) (wanted semantic, err error) {
+	if options == "" {
 		return wanted, nil
 	}
 	fields, err := fieldsAt("options", options)
@@ -179,7 +179,7 @@ func readSemantic(options json.RawMessage) (wanted semantic, err error) {
 }
 
 // readEvaluations reads the evaluations of a list. What one of them leaves out is taken from the body.
-func readEvaluations(fields api.Fields, list []json.RawMessage) ([]evaluation, error) {
+func readEvaluations(fields api.Fields, list []string) ([]evaluation, error) {
 	general, err := readEvaluation(fields, evaluation{})
 	if err != nil {
 		return nil, err
@@ -204,7 +204,7 @@ func readEvaluations(fields api.Fields, list []json.RawMessage) ([]evaluation, e
 func readEvaluation(fields api.Fields, other evaluation) (read evaluation, err error) {
 	read = other
 	for name, one := range map[string]*entity{"subject": &read.subject, "resource": &read.resource} {
-		if value := fields.At(name); value != nil {
+		if value := fields.At(name); value != "" {
 			if *one, err = readEntity(name, value); err != nil {
 				return read, err
 			}
@@ -222,7 +222,7 @@ func readEvaluation(fields api.Fields, other evaluation) (read evaluation, err e
 }
 
 // readEntity reads a subject or a resource.
-func readEntity(name string, value json.RawMessage) (read entity, err error) {
+func readEntity(name string, value string) (read entity, err error) {
 	fields, err := fieldsAt(name, value)
 	if err != nil {
 		return read, err
@@ -235,7 +235,7 @@ func readEntity(name string, value json.RawMessage) (read entity, err error) {
 }
 
 // fieldsAt returns the object at a key.
-func fieldsAt(key string, value json.RawMessage) (api.Fields, error) {
+func fieldsAt(key string, value string) (api.Fields, error) {
 	fields, err := api.FieldsOf(value)
 	if err != nil {
 		return nil, notRead("%s has to be an object", key)

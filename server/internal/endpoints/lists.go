@@ -196,16 +196,15 @@ func readListQueries(body []byte) (queries []listQuery, err error) {
 
 // readListLine reads what is wanted of a list. The limit is a number, and what is at the other keys a text.
 func readListLine(line []byte) (query listQuery, err error) {
-	fields, err := api.FieldsOf(line)
+	fields, err := api.FieldsOf(string(line))
 	if err != nil {
 		return query, err
 	}
 	list, values := "", url.Values{}
-	for _, one := range fields {
-		key, value := string(one.Key), one.Value
-		text := string(value)
+	for _, one := range fields.Distinct() {
+		key, text := one.Key, one.Value
 		if key != "limit" {
-			if text, err = api.Text(value); err != nil {
+			if text, err = api.Text(text); err != nil {
 				return query, notRead("%s has to be a text", echoed(key))
 			}
 		}

@@ -3,7 +3,6 @@ package endpoints
 import (
 	"bufio"
 	"context"
-	"encoding/json"
 	"fmt"
 	"net"
 	"net/http"
@@ -89,12 +88,12 @@ func readReportQuery(r *request) (query reportQuery, err error) {
 	}
 	fields := api.Fields{}
 	if len(body) > 0 {
-		if fields, err = api.FieldsOf(body); err != nil {
+		if fields, err = api.FieldsOf(string(body)); err != nil {
 			return query, err
 		}
 	}
-	for _, one := range fields {
-		if err := query.set(keys, string(one.Key), one.Value); err != nil {
+	for _, one := range fields.Distinct() {
+		if err := query.set(keys, one.Key, one.Value); err != nil {
 			return query, err
 		}
 	}
@@ -103,7 +102,7 @@ func readReportQuery(r *request) (query reportQuery, err error) {
 }
 
 // set sets what a key means. An empty text chooses nothing, as if it were left out.
-func (q *reportQuery) set(keys []string, key string, value json.RawMessage) (err error) {
+func (q *reportQuery) set(keys []string, key string, value string) (err error) {
 	texts := map[string]*string{
 		"user": &q.User, "role": &q.Role, "object": &q.Object, "operation": &q.Operation, "set": &q.Set,
 	}
@@ -115,7 +114,7 @@ func (q *reportQuery) set(keys []string, key string, value json.RawMessage) (err
 		}
 		q.isCSV = text == "csv"
 	case key == "limit":
-		q.most, err = strconv.ParseInt(string(value), 10, 64)
+		q.most, err = strconv.ParseInt(value, 10, 64)
 		if err != nil || q.most < 1 {
 			return notRead("limit is a number from 1")
 		}
@@ -126,7 +125,7 @@ func (q *reportQuery) set(keys []string, key string, value json.RawMessage) (err
 			return notRead("%s has to be a text", key)
 		}
 	default: // It is left.
-		q.Left, err = strconv.ParseInt(string(value), 10, 64)
+		q.Left, err = strconv.ParseInt(value, 10, 64)
 		if q.HasLeft = true; err != nil {
 			return notRead("left has to be a number")
 		}

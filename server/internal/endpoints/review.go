@@ -70,7 +70,7 @@ func readReview(r *request) (ended review, err error) {
 	if err != nil {
 		return ended, err
 	}
-	fields, err := api.FieldsOf(body)
+	fields, err := api.FieldsOf(string(body))
 	if err != nil {
 		return ended, err
 	}
@@ -87,7 +87,7 @@ func readReview(r *request) (ended review, err error) {
 		return ended, notRead("sha256 has %d digits of 0 to 9 and a to f", 2*sumBytes)
 	}
 	for key, count := range map[string]*int{"kept": &ended.Kept, "removed": &ended.Removed, "open": &ended.Open} {
-		if *count, err = strconv.Atoi(string(fields.At(key))); err != nil || *count < 0 || *count > mostReviewed {
+		if *count, err = strconv.Atoi(fields.At(key)); err != nil || *count < 0 || *count > mostReviewed {
 			return ended, notRead("%s is a number from 0 to %d", key, mostReviewed)
 		}
 	}

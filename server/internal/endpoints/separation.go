@@ -1,8 +1,6 @@
 package endpoints
 
 import (
-	"encoding/json"
-
 	"rbac-node/internal/api"
 	"rbac-node/internal/state"
 )
@@ -36,8 +34,8 @@ type held struct {
 }
 
 // explainCommand answers by which separation of duty sets a command would be refused. It isn't done.
-func (e *Endpoints) explainCommand(r *request, line json.RawMessage) (int, error) {
-	call, err := api.ParseLine(line)
+func (e *Endpoints) explainCommand(r *request, line string) (int, error) {
+	call, err := api.ParseLine([]byte(line))
 	if err != nil {
 		return 0, err
 	}
