@@ -70,10 +70,13 @@ func (s *State) Touch(calls []*api.Call) {
 	}
 }
 
-// touch says that the session is used now that a call names, if it names one.
-func (s *State) touch(call *api.Call) {
-	if one := s.sessions[call.Session]; one != nil {
-		one.used.Store(int64(s.clock.Elapsed()))
+// touch says that the sessions are used now that calls name.
+func (s *State) touch(calls ...*api.Call) {
+	now := int64(s.clock.Elapsed())
+	for _, call := range calls {
+		if one := s.sessions[call.Session]; one != nil {
+			one.used.Store(now)
+		}
 	}
 }
 

@@ -39,9 +39,9 @@ func (s *State) Ask(calls ...*api.Call) (answers [][]byte, numbers Numbers, err 
 	if s.office == nil {
 		return nil, numbers, api.Unavailable
 	}
+	s.touch(calls...)
 	answers = make([][]byte, len(calls))
 	for i, call := range calls {
-		s.touch(call)
 		if answers[i], err = s.answer(call); err != nil {
 			return nil, numbers, err
 		}
