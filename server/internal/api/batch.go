@@ -40,8 +40,8 @@ func (e *LineError) Error() string { return fmt.Sprintf("line %d: %s", e.Number,
 
 func (e *LineError) Unwrap() error { return e.Refusal }
 
-// setLine makes a call of what was read of a line, which asks for a function, or whether a user may do something in some session. Its own
-// line is made behind others, which are returned with it.
+// setLine makes a call of what was read of a line, which asks for a function, or whether a user may do something in some session. The
+// line of a question is made behind others, which are returned with it. That of a command has memory of its own, since it may be kept.
 func (c *Call) setLine(found Fields, lines []byte) ([]byte, error) {
 	name, err := nameIn(found)
 	if err != nil {
@@ -54,6 +54,9 @@ func (c *Call) setLine(found Fields, lines []byte) ([]byte, error) {
 	if err := c.readFunction(name, found); err != nil {
 		return nil, err
 	}
+	if c.Kind == Command {
+		return lines, c.write()
+	}
 	return c.writeBehind(lines)
 }
 
@@ -63,7 +66,7 @@ func ParseBatch(body []byte) (calls []*Call, err error) {
 	if most > MaxBatchLines {
 		most = MaxBatchLines + 1
 	}
-	// The calls are together in memory, and so are their lines, which are mostly as long as those that were read.
+	// The calls are together in memory, and so are the lines of questions, which are mostly as long as those that were read.
 	all, lines := make([]Call, most), make([]byte, 0, len(body))
 	var found Fields // Those of a line, in the memory of the one before.
 	add, commands := found.add, 0

@@ -1,6 +1,8 @@
 package state
 
 import (
+	"fmt"
+	"runtime"
 	"sort"
 	"strings"
 	"testing"
@@ -117,4 +119,38 @@ func TestEnded(t *testing.T) {
 			t.Errorf("after %s: %s and not %s", test.lines, given, test.left)
 		}
 	}
+}
+
+// What the state keeps of a batch isn't as large as the batch.
+func TestKeptOfBatch(t *testing.T) {
+	s := begun(t, `{"fn":"addUser","user":"ann"}`)
+	const count, size = 200, 256 << 10
+	more := strings.Repeat("x", size)
+	before := heap()
+	for i := 0; i < count; i++ {
+		name := fmt.Sprint("s", i)
+		body := `{"fn":"createSession","user":"ann","roles":[],"session":"` + name + `","more":"` + more + `"}` +
+			"\n" + `{"fn":"addUser","user":"` + name + `","more":"` + more + `"}`
+		calls, err := api.ParseBatch([]byte(body))
+		if err != nil {
+			t.Fatal(err)
+		}
+		if _, err := s.Answered(calls, [][]byte{[]byte(`{"ok":true}`), []byte(`{"ok":true}`)}); err != nil {
+			t.Fatal(err)
+		}
+	}
+	if grown := heap() - before; grown > 8*size {
+		t.Errorf("%d sessions and %d commands have taken %d bytes", count, 2*count, grown)
+	}
+	if found, has := s.After(1, 2*count); !has || len(found.Events) != 2*count {
+		t.Errorf("%d commands are kept, %v", len(found.Events), has)
+	}
+}
+
+// heap returns how many bytes are in use.
+func heap() int64 {
+	runtime.GC()
+	var now runtime.MemStats
+	runtime.ReadMemStats(&now)
+	return int64(now.HeapAlloc)
 }

@@ -10,6 +10,7 @@ package state
 import (
 	"bytes"
 	"fmt"
+	"strings"
 	"sync"
 	"sync/atomic"
 	"time"
@@ -192,7 +193,8 @@ func (s *State) do(call *api.Call) ([]byte, error) {
 	}
 	switch name := call.Session; call.Function {
 	case "createSession":
-		s.sessions[name] = s.newSession(name, call.User)
+		// What the call names may be a part of a text that is much longer, and would stay with it.
+		s.sessions[strings.Clone(name)] = s.newSession(name, call.User)
 	case "deleteSession":
 		delete(s.sessions, name)
 	case "addActiveRole", "dropActiveRole":
