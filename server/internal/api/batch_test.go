@@ -1,7 +1,9 @@
 package api
 
 import (
+	"bytes"
 	"errors"
+	"fmt"
 	"net/http"
 	"strings"
 	"testing"
@@ -40,5 +42,18 @@ func TestParseBatch(t *testing.T) {
 				t.Errorf("%d calls", len(calls))
 			}
 		})
+	}
+}
+
+func BenchmarkParseBatch(b *testing.B) {
+	var body bytes.Buffer
+	for i := 0; i < 100; i++ {
+		fmt.Fprintf(&body, `{"fn":"checkAccess","session":"session %d","operation":"read","object":"object %d"}`+"\n", i, i)
+	}
+	b.ReportAllocs()
+	for i := 0; i < b.N; i++ {
+		if _, err := ParseBatch(body.Bytes()); err != nil {
+			b.Fatal(err)
+		}
 	}
 }
