@@ -20,7 +20,7 @@ from functools import partial
 from pathlib import Path
 from typing import Callable
 
-from embedded import others, users
+from embedded import others, sets, users
 from embedded.policy import Policy
 
 TOP = Path(__file__).resolve().parent.parent
@@ -174,6 +174,15 @@ def print_users() -> None:
         print(f"| {name} | {shown(float(took))} |", flush=True)
 
 
+def print_changes() -> None:
+    """Prints the table of what commands on dynamic sets and inheritances take."""
+    program = program_in_c("changes")
+    print("\n| Two commands | Microseconds |\n|---|---|")
+    for name, (commands, pair) in sets.CHANGES.items():
+        took = others.run([program, *map(sets.line, pair)], users.lines_of(commands())).decode().split()
+        print(f"| {name} | {', '.join(shown(float(it)) for it in took)} |", flush=True)
+
+
 def machine() -> str:
     """Returns what the figures depend on."""
     (processor,) = set(re.findall(r"^model name\s*: (.*)$", Path("/proc/cpuinfo").read_text(encoding="ascii"), re.M))
@@ -190,6 +199,7 @@ def main() -> int:
         print_times(Path(folder))
         print_threads()
         print_users()
+        print_changes()
         print_sizes()
     print(f"\n{machine()}")
     return 0

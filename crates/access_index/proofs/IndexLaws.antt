@@ -1,10 +1,13 @@
 -- How an index keeps rows when one row changes.
-use Rattle.std.proofs.Common.{◌≡◌, ◌≢◌, ℕ, ◌<◌, Bool, false, not, List, [], ◌∷◌, ◌++◌, zero, suc, ◌+◌, ◌||◌, length, take, get_or, inl, inr, refl, sym, ◌∙◌, ap}
+use Rattle.std.proofs.Common.{◌≡◌, ◌≢◌, ℕ, ◌<◌, Bool, false, not, List, [], ◌∷◌, ◌++◌, zero, suc, ◌+◌, ◌||◌, length, take, get_or, inl, inr, refl, sym, ◌∙◌, ap, subst}
 use Rattle.std.specs.Prelude.{IsTrue, Option, Some, None, Result, Ok, Err, OnOk, IfSome}
 use Rattle.std.proofs.lemmas.Bool.{true≢false, cases_eq, cases_Bool, false_from_ne_true}
 use Rattle.admin_mgr.specs.Changes.{same_row}
 use Rattle.std.proofs.lemmas.List.{take_more}
 use Rattle.std.proofs.lemmas.List.Folds.{list_any-append}
+use Rattle.std.specs.Str.{bytes_eq}
+use Rattle.std.specs.Map.{update}
+use Rattle.std.specs.HashMap.{get_by_text}
 use Rattle.bit_rows.specs.declared.row.TheConstants.{WIDTH}
 use Rattle.bit_rows.specs.declared.row.BitRow.{BitRow}
 use Rattle.bit_rows.specs.Rows.{has}
@@ -16,15 +19,15 @@ use Rattle.rbac_sets.specs.declared.row.Change.TheVariants.{Put, Take}
 use Rattle.admin_mgr.specs.RbacState.{empty_state}
 use Rattle.admin_mgr.specs.StoredSets.{is_among}
 use Rattle.admin_mgr.proofs.StateAfter.EmptyLaws.{empty_has_no_row}
-use Rattle.access_index.proofs.BarLaws.{empty_alone}
+use Rattle.access_index.proofs.BarLaws.{empty_alone, empty_bars_none}
 use Rattle.access_index.specs.declared.index.AccessIndex.{AccessIndex}
 use Rattle.bit_tables.specs.declared.table.BitTable.{BitTable}
 use Rattle.bit_tables.specs.declared.pair_table.PairTable.{PairTable}
-use Rattle.bit_tables.specs.Tables.{has_at, has_pair}
+use Rattle.bit_tables.specs.Tables.{has_at, has_pair, is_in, row_at}
 use Rattle.access_index.specs.Following.{Follow}
-use Rattle.access_index.specs.Index.{AreTurned, Rows, Keeps, no_rows, rows_of, number_of, is_used, is_below, is_below_number, assigned_bits, session_bits, grant_bits, junior_bits, is_assigned, is_activated, is_granted, is_junior}
+use Rattle.access_index.specs.Index.{AreTurned, Rows, Keeps, no_rows, rows_of, number_of, is_used, is_below, is_below_number, assigned_bits, session_bits, grant_bits, junior_bits, is_assigned, is_activated, is_granted, is_junior, row_by_set}
 use Rattle.access_index.specs.private.Changing.{IsNowhere, rows_by}
-use Rattle.bit_tables.proofs.ByName.{same_bytes, same_pair}
+use Rattle.bit_tables.proofs.ByName.{same_bytes, same_pair, updated_here, updated_other}
 use Rattle.access_index.proofs.FollowLaws.{some-is, follow_put, follow_take, follow_more, follow_less, numbers_more, numbers_less}
 use Rattle.access_index.proofs.RowLaws.{or_false, put_here, put_apart, put_other, taken_here, taken_apart, taken_other, taken_absent, pair_differs, grant_differs}
 
@@ -44,8 +47,9 @@ barred_same number used None fact fact' equal follow = tt
 barred_same number used (Some r) fact fact' equal follow = follow_same {X = Unit {0}} number used (λ _. has r) (λ _. fact) (λ _. fact') (λ _. equal) follow
 
 -- an index keeps rows that are the same
-pub keeps_same : (index : AccessIndex) (rows rows' : Rows) → ((row : Row) → rows'.stored row ≡ rows.stored row) → ((role : Bytes) → rows'.barred role ≡ rows.barred role) → Keeps index rows → Keeps index rows'
-keeps_same index rows rows' equal barred keeps = record {
+pub keeps_same : (index : AccessIndex) (rows rows' : Rows) → ((row : Row) → rows'.stored row ≡ rows.stored row) → ((role : Bytes) → rows'.barred role ≡ rows.barred role) → ((set role : Bytes) → rows'.barred_by set role ≡ rows.barred_by set role)
+    → Keeps index rows → Keeps index rows'
+keeps_same index rows rows' equal barred barred_by keeps = record {
   numbers = keeps.numbers;
   assigned = follow_same (number_of index) (is_used index) (assigned_bits index) (is_assigned rows) (is_assigned rows') (λ user role. equal _) keeps.assigned;
   sessions = follow_same (number_of index) (is_used index) (session_bits index) (is_activated rows) (is_activated rows') (λ session role. equal _) keeps.sessions;
@@ -54,11 +58,14 @@ keeps_same index rows rows' equal barred keeps = record {
   clear = keeps.clear;
   turned = keeps.turned;
   barred = barred_same (number_of index) (is_used index) index.barred rows.barred rows'.barred barred keeps.barred;
+  barred_by = λ set. barred_same (number_of index) (is_used index) (row_by_set index set) (rows.barred_by set) (rows'.barred_by set) (barred_by set) (keeps.barred_by set);
 }
 
--- an index that doesn't know which roles are barred keeps the same rows with any
-pub keeps_unknown : (index : AccessIndex) (rows : Rows) (barred : Bytes → Bool) → Keeps index rows → Keeps (record index { barred = None }) (record rows { barred = barred })
-keeps_unknown index rows barred keeps = record {
+-- an index that knows less about barred roles keeps the same rows with others barred, as far as it knows them
+pub keeps_forgotten : (index new : AccessIndex) (rows : Rows) (barred : Bytes → Bool) (barred_by : Bytes → Bytes → Bool) → new ≡ record index { barred = None; by_set = new.by_set }
+    → ((set : Bytes) → IfSome (row_by_set new set) (λ row. (row_by_set index set ≡ Some row) × ((role : Bytes) → barred_by set role ≡ rows.barred_by set role)))
+    → Keeps index rows → Keeps new (record rows { barred = barred; barred_by = barred_by })
+keeps_forgotten index new rows barred barred_by same known keeps = subst (λ i. Keeps i (record rows { barred = barred; barred_by = barred_by })) (sym same) (record {
   numbers = keeps.numbers;
   assigned = keeps.assigned;
   sessions = keeps.sessions;
@@ -67,7 +74,15 @@ keeps_unknown index rows barred keeps = record {
   clear = keeps.clear;
   turned = keeps.turned;
   barred = tt;
-}
+  barred_by = λ set. at set (row_by_set new set) (known set);
+})
+  where
+    at : (set : Bytes) (row : Option BitRow) → IfSome row (λ r. (row_by_set index set ≡ Some r) × ((role : Bytes) → barred_by set role ≡ rows.barred_by set role))
+        → IfSome row (λ r. Follow (Unit {0}) (number_of index) (is_used index) (λ _. has r) (λ _. barred_by set))
+    at set None is = tt
+    at set (Some r) (is, equal) =
+        barred_same (number_of index) (is_used index) (Some r) (rows.barred_by set) (barred_by set) equal
+        (subst (λ row. IfSome row (λ r. Follow (Unit {0}) (number_of index) (is_used index) (λ _. has r) (λ _. rows.barred_by set))) is (keeps.barred_by set))
 
 -- an index with a row of the barred roles
 pub keeps_barred : (index : AccessIndex) (rows : Rows) (row : Option BitRow) → IfSome row (λ r. Follow (Unit {0}) (number_of index) (is_used index) (λ _. has r) (λ _. rows.barred)) → Keeps index rows → Keeps (record index { barred = row }) rows
@@ -80,6 +95,46 @@ keeps_barred index rows row follow keeps = record {
   clear = keeps.clear;
   turned = keeps.turned;
   barred = follow;
+  barred_by = keeps.barred_by;
+}
+
+-- an index with one more row of the roles that a set bars
+pub keeps_counted : (index other : AccessIndex) (rows : Rows) (name : Bytes) (row : BitRow) → ((set : Bytes) → row_by_set other set ≡ update bytes_eq (row_by_set index) name (Some row) set)
+    → Follow (Unit {0}) (number_of index) (is_used index) (λ _. has row) (λ _. rows.barred_by name) → Keeps index rows → Keeps (record index { by_set = other.by_set }) rows
+keeps_counted index other rows name row changed follow keeps = record {
+  numbers = keeps.numbers;
+  assigned = keeps.assigned;
+  sessions = keeps.sessions;
+  grants = keeps.grants;
+  juniors = keeps.juniors;
+  clear = keeps.clear;
+  turned = keeps.turned;
+  barred = keeps.barred;
+  barred_by = λ set. elim (same_bytes set name) [
+    | inl same ↦
+        subst (λ x. IfSome (row_by_set other x) (λ r. Follow (Unit {0}) (number_of index) (is_used index) (λ _. has r) (λ _. rows.barred_by x))) (sym same)
+        (subst (λ o. IfSome o (λ r. Follow (Unit {0}) (number_of index) (is_used index) (λ _. has r) (λ _. rows.barred_by name))) (sym (updated_here (row_by_set index) (row_by_set other) name (Some row) changed)) follow)
+    | inr differ ↦
+        subst (λ o. IfSome o (λ r. Follow (Unit {0}) (number_of index) (is_used index) (λ _. has r) (λ _. rows.barred_by set))) (sym (updated_other (row_by_set index) (row_by_set other) name (Some row) changed set differ)) (keeps.barred_by set)
+  ];
+}
+
+-- an index with a table that has the same rows
+pub keeps_fitted : (index : AccessIndex) (rows : Rows) (table : BitTable) → ((user : Bytes) → row_at table user ≡ row_at index.assigned user) → Keeps index rows → Keeps (record index { assigned = table }) rows
+keeps_fitted index rows table same keeps = record {
+  numbers = keeps.numbers;
+  assigned = record {
+    same = λ user role n at. ap (λ row. is_in row n) (same user) ∙ keeps.assigned.same user role n at;
+    unused = λ user n out. ap (λ row. is_in row n) (same user) ∙ keeps.assigned.unused user n out;
+    numbered = keeps.assigned.numbered;
+  };
+  sessions = keeps.sessions;
+  grants = keeps.grants;
+  juniors = keeps.juniors;
+  clear = keeps.clear;
+  turned = keeps.turned;
+  barred = keeps.barred;
+  barred_by = keeps.barred_by;
 }
 
 -- ---- an assigned role
@@ -98,6 +153,7 @@ module _ (index : AccessIndex) (rows : Rows) (keeps : Keeps index rows) (session
     clear = keeps.clear;
     turned = keeps.turned;
     barred = keeps.barred;
+    barred_by = keeps.barred_by;
   }
 
   pub keeps_take_assigned : has_at table session n ≡ false → Keeps (record index { assigned = table }) (rows_by rows (Take (PairRow ASSIGNMENT session role)))
@@ -112,6 +168,7 @@ module _ (index : AccessIndex) (rows : Rows) (keeps : Keeps index rows) (session
     clear = keeps.clear;
     turned = keeps.turned;
     barred = keeps.barred;
+    barred_by = keeps.barred_by;
   }
 
 -- ---- an activated role
@@ -130,6 +187,7 @@ module _ (index : AccessIndex) (rows : Rows) (keeps : Keeps index rows) (session
     clear = keeps.clear;
     turned = keeps.turned;
     barred = keeps.barred;
+    barred_by = keeps.barred_by;
   }
 
   pub keeps_take_activated : has_at table session n ≡ false → Keeps (record index { sessions = table }) (rows_by rows (Take (PairRow ACTIVATED_ROLE session role)))
@@ -144,6 +202,7 @@ module _ (index : AccessIndex) (rows : Rows) (keeps : Keeps index rows) (session
     clear = keeps.clear;
     turned = keeps.turned;
     barred = keeps.barred;
+    barred_by = keeps.barred_by;
   }
 
 -- ---- a grant
@@ -165,6 +224,7 @@ module _ (index : AccessIndex) (rows : Rows) (keeps : Keeps index rows) (object 
     clear = keeps.clear;
     turned = keeps.turned;
     barred = keeps.barred;
+    barred_by = keeps.barred_by;
   }
 
   pub keeps_take_grant : has_pair table object operation n ≡ false → Keeps (record index { grants = table }) (rows_by rows (Take (GrantRow object operation role)))
@@ -179,6 +239,7 @@ module _ (index : AccessIndex) (rows : Rows) (keeps : Keeps index rows) (object 
     clear = keeps.clear;
     turned = keeps.turned;
     barred = keeps.barred;
+    barred_by = keeps.barred_by;
   }
 
 -- ---- a closure pair
@@ -216,6 +277,7 @@ module _ (index new : AccessIndex) (rows : Rows) (keeps : Keeps index rows) (sen
     clear = clear_others;
     turned = turned;
     barred = keeps.barred;
+    barred_by = keeps.barred_by;
   }
 
   pub keeps_take_junior : is_below new.juniors.items i j ≡ false → Keeps (record index { juniors = new.juniors; seniors = new.seniors }) (rows_by rows (Take (PairRow CLOSURE_PAIR senior junior)))
@@ -231,6 +293,7 @@ module _ (index new : AccessIndex) (rows : Rows) (keeps : Keeps index rows) (sen
     clear = clear_others;
     turned = turned;
     barred = keeps.barred;
+    barred_by = keeps.barred_by;
   }
 
 -- ---- a row that the index doesn't have, and a take of what has no number
@@ -246,8 +309,8 @@ module _ (index : AccessIndex) (rows rows' : Rows) (keeps : Keeps index rows) wh
   -- the index keeps rows that have the same assignments, activated roles, grants and closure pairs, and the same barred roles
   pub keeps_alike : ((user role : Bytes) → is_assigned rows' user role ≡ is_assigned rows user role) → ((session role : Bytes) → is_activated rows' session role ≡ is_activated rows session role)
       → ((p : Pair) (role : Bytes) → is_granted rows' p role ≡ is_granted rows p role) → ((senior role : Bytes) → is_junior rows' senior role ≡ is_junior rows senior role)
-      → ((role : Bytes) → rows'.barred role ≡ rows.barred role) → Keeps index rows'
-  keeps_alike assigned sessions grants juniors barred = record {
+      → ((role : Bytes) → rows'.barred role ≡ rows.barred role) → ((set role : Bytes) → rows'.barred_by set role ≡ rows.barred_by set role) → Keeps index rows'
+  keeps_alike assigned sessions grants juniors barred barred_by = record {
     numbers = keeps.numbers;
     assigned = follow_same (number_of index) (is_used index) (assigned_bits index) (is_assigned rows) (is_assigned rows') assigned keeps.assigned;
     sessions = follow_same (number_of index) (is_used index) (session_bits index) (is_activated rows) (is_activated rows') sessions keeps.sessions;
@@ -256,6 +319,7 @@ module _ (index : AccessIndex) (rows rows' : Rows) (keeps : Keeps index rows) wh
     clear = keeps.clear;
     turned = keeps.turned;
     barred = barred_same (number_of index) (is_used index) index.barred rows.barred rows'.barred barred keeps.barred;
+    barred_by = λ set. barred_same (number_of index) (is_used index) (row_by_set index set) (rows.barred_by set) (rows'.barred_by set) (barred_by set) (keeps.barred_by set);
   }
 
 pub keeps_put_other : (index : AccessIndex) (rows : Rows) → Keeps index rows → (row : Row) → IsOther row → Keeps index (rows_by rows (Put row))
@@ -265,7 +329,7 @@ keeps_put_other index rows keeps row other =
     (λ session role. put_apart rows row (PairRow ACTIVATED_ROLE session role) (other.activated session role))
     (λ p role. put_apart rows row (GrantRow p.0 p.1 role) (other.granted p.0 p.1 role))
     (λ senior role. put_apart rows row (PairRow CLOSURE_PAIR senior role) (other.junior senior role))
-    (λ role. refl)
+    (λ role. refl) (λ set role. refl)
 
 pub keeps_take_other : (index : AccessIndex) (rows : Rows) → Keeps index rows → (row : Row) → IsOther row → Keeps index (rows_by rows (Take row))
 keeps_take_other index rows keeps row other =
@@ -274,11 +338,11 @@ keeps_take_other index rows keeps row other =
     (λ session role. taken_apart rows row (PairRow ACTIVATED_ROLE session role) (other.activated session role))
     (λ p role. taken_apart rows row (GrantRow p.0 p.1 role) (other.granted p.0 p.1 role))
     (λ senior role. taken_apart rows row (PairRow CLOSURE_PAIR senior role) (other.junior senior role))
-    (λ role. refl)
+    (λ role. refl) (λ set role. refl)
 
 -- a row that isn't there is taken
 pub keeps_take_absent : (index : AccessIndex) (rows : Rows) → Keeps index rows → (row : Row) → rows.stored row ≡ false → Keeps index (rows_by rows (Take row))
-keeps_take_absent index rows keeps row absent = keeps_same index rows (rows_by rows (Take row)) (taken_absent rows row absent) (λ role. refl) keeps
+keeps_take_absent index rows keeps row absent = keeps_same index rows (rows_by rows (Take row)) (taken_absent rows row absent) (λ role. refl) (λ set role. refl) keeps
 
 -- a role without a number is assigned to no user, activated in no session, granted nothing, and no junior of a role
 module _ (index : AccessIndex) (rows : Rows) (keeps : Keeps index rows) (role : Bytes) (none : number_of index role ≡ None) where
@@ -338,7 +402,7 @@ module _ (index new : AccessIndex) (rows : Rows) (keeps : Keeps index rows) (rol
     (here : number_of new role ≡ Some n) (others : (other : Bytes) → other ≢ role → number_of new other ≡ number_of index other)
     (put : IsTrue (is_used new n)) (kept : (m : ℕ) → m ≢ n → is_used new m ≡ is_used index m)
     (same_assigned : new.assigned ≡ index.assigned) (same_sessions : new.sessions ≡ index.sessions) (same_grants : new.grants ≡ index.grants)
-    (same_juniors : new.juniors ≡ index.juniors) (same_seniors : new.seniors ≡ index.seniors) (same_barred : new.barred ≡ index.barred) where
+    (same_juniors : new.juniors ≡ index.juniors) (same_seniors : new.seniors ≡ index.seniors) (same_barred : new.barred ≡ index.barred) (same_by_set : new.by_set ≡ index.by_set) where
   bits_at : (x : Bytes) (m : ℕ) → is_below_number index.juniors.items (number_of new x) m ≡ junior_bits index x m
   bits_at x m = elim (same_bytes x role) [
     | inl same ↦
@@ -351,13 +415,13 @@ module _ (index new : AccessIndex) (rows : Rows) (keeps : Keeps index rows) (rol
   turned_same : AreTurned new.juniors.items new.seniors.items
   turned_same i j = ap (λ v. is_below v.items j i) same_seniors ∙ keeps.turned i j ∙ sym (ap (λ v. is_below v.items i j) same_juniors)
 
-  barred_more : (row row' : Option BitRow) → row ≡ row' → IfSome row (λ r. Follow (Unit {0}) (number_of index) (is_used index) (λ _. has r) (λ _. rows.barred))
-      → IfSome row' (λ r. Follow (Unit {0}) (number_of new) (is_used new) (λ _. has r) (λ _. rows.barred))
-  barred_more None None same follow = tt
-  barred_more None (Some r) same follow = let clash : None ≡ Some r = same in cc
-  barred_more (Some r) None same follow = let clash : Some r ≡ None = same in cc
-  barred_more (Some r) (Some r') same follow =
-      follow_more same_bytes (number_of index) (number_of new) (is_used index) (is_used new) role n none free within here others put kept {X = Unit {0}} (λ _. has r) (λ _. has r') (λ _. rows.barred)
+  barred_more : (fact : Bytes → Bool) (row row' : Option BitRow) → row ≡ row' → IfSome row (λ r. Follow (Unit {0}) (number_of index) (is_used index) (λ _. has r) (λ _. fact))
+      → IfSome row' (λ r. Follow (Unit {0}) (number_of new) (is_used new) (λ _. has r) (λ _. fact))
+  barred_more fact None None same follow = tt
+  barred_more fact None (Some r) same follow = let clash : None ≡ Some r = same in cc
+  barred_more fact (Some r) None same follow = let clash : Some r ≡ None = same in cc
+  barred_more fact (Some r) (Some r') same follow =
+      follow_more same_bytes (number_of index) (number_of new) (is_used index) (is_used new) role n none free within here others put kept {X = Unit {0}} (λ _. has r) (λ _. has r') (λ _. fact)
       (λ _ m. ap (λ row. has row m) (sym (some-is r r' same))) follow
 
   pub keeps_numbered : Keeps new rows
@@ -371,7 +435,8 @@ module _ (index new : AccessIndex) (rows : Rows) (keeps : Keeps index rows) (rol
         juniors = more Bytes (junior_bits index) (junior_bits new) (is_junior rows) (λ x m. ap (λ v. is_below_number v.items (number_of new x) m) same_juniors ∙ bits_at x m) keeps.juniors;
         clear = λ k m is. ap (λ v. is_below v.items k m) same_juniors ∙ keeps.clear k m (unused_before k is);
         turned = turned_same;
-        barred = barred_more index.barred new.barred (sym same_barred) keeps.barred;
+        barred = barred_more rows.barred index.barred new.barred (sym same_barred) keeps.barred;
+        barred_by = λ set. barred_more (rows.barred_by set) (row_by_set index set) (row_by_set new set) (ap (λ sets. get_by_text sets set) (sym same_by_set)) (keeps.barred_by set);
       }
     where
       unused_before : (m : ℕ) → is_used new m ≡ false → is_used index m ≡ false
@@ -382,7 +447,7 @@ module _ (index new : AccessIndex) (rows : Rows) (keeps : Keeps index rows) (rol
     (gone : number_of new role ≡ None) (others : (other : Bytes) → other ≢ role → number_of new other ≡ number_of index other)
     (free : is_used new n ≡ false) (kept : (m : ℕ) → m ≢ n → is_used new m ≡ is_used index m)
     (same_assigned : new.assigned ≡ index.assigned) (same_sessions : new.sessions ≡ index.sessions) (same_grants : new.grants ≡ index.grants)
-    (same_juniors : new.juniors ≡ index.juniors) (same_seniors : new.seniors ≡ index.seniors) (same_barred : new.barred ≡ index.barred) where
+    (same_juniors : new.juniors ≡ index.juniors) (same_seniors : new.seniors ≡ index.seniors) (same_barred : new.barred ≡ index.barred) (same_by_set : new.by_set ≡ index.by_set) where
   -- the role has no juniors, so its row is empty
   own_row : (m : ℕ) → is_below index.juniors.items n m ≡ false
   own_row m = elim (cases_Bool (is_used index m)) [
@@ -403,14 +468,14 @@ module _ (index new : AccessIndex) (rows : Rows) (keeps : Keeps index rows) (rol
   freed_turned : AreTurned new.juniors.items new.seniors.items
   freed_turned i j = ap (λ v. is_below v.items j i) same_seniors ∙ keeps.turned i j ∙ sym (ap (λ v. is_below v.items i j) same_juniors)
 
-  barred_less : (row row' : Option BitRow) → row ≡ row' → IfSome row (λ r. Follow (Unit {0}) (number_of index) (is_used index) (λ _. has r) (λ _. rows.barred))
-      → IfSome row' (λ r. Follow (Unit {0}) (number_of new) (is_used new) (λ _. has r) (λ _. rows.barred))
-  barred_less None None same follow = tt
-  barred_less None (Some r) same follow = let clash : None ≡ Some r = same in cc
-  barred_less (Some r) None same follow = let clash : Some r ≡ None = same in cc
-  barred_less (Some r) (Some r') same follow =
-      follow_less same_bytes (number_of index) (number_of new) (is_used index) (is_used new) role n at gone others free kept {X = Unit {0}} (λ _. has r) (λ _. has r') (λ _. rows.barred)
-      (λ _ m. ap (λ row. has row m) (sym (some-is r r' same))) (λ _. nowhere.barred) follow
+  barred_less : (fact : Bytes → Bool) → fact role ≡ false → (row row' : Option BitRow) → row ≡ row' → IfSome row (λ r. Follow (Unit {0}) (number_of index) (is_used index) (λ _. has r) (λ _. fact))
+      → IfSome row' (λ r. Follow (Unit {0}) (number_of new) (is_used new) (λ _. has r) (λ _. fact))
+  barred_less fact not_role None None same follow = tt
+  barred_less fact not_role None (Some r) same follow = let clash : None ≡ Some r = same in cc
+  barred_less fact not_role (Some r) None same follow = let clash : Some r ≡ None = same in cc
+  barred_less fact not_role (Some r) (Some r') same follow =
+      follow_less same_bytes (number_of index) (number_of new) (is_used index) (is_used new) role n at gone others free kept {X = Unit {0}} (λ _. has r) (λ _. has r') (λ _. fact)
+      (λ _ m. ap (λ row. has row m) (sym (some-is r r' same))) (λ _. not_role) follow
 
   pub keeps_freed : Keeps new rows
   keeps_freed =
@@ -426,14 +491,15 @@ module _ (index new : AccessIndex) (rows : Rows) (keeps : Keeps index rows) (rol
           | inr differ ↦ keeps.clear k m (sym (kept k differ) ∙ is)
         ];
         turned = freed_turned;
-        barred = barred_less index.barred new.barred (sym same_barred) keeps.barred;
+        barred = barred_less rows.barred nowhere.barred index.barred new.barred (sym same_barred) keeps.barred;
+        barred_by = λ set. barred_less (rows.barred_by set) (nowhere.barred_by set) (row_by_set index set) (row_by_set new set) (ap (λ sets. get_by_text sets set) (sym same_by_set)) (keeps.barred_by set);
       }
 
 -- the empty index keeps no rows
 pub keeps_none : (index : AccessIndex) → ((role : Bytes) → number_of index role ≡ None) → ((n : ℕ) → is_used index n ≡ false) → ((user : Bytes) (n : ℕ) → assigned_bits index user n ≡ false)
     → ((session : Bytes) (n : ℕ) → session_bits index session n ≡ false) → ((p : Pair) (n : ℕ) → grant_bits index p n ≡ false) → ((i j : ℕ) → is_below index.juniors.items i j ≡ false)
-    → ((i j : ℕ) → is_below index.seniors.items i j ≡ false) → IfSome index.barred (λ row. (n : ℕ) → has row n ≡ false) → Keeps index no_rows
-keeps_none index numbers used assigned sessions grants juniors seniors barred =
+    → ((i j : ℕ) → is_below index.seniors.items i j ≡ false) → IfSome index.barred (λ row. (n : ℕ) → has row n ≡ false) → ((set : Bytes) → row_by_set index set ≡ None) → Keeps index no_rows
+keeps_none index numbers used assigned sessions grants juniors seniors barred by_set =
     record {
       numbers = record {
         within = λ role n is. absurd (no role n is);
@@ -448,6 +514,7 @@ keeps_none index numbers used assigned sessions grants juniors seniors barred =
       clear = λ i j is. juniors i j;
       turned = λ i j. seniors j i ∙ sym (juniors i j);
       barred = empty_row index.barred barred;
+      barred_by = λ set. subst (λ row. IfSome row (λ r. Follow (Unit {0}) (number_of index) (is_used index) (λ _. has r) (λ _ role. false))) (sym (by_set set)) tt;
     }
   where
     no : (role : Bytes) (n : ℕ) → number_of index role ≡ Some n → ⊥
@@ -462,20 +529,20 @@ keeps_none index numbers used assigned sessions grants juniors seniors barred =
 
 -- it is the index of a state without rows
 pub keeps_empty : (index : AccessIndex) → Keeps index no_rows → (version : ℕ) → Keeps index (rows_of (empty_state version))
-keeps_empty index keeps version = keeps_same index no_rows (rows_of (empty_state version)) (λ row. empty_has_no_row version row) (λ role. ap not (empty_alone version role)) keeps
+keeps_empty index keeps version = keeps_same index no_rows (rows_of (empty_state version)) (λ row. empty_has_no_row version row) (λ role. ap not (empty_alone version role)) (empty_bars_none version) keeps
 
 -- ---- rows put one after the other
 
--- rows by a list of them
-abbrev pub among : List Row → (Bytes → Bool) → Rows
-among rows barred = record { stored = is_among rows; barred = barred }
+-- rows by a list of them, of which no role is barred
+abbrev pub among : List Row → Rows
+among rows = record { stored = is_among rows; barred = λ role. false; barred_by = λ set role. false }
 
 -- the index keeps the rows up to a place, and with the row there those up to the next
-pub keeps_more : (index : AccessIndex) (rows : List Row) (barred : Bytes → Bool) (i : ℕ) (row : Row) → i < length rows → row ≡ get_or rows i row → Keeps index (rows_by (among (take i rows) barred) (Put row)) → Keeps index (among (take (i + 1) rows) barred)
-keeps_more index rows barred i row within is keeps =
-    keeps_same index (rows_by (among (take i rows) barred) (Put row)) (among (take (i + 1) rows) barred)
+pub keeps_more : (index : AccessIndex) (rows : List Row) (i : ℕ) (row : Row) → i < length rows → row ≡ get_or rows i row → Keeps index (rows_by (among (take i rows)) (Put row)) → Keeps index (among (take (i + 1) rows))
+keeps_more index rows i row within is keeps =
+    keeps_same index (rows_by (among (take i rows)) (Put row)) (among (take (i + 1) rows))
     (λ other.
     ap (λ l. is_among l other) (take_more rows i row within)
     ∙ list_any-append (λ (r : Row). same_row r other) (take i rows) (get_or rows i row ∷ [])
     ∙ ap (λ b. is_among (take i rows) other || b) (or_false (same_row (get_or rows i row) other) ∙ ap (λ r. same_row r other) (sym is)))
-    (λ role. refl) keeps
+    (λ role. refl) (λ set role. refl) keeps

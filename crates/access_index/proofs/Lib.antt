@@ -1,6 +1,7 @@
 pub mod BarLaws
 pub mod FindLaws
 pub mod FollowLaws
+pub mod ForgetLaws
 pub mod IndexLaws
 pub mod LevelLaws
 pub mod PlanLaws

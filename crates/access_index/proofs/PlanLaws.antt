@@ -50,14 +50,20 @@ rows_after_are (Put first ∷ changes) rows row takes =
     rows_after_are changes (rows_by rows (Put first)) row takes.1
     ∙ put_first (rows.stored row) (same_row first row) (is_taken changes row) (is_put changes row) (takes.0 row)
 
-pub rows_of_plan : (S T : RbacState) (changes : List Change) → Turns S changes T → (barred : Bytes → Bool) (row : Row) → has_row T row ≡ (rows_after (record { stored = has_row S; barred = barred }) changes).stored row
-rows_of_plan S T changes turns barred row = turns.rows row ∙ sym (rows_after_are changes (record { stored = has_row S; barred = barred }) row turns.takes_first)
+pub rows_of_plan : (S T : RbacState) (changes : List Change) → Turns S changes T → (barred : Bytes → Bool) (barred_by : Bytes → Bytes → Bool) (row : Row)
+    → has_row T row ≡ (rows_after (record { stored = has_row S; barred = barred; barred_by = barred_by }) changes).stored row
+rows_of_plan S T changes turns barred barred_by row = turns.rows row ∙ sym (rows_after_are changes (record { stored = has_row S; barred = barred; barred_by = barred_by }) row turns.takes_first)
 
 -- changes don't say which roles are barred
 pub barred_after : (changes : List Change) (rows : Rows) → (rows_after rows changes).barred ≡ rows.barred
 barred_after [] rows = refl
 barred_after (Put row ∷ changes) rows = barred_after changes (rows_by rows (Put row))
 barred_after (Take row ∷ changes) rows = barred_after changes (rows_by rows (Take row))
+
+pub barred_by_after : (changes : List Change) (rows : Rows) → (rows_after rows changes).barred_by ≡ rows.barred_by
+barred_by_after [] rows = refl
+barred_by_after (Put row ∷ changes) rows = barred_by_after changes (rows_by rows (Put row))
+barred_by_after (Take row ∷ changes) rows = barred_by_after changes (rows_by rows (Take row))
 
 -- a role that is taken is gone
 pub taken_gone : (S T : RbacState) (changes : List Change) → Turns S changes T → (row : Row) → is_taken changes row ≡ true → has_row T row ≡ false
@@ -90,9 +96,10 @@ pub no_junior : (S : RbacState) → IsWellFormed S → (role : Bytes) → has_ro
 unfolding has_row
 no_junior S well_formed role gone junior = false_from_ne_true (is_above S role junior) (λ is. true≢false (sym (above_is_role S well_formed role junior is).0 ∙ gone))
 
-pub nowhere : (S : RbacState) → IsWellFormed S → (role : Bytes) → has_row S (NameRow ROLE role) ≡ false → (barred : Bytes → Bool) → barred role ≡ false → IsNowhere (record { stored = has_row S; barred = barred }) role
+pub nowhere : (S : RbacState) → IsWellFormed S → (role : Bytes) → has_row S (NameRow ROLE role) ≡ false → (barred : Bytes → Bool) (barred_by : Bytes → Bytes → Bool) → barred role ≡ false → ((set : Bytes) → barred_by set role ≡ false)
+    → IsNowhere (record { stored = has_row S; barred = barred; barred_by = barred_by }) role
 unfolding has_row
-nowhere S well_formed role gone barred stands =
+nowhere S well_formed role gone barred barred_by stands by_none =
     let none : IsTrue (contains S.roles role) → ⊥ = λ is. true≢false (sym is ∙ gone) in
     record {
       assigned = λ user. false_from_ne_true (contains S.assignments (user, role)) (λ is. none (well_formed.assignments user role is).1);
@@ -101,6 +108,7 @@ nowhere S well_formed role gone barred stands =
       senior = λ junior. false_from_ne_true (is_above S role junior) (λ is. none (above_is_role S well_formed role junior is).0);
       junior = λ senior. false_from_ne_true (is_above S senior role) (λ is. none (above_is_role S well_formed senior role is).1);
       barred = stands;
+      barred_by = by_none;
     }
 
 -- ---- one change after another

@@ -1,14 +1,15 @@
 -- What an index for decisions has to do with the rows of a state.
-use Rattle.std.specs.Prelude.{◌≡◌, ℕ, Bool, false, not, Option, Some, None, List, IfSome}
+use Rattle.std.specs.Prelude.{◌≡◌, ◌&&◌, ℕ, Bool, false, not, nat_lt, Option, Some, None, List, IfSome}
 use Rattle.std.specs.List.{slice_get}
 use Rattle.std.specs.HashMap.{get_by_text}
 use Rattle.bit_rows.specs.declared.row.BitRow.{BitRow}
 use Rattle.bit_rows.specs.Rows.{has}
-use Rattle.rbac_sets.specs.Sets.{Bytes, Pair}
+use Rattle.rbac_sets.specs.Sets.{Bytes, Pair, Cardinality, any, count, same_name}
 use Rattle.rbac_sets.specs.declared.row.Row.{Row}
 use Rattle.rbac_sets.specs.declared.row.Row.TheVariants.{PairRow, GrantRow}
 use Rattle.rbac_sets.specs.declared.row.TheConstants.Row.{ASSIGNMENT, CLOSURE_PAIR, ACTIVATED_ROLE}
-use Rattle.admin_mgr.specs.RbacState.{RbacState}
+use Rattle.role_order.specs.Order.{geq}
+use Rattle.admin_mgr.specs.RbacState.{RbacState, members_of}
 use Rattle.admin_mgr.specs.Rows.{has_row}
 use Rattle.admin_mgr.specs.UserAccess.{stands_alone}
 use Rattle.bit_tables.specs.Tables.{has_at, has_pair, is_in}
@@ -49,18 +50,28 @@ grant_bits index permission n = has_pair index.grants permission.0 permission.1 
 abbrev pub junior_bits : AccessIndex → Bytes → ℕ → Bool
 junior_bits index senior n = is_below_number index.juniors.items (number_of index senior) n
 
--- rows, by the test whether a row is one of them, and the roles that are barred
+-- the row of the roles that a dynamic separation of duty set bars, if it is known
+abbrev pub row_by_set : AccessIndex → Bytes → Option BitRow
+row_by_set index set = get_by_text index.by_set set
+
+-- whether the dynamic separation of duty set of this name bars the role: the role and its juniors are as many roles of the set as
+-- its cardinality, or more
+unfoldable pub is_barred_by : RbacState → Bytes → Bytes → Bool
+is_barred_by S set role = any (λ (entry : Cardinality). same_name entry.0 set && not (nat_lt (count (geq S.edges role) (members_of S.dsd set)) entry.1)) S.dsd.cardinalities
+
+-- rows, by the test whether a row is one of them, the roles that are barred, and those that each dynamic set bars
 pub record Rows : Type 0 where
   pub stored : Row → Bool
   pub barred : Bytes → Bool
+  pub barred_by : Bytes → Bytes → Bool
 
 -- no rows, and no barred role
 abbrev pub no_rows : Rows
-no_rows = record { stored = λ row. false; barred = λ role. false }
+no_rows = record { stored = λ row. false; barred = λ role. false; barred_by = λ set role. false }
 
 -- The rows of a state. A role is barred if it violates a dynamic separation of duty set alone: no session may have it.
 abbrev pub rows_of : RbacState → Rows
-rows_of S = record { stored = has_row S; barred = λ role. not (stands_alone S role) }
+rows_of S = record { stored = has_row S; barred = λ role. not (stands_alone S role); barred_by = is_barred_by S }
 
 abbrev pub is_assigned : Rows → Bytes → Bytes → Bool
 is_assigned rows user role = rows.stored (PairRow ASSIGNMENT user role)
@@ -74,8 +85,8 @@ is_granted rows permission role = rows.stored (GrantRow permission.0 permission.
 abbrev pub is_junior : Rows → Bytes → Bytes → Bool
 is_junior rows senior role = rows.stored (PairRow CLOSURE_PAIR senior role)
 
--- The index has the assignments, the activated roles, the grants and the closure pairs of these rows, and the barred roles if it
--- knows them. The row of a number that isn't used is empty.
+-- The index has the assignments, the activated roles, the grants and the closure pairs of these rows, the barred roles if it
+-- knows them, and those that a dynamic set bars if it knows them. The row of a number that isn't used is empty.
 pub record Keeps (index : AccessIndex) (rows : Rows) : Type 0 where
   pub numbers : AreNumbers (number_of index) (is_used index)
   pub assigned : Follow Bytes (number_of index) (is_used index) (assigned_bits index) (is_assigned rows)
@@ -85,6 +96,7 @@ pub record Keeps (index : AccessIndex) (rows : Rows) : Type 0 where
   pub clear : (i j : ℕ) → is_used index i ≡ false → is_below index.juniors.items i j ≡ false
   pub turned : AreTurned index.juniors.items index.seniors.items
   pub barred : IfSome index.barred (λ row. Follow (Unit {0}) (number_of index) (is_used index) (λ _. has row) (λ _. rows.barred))
+  pub barred_by : (set : Bytes) → IfSome (row_by_set index set) (λ row. Follow (Unit {0}) (number_of index) (is_used index) (λ _. has row) (λ _. rows.barred_by set))
 
 -- the index has the rows of the state
 abbrev pub Indexes : AccessIndex → RbacState → Type 0

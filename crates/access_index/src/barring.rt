@@ -1,7 +1,7 @@
 //! The barred roles: each of them violates a dynamic separation of duty set alone, so that no session may have it.
-ghost use Rattle.std.specs.Prelude.{◌≡◌, ◌≢◌, ◌<◌, ◌&&◌, ◌||◌, ℕ, false, IfOk, IfErr, Some, vec_len};
+ghost use Rattle.std.specs.Prelude.{◌≡◌, ◌≢◌, ◌<◌, ◌≤◌, ◌&&◌, ◌||◌, ℕ, Bool, IsTrue, false, length, IfOk, IfErr, Some, vec_len};
 ghost use Rattle.std.specs.List.{list_any};
-ghost use Rattle.rbac_sets.specs.Sets.{members};
+ghost use Rattle.rbac_sets.specs.Sets.{Bytes, contains, members, same_name};
 ghost use Rattle.rbac_sets.specs.declared.row.Change.{Change as ChangeContent};
 ghost use Rattle.bit_rows.specs.Rows.{has};
 ghost use Rattle.admin_mgr.specs.RbacState.{RbacState};
@@ -10,9 +10,9 @@ ghost use Rattle.admin_mgr.specs.Good.{IsGood};
 ghost use Rattle.admin_mgr.specs.private.HolderRoles.{run_of};
 ghost use Rattle.access_index.specs.Following.{AreNumbers};
 ghost use Rattle.access_index.specs.Index.{Indexes, Keeps, Rows, is_below, is_used, number_of, rows_of};
-ghost use Rattle.access_index.specs.private.Barring.{AreBarred, at_least, can_bar, changed_row, has_members, is_member};
+ghost use Rattle.access_index.specs.private.Barring.{AreBarred, Forgets, at_least, can_bar, can_bar_by, changed_row, has_members, is_member};
 
-use crate::index::AccessIndex;
+use crate::index::{AccessIndex, reach};
 use admin_mgr::State;
 use bit_rows::{BitRow, WIDTH};
 use rbac_sets::{Change, Name, Refusal, Row};
@@ -32,32 +32,101 @@ impl AccessIndex {
         }
     }
 
-    // Forgets which roles are barred, if one of the changes could bar a role, or no longer bar one.
+    // Forgets which roles are barred, if one of the changes could bar a role, or no longer bar one: of the sets only those that
+    // the change could affect.
     pub(crate) fn forget_barred(&mut self, changes: &[Change])
         ensures keeps { (rows : Rows) → Keeps self.old rows → Keeps self.new rows }
-        ensures follows { (S T : RbacState) → Indexes self.old S → Turns S changes.now T → Keeps self.new (record (rows_of S) { barred = (rows_of T).barred }) }
+        ensures follows { (S T : RbacState) → Indexes self.old S → Turns S changes.now T → Keeps self.new (record (rows_of S) { barred = (rows_of T).barred; barred_by = (rows_of T).barred_by }) }
     {
         if some_can_bar(changes) {
             self.barred = None;
+            for change in changes {
+                self.forget_by_change(change);
+            }
         }
     }
 
-    // The numbers of the roles that are barred in the state.
-    fn barred_in(&self, alloc: Global, state: &State) -> Result<BitRow, Refusal>
-        requires indexes { Indexes self.now state.now.facts }
+    // Forgets which roles are barred by a set that the change could affect.
+    fn forget_by_change(&mut self, change: &Change)
+        ensures forgets { Forgets self.old self.new (λ set. can_bar_by set (changed_row change.now)) }
+        ensures rest { self.new ≡ record self.old { by_set = self.new.by_set } }
+    {
+        match change {
+            Change::Put(row) => self.forget_by_row(row),
+            Change::Take(row) => self.forget_by_row(row),
+        }
+    }
+
+    // Forgets which roles are barred by a set that a change of the row could affect: by each set if the row is a closure pair.
+    fn forget_by_row(&mut self, row: &Row)
+        ensures forgets { Forgets self.old self.new (λ set. can_bar_by set row.now) }
+        ensures rest { self.new ≡ record self.old { by_set = self.new.by_set } }
+    {
+        match row {
+            Row::PairRow(Row::CLOSURE_PAIR, _, _) => self.by_set.clear(),
+            Row::PairRow(Row::DYNAMIC_MEMBER, set, _) => self.forget_set(set),
+            Row::SetRow(Row::DYNAMIC_CARDINALITY, set, _) => self.forget_set(set),
+            _ => {}
+        }
+    }
+
+    // Forgets which roles the set bars.
+    fn forget_set(&mut self, set: &Name)
+        ensures forgets { Forgets self.old self.new (λ other. same_name set.now other) }
+        ensures rest { self.new ≡ record self.old { by_set = self.new.by_set } }
+    {
+        let _ = self.by_set.remove(set.as_str());
+    }
+
+    // Forgets which roles are barred.
+    pub(crate) fn forget_all_barred(&mut self)
+        ensures { (rows : Rows) (barred : Bytes → Bool) (barred_by : Bytes → Bytes → Bool) → Keeps self.old rows → Keeps self.new (record rows { barred = barred; barred_by = barred_by }) }
+    {
+        self.barred = None;
+        self.by_set.clear();
+    }
+
+    // The numbers of the roles that are barred in the state. Those that a set bars are counted if they aren't known.
+    fn barred_in(&mut self, alloc: Global, state: &State) -> Result<BitRow, Refusal>
+        requires indexes { Indexes self.old state.now.facts }
         requires good { IsGood state.now.facts }
-        ensures ok { IfOk result (λ row. AreBarred self.now state.now.facts row) }
+        ensures keeps { Indexes self.new state.now.facts }
+        ensures ok { IfOk result (λ row. AreBarred self.new state.now.facts row) }
         ensures cause { IfErr result (λ refusal. refusal ≡ Refusal.Memory) }
     {
         let mut barred = BitRow::empty();
         for set in dynamic_sets(state) {
-            let row = self.with_members(alloc, members_of(state, &set.0), set.1)?;
+            let row = self.barred_by(alloc, state, set)?;
             barred.put_common(&row, &row);
         }
         Ok(barred)
     }
 
-    // The numbers of the roles that have at least so many of the members, pairs (set, role): the role itself or its juniors.
+    // The numbers of the roles that the set bars, which are counted if they aren't known.
+    fn barred_by(
+        &mut self,
+        alloc: Global,
+        state: &State,
+        set: &(Name, u32),
+    ) -> Result<BitRow, Refusal>
+        requires indexes { Indexes self.old state.now.facts }
+        requires good { IsGood state.now.facts }
+        requires set { IsTrue (contains state.now.facts.dsd.cardinalities set.now) }
+        ensures keeps { Indexes self.new state.now.facts }
+        ensures rest { self.new ≡ record self.old { by_set = self.new.by_set } }
+        ensures ok { IfOk result (λ row. (n : ℕ) → has row n ≡ has_members self.old n (run_of state.now.facts.dsd.members set.now.0) set.now.1) }
+        ensures cause { IfErr result (λ refusal. refusal ≡ Refusal.Memory) }
+    {
+        if let Some(row) = self.by_set.get(set.0.as_str()) {
+            return Ok(*row);
+        }
+        let row = self.with_members(alloc, members_of(state, &set.0), set.1)?;
+        let key = String::from_str(alloc, set.0.as_str())?;
+        self.by_set.insert(key, row)?;
+        Ok(row)
+    }
+
+    // The numbers of the roles that with their juniors are `count` or more of the members, which are pairs (set, role).
     fn with_members(
         &self,
         alloc: Global,
@@ -69,14 +138,22 @@ impl AccessIndex {
         ensures ok { IfOk result (λ row. (n : ℕ) → has row n ≡ has_members self.now n members.now count) }
         ensures cause { IfErr result (λ refusal. refusal ≡ Refusal.Memory) }
     {
-        let mut levels = empty_rows(alloc, count)?;
+        let last = count as usize - 1;
+        let mut levels = Vec::with_capacity(alloc, count as usize)?;
+        let mut counted = 0;
         for member in members {
+            reach(&mut levels, counted.min(last))?;
+            counted += 1;
             if let Some(number) = self.number(&member.1) {
                 let row = self.own_and_seniors(number);
-                raise(&mut levels, &row);
+                raise(
+                    &mut levels,
+                    last.saturating_sub(members.len() - counted),
+                    &row,
+                );
             }
         }
-        Ok(row_at(&levels, count as usize - 1))
+        Ok(row_at(&levels, last))
     }
 
     // The number, and those of the role's seniors.
@@ -104,45 +181,27 @@ fn members_of<'a>(state: &'a State, set: &Name) -> &'a [(Name, Name)]
     state.dsd_members().with_first(set)
 }
 
-// So many empty rows.
-fn empty_rows(alloc: Global, count: u32) -> Result<Vec<BitRow>, Refusal>
-    ensures size { IfOk result (λ rows. vec_len rows ≡ count) }
-    ensures empty { IfOk result (λ rows. (i n : ℕ) → is_below rows.items i n ≡ false) }
-    ensures cause { IfErr result (λ refusal. refusal ≡ Refusal.Memory) }
-{
-    let mut rows = Vec::new(alloc);
-    for _ in 0..count {
-        rows.push(BitRow::empty())?;
-    }
-    Ok(rows)
-}
-
-// Counts the numbers of a row: a number is in as many of the levels, from the first on, as it was counted.
-fn raise(levels: &mut Vec<BitRow>, row: &BitRow)
+// Counts the numbers of a row in the levels from this one on: a number is in as many of the levels, from the first on, as it was
+// counted.
+fn raise(levels: &mut Vec<BitRow>, from: usize, row: &BitRow)
     ensures size { vec_len levels.new ≡ vec_len levels.old }
-    ensures raised { (i n : ℕ) → i < vec_len levels.old → is_below levels.new.items i n ≡ (is_below levels.old.items i n || (at_least levels.old.items i n && has row.now n)) }
+    ensures raised { (i n : ℕ) → from ≤ i → i < vec_len levels.old → is_below levels.new.items i n ≡ (is_below levels.old.items i n || (at_least levels.old.items i n && has row.now n)) }
 {
     let mut level = levels.len();
-    while level > 0 {
+    while level > from {
         level -= 1;
-        let common = common_below(levels, level, row);
         let mut raised = row_at(levels, level);
-        raised.put_common(&common, &common);
+        raised.put_common(level_before(levels, level, row), row);
         replace_row(levels, level, raised);
     }
 }
 
-// The numbers of the row that are in the level before this one. All are before the first.
-fn common_below(levels: &[BitRow], level: usize, row: &BitRow) -> BitRow
-    ensures { (n : ℕ) → has result n ≡ (at_least levels.now level n && has row.now n) }
+// The level before this one, or the row itself before the first level, which counts all numbers of the row.
+fn level_before<'a>(levels: &'a [BitRow], level: usize, row: &'a BitRow) -> &'a BitRow
+    requires { level ≤ length levels.now }
+    ensures { (n : ℕ) → (has result.now n && has row.now n) ≡ (at_least levels.now level n && has row.now n) }
 {
-    if level == 0 {
-        return *row;
-    }
-    let below = row_at(levels, level - 1);
-    let mut common = BitRow::empty();
-    common.put_common(&below, row);
-    common
+    if level == 0 { row } else { &levels[level - 1] }
 }
 
 // The row of this number, or the empty one if there are fewer.

@@ -27,10 +27,11 @@ impl AccessIndex {
         ensures cause { IfErr result (λ refusal. refusal ≡ Refusal.Memory) }
     {
         let mut index = AccessIndex::empty(alloc, seed);
-        index.barred = None;
         for row in rows {
             index.put_row(alloc, row)?;
         }
+        index.forget_all_barred();
+        index.assigned.fit();
         Ok(index)
     }
 

@@ -35,9 +35,9 @@ impl AccessIndex {
         Some(self.reaches(active, granted))
     }
 
-    /// Whether the user could do the operation on the object in some session, but for a lock: if some role is assigned to the
-    /// user, the permission is granted to some role, and it is known which roles are barred. Otherwise there is no decision. The
-    /// three may be any texts.
+    /// Whether the user could do the operation on the object in some session, whether or not the user is locked. There is a
+    /// decision if some role is assigned to the user, the permission is granted to some role, and it is known which roles are
+    /// barred. The three may be any texts.
     ///
     /// It doesn't allocate, and takes no longer if there are many users, sessions or permissions.
     pub fn find_for_user(&self, user: &str, operation: &str, object: &str) -> Option<bool>

@@ -32,6 +32,9 @@ pub struct AccessIndex {
     pub(crate) grants: PairTable,
     // The numbers of the barred roles, if they are known: each of them violates a dynamic separation of duty set alone.
     pub(crate) barred: Option<BitRow>,
+    // By dynamic separation of duty set the numbers of the roles that violate it alone, if they are known. There are so few sets
+    // that names that collide cost little, so the hash needs no secret.
+    pub(crate) by_set: HashMap<String, BitRow>,
 }
 
 impl AccessIndex {
@@ -49,6 +52,7 @@ impl AccessIndex {
             sessions: BitTable::new(alloc, seed),
             grants: PairTable::new(alloc, seed),
             barred: Some(BitRow::empty()),
+            by_set: HashMap::new(alloc),
         }
     }
 
@@ -150,7 +154,7 @@ fn take_bit(rows: &mut Vec<BitRow>, first: usize, second: usize)
 }
 
 // Appends empty rows until there is one of this number.
-fn reach(rows: &mut Vec<BitRow>, number: usize) -> Result<(), Refusal>
+pub(crate) fn reach(rows: &mut Vec<BitRow>, number: usize) -> Result<(), Refusal>
     ensures within { OnOk result (number < vec_len rows.new) }
     ensures same { OnOk result ((i j : ℕ) → is_below rows.new.items i j ≡ is_below rows.old.items i j) }
     ensures cause { IfErr result (λ refusal. refusal ≡ Refusal.Memory) }

@@ -4,7 +4,8 @@
 //! activated in it, one for each user, of the assigned roles, one for each permission, of the roles that it is granted to, and
 //! two for each role, of its juniors and of its seniors. A decision looks up two rows and compares bits. A change of one row of a
 //! state changes one bit or two. Only the row of the barred roles is built anew, after a change of the role hierarchy or of a
-//! dynamic separation of duty set.
+//! dynamic separation of duty set. There is a row for each set too: a change of a set counts that set again, and a change of the
+//! hierarchy all of them.
 //!
 //! # Example
 //!

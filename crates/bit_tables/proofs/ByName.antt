@@ -1,7 +1,8 @@
 -- Maps by names, after one change.
-use Rattle.std.proofs.Common.{◌≡◌, ◌≢◌, Bool, ◌⊎◌, List, [], ◌∷◌, String, length, string_bytes, inl, inr, refl, sym, ◌∙◌, ap, arith}
+use Rattle.std.proofs.Common.{◌≡◌, ◌≢◌, Bool, ◌⊎◌, List, [], ◌∷◌, String, length, string_bytes, inl, inr, refl, sym, ◌∙◌, ap, subst, arith}
 use Rattle.std.specs.Prelude.{Option, Some, None}
 use Rattle.std.specs.Str.{bytes_eq}
+use Rattle.std.specs.String.{string_eq}
 use Rattle.std.specs.Map.{lookup, update}
 use Rattle.std.specs.Cmp.Lexicographic.{bytes_decides}
 use Rattle.std.proofs.lemmas.Bool.{cases_Bool, true≢false, false_from_ne_true, cond-true, cond-false}
@@ -62,3 +63,30 @@ some_entry (entry ∷ entries) some =
   where
     some-none : {X : Type 0} (x : X) → Some x ≡ None → ⊥
     some-none x e = cc
+
+-- a name at which a map has an entry is the text of a key
+some_key : {A Y : Type 0} (entries : List (String Y × A)) (name : Bytes) (x : A) → lookup (λ k. bytes_eq name (string_bytes k)) entries ≡ Some x → (key : String Y) × (name ≡ string_bytes key)
+some_key [] name x is = (let clash : None ≡ Some x = is in absurd (none-some x clash))
+  where
+    none-some : {X : Type 0} (x : X) → None ≡ Some x → ⊥
+    none-some x e = cc
+some_key (entry ∷ entries) name x is = elim (cases_Bool (bytes_eq name (string_bytes entry.0))) [
+  | inl same ↦ (entry.0, (bytes_decides name (string_bytes entry.0)).0 same)
+  | inr differ ↦ some_key entries name x (sym (cond-false (bytes_eq name (string_bytes entry.0)) (Some entry.1) (lookup (λ k. bytes_eq name (string_bytes k)) entries) differ) ∙ is)
+]
+
+-- maps that have the same at each key have the same at each name
+pub same_by_text : {A Y : Type 0} (old new : List (String Y × A)) → ((key : String Y) → lookup (string_eq key) new ≡ lookup (string_eq key) old) → (name : Bytes)
+    → lookup (λ k. bytes_eq name (string_bytes k)) new ≡ lookup (λ k. bytes_eq name (string_bytes k)) old
+same_by_text {A} {Y} old new same name = by (at new) (at old) refl refl
+  where
+    at : List (String Y × A) → Option A
+    at entries = lookup (λ k. bytes_eq name (string_bytes k)) entries
+
+    by_key : (key : String Y) → name ≡ string_bytes key → at new ≡ at old
+    by_key key is = subst (λ text. lookup (λ k. bytes_eq text (string_bytes k)) new ≡ lookup (λ k. bytes_eq text (string_bytes k)) old) (sym is) (same key)
+
+    by : (a b : Option A) → at new ≡ a → at old ≡ b → at new ≡ at old
+    by None None is_new is_old = is_new ∙ sym is_old
+    by (Some x) b is_new is_old = let key = some_key new name x is_new in by_key key.0 key.1
+    by None (Some x) is_new is_old = let key = some_key old name x is_old in by_key key.0 key.1

@@ -80,4 +80,11 @@ impl BitTable {
         }
         Ok(())
     }
+
+    /// Gives back the memory that no row uses.
+    pub fn fit(&mut self)
+        ensures { (name : Bytes) → row_at self.new name ≡ row_at self.old name }
+    {
+        self.rows.shrink_to_fit();
+    }
 }

@@ -196,14 +196,14 @@ impl IndexedState {
         let Ok(object) = str::from_utf8(object) else {
             return None;
         };
+        self.state.recall_good();
+        let Some(usable) = index.find_for_user(user, operation, object) else {
+            return None;
+        };
         let Ok(name) = BorrowedName::new(user) else {
             return None;
         };
-        self.state.recall_good();
-        match index.find_for_user(user, operation, object) {
-            Some(usable) => Some(!self.state.locked().contains(&name) && usable),
-            None => None,
-        }
+        Some(!self.state.locked().contains(&name) && usable)
     }
 }
 

@@ -1,8 +1,8 @@
 -- How the barred roles are found.
-use Rattle.std.specs.Prelude.{◌||◌, ℕ, zero, suc, Bool, true, false, not, nat_eq, nat_lt, count_by, List, Option, Some, None}
+use Rattle.std.specs.Prelude.{◌≡◌, ◌&&◌, ◌||◌, ℕ, zero, suc, Bool, true, false, not, nat_eq, nat_lt, count_by, List, Option, Some, None, IfSome}
 use Rattle.bit_rows.specs.declared.row.BitRow.{BitRow}
 use Rattle.bit_rows.specs.Rows.{has}
-use Rattle.rbac_sets.specs.Sets.{Pair}
+use Rattle.rbac_sets.specs.Sets.{Bytes, Pair, same_name}
 use Rattle.rbac_sets.specs.declared.row.Row.{Row}
 use Rattle.rbac_sets.specs.declared.row.Row.TheVariants.{PairRow, SetRow}
 use Rattle.rbac_sets.specs.declared.row.TheConstants.Row.{CLOSURE_PAIR, DYNAMIC_MEMBER, DYNAMIC_CARDINALITY}
@@ -11,7 +11,7 @@ use Rattle.rbac_sets.specs.declared.row.Change.TheVariants.{Put, Take}
 use Rattle.admin_mgr.specs.RbacState.{RbacState}
 use Rattle.admin_mgr.specs.UserAccess.{stands_alone}
 use Rattle.access_index.specs.Following.{Follow}
-use Rattle.access_index.specs.Index.{is_below, is_used, number_of}
+use Rattle.access_index.specs.Index.{is_below, is_used, number_of, row_by_set}
 use Rattle.access_index.specs.declared.index.AccessIndex.{AccessIndex}
 
 -- the row has the numbers of the roles that violate a dynamic set of the state alone
@@ -23,7 +23,7 @@ abbrev pub is_member : AccessIndex → ℕ → Option ℕ → Bool
 is_member index n None = false
 is_member index n (Some number) = nat_eq n number || is_below index.seniors.items number n
 
--- whether at least so many of the members, pairs (set, role), are the role of the number or juniors of it
+-- whether the role of the number and its juniors are `count` or more of the members, which are pairs (set, role)
 abbrev pub has_members : AccessIndex → ℕ → List Pair → ℕ → Bool
 has_members index n members count = not (nat_lt (count_by (λ (member : Pair). is_member index n (number_of index member.1)) members) count)
 
@@ -37,6 +37,16 @@ abbrev pub can_bar : Row → Bool
 can_bar (PairRow kind a b) = nat_eq kind CLOSURE_PAIR || nat_eq kind DYNAMIC_MEMBER
 can_bar (SetRow kind a n) = nat_eq kind DYNAMIC_CARDINALITY
 can_bar _ = false
+
+-- whether the row is a closure pair, or one of the dynamic separation of duty set of this name
+abbrev pub can_bar_by : Bytes → Row → Bool
+can_bar_by set (PairRow kind a b) = nat_eq kind CLOSURE_PAIR || (nat_eq kind DYNAMIC_MEMBER && same_name a set)
+can_bar_by set (SetRow kind a n) = nat_eq kind DYNAMIC_CARDINALITY && same_name a set
+can_bar_by set _ = false
+
+-- the second index knows which roles a set bars only if the first does, and the set isn't one of these
+abbrev pub Forgets : AccessIndex → AccessIndex → (Bytes → Bool) → Type 0
+Forgets index new forgotten = (set : Bytes) → IfSome (row_by_set new set) (λ row. (row_by_set index set ≡ Some row) × (forgotten set ≡ false))
 
 -- the row that the change puts or takes
 abbrev pub changed_row : Change → Row

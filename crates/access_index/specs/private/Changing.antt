@@ -6,7 +6,7 @@ use Rattle.rbac_sets.specs.declared.row.Change.TheVariants.{Put, Take}
 use Rattle.admin_mgr.specs.Changes.{same_row}
 use Rattle.access_index.specs.Index.{Rows, is_activated, is_assigned, is_granted, is_junior}
 
--- no row has the role, be it assigned, activated, granted something, a senior or a junior, and it isn't barred
+-- no row has the role, be it assigned, activated, granted something, a senior or a junior, and no dynamic set bars it
 pub record IsNowhere (rows : Rows) (role : Bytes) : Type 0 where
   pub assigned : (user : Bytes) → is_assigned rows user role ≡ false
   pub activated : (session : Bytes) → is_activated rows session role ≡ false
@@ -14,6 +14,7 @@ pub record IsNowhere (rows : Rows) (role : Bytes) : Type 0 where
   pub senior : (junior : Bytes) → is_junior rows role junior ≡ false
   pub junior : (senior : Bytes) → is_junior rows senior role ≡ false
   pub barred : rows.barred role ≡ false
+  pub barred_by : (set : Bytes) → rows.barred_by set role ≡ false
 
 -- the rows after one change; the barred roles are given
 abbrev pub rows_by : Rows → Change → Rows

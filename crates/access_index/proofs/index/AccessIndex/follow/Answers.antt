@@ -3,9 +3,9 @@ use Rattle.rbac_sets.specs.declared.row.Row.TheVariants.{NameRow}
 use Rattle.rbac_sets.specs.declared.row.TheConstants.Row.{ROLE}
 use Rattle.access_index.specs.Index.{rows_of}
 use Rattle.access_index.specs.private.Changing.{rows_after}
-use Rattle.access_index.proofs.BarLaws.{alone_without_juniors}
+use Rattle.access_index.proofs.BarLaws.{alone_without_juniors, unbarred_without_juniors}
 use Rattle.access_index.proofs.IndexLaws.{keeps_same}
-use Rattle.access_index.proofs.PlanLaws.{barred_after, no_junior, nowhere, rows_of_plan, taken_gone}
+use Rattle.access_index.proofs.PlanLaws.{barred_after, barred_by_after, no_junior, nowhere, rows_of_plan, taken_gone}
 use Rattle.access_index.proofs.index.AccessIndex.follow.Goals as goal
 
 pub change_bits-requires : goal.change_bits-requires
@@ -15,10 +15,13 @@ pub returns-clause-ok : goal.returns-clause-ok
 returns-clause-ok c S T indexes turns good =
     let changes = c.args.changes.now in
     let barred = (rows_of T).barred in
-    let before = record (rows_of S) { barred = barred } in
+    let barred_by = (rows_of T).barred_by in
+    let before = record (rows_of S) { barred = barred; barred_by = barred_by } in
     let kept = c.in_ok-change_bits.ensures.ok before (c.forget_barred.ensures.follows S T indexes turns) in
     c.free_numbers.ensures.keeps (rows_of T)
-    (keeps_same c.change_bits.new.self (rows_after before changes) (rows_of T) (rows_of_plan S T changes turns barred) (λ role. sym (λ i. barred_after changes before i role)) kept)
+    (keeps_same c.change_bits.new.self (rows_after before changes) (rows_of T) (rows_of_plan S T changes turns barred barred_by) (λ role. sym (λ i. barred_after changes before i role))
+    (λ set role. sym (λ i. barred_by_after changes before i set role)) kept)
     (λ role taken.
     let gone = taken_gone S T changes turns (NameRow ROLE role) taken in
-    nowhere T good.well_formed role gone barred (ap not (alone_without_juniors T good role (no_junior T good.well_formed role gone))))
+    let alone = no_junior T good.well_formed role gone in
+    nowhere T good.well_formed role gone barred barred_by (ap not (alone_without_juniors T good role alone)) (unbarred_without_juniors T good role alone))

@@ -1,8 +1,7 @@
-use Rattle.std.proofs.Common.{Bool, take}
-use Rattle.rbac_sets.specs.Sets.{Bytes}
+use Rattle.std.proofs.Common.{take}
 use Rattle.access_index.specs.Index.{Keeps}
 use Rattle.access_index.proofs.IndexLaws.{among}
 use Rattle.access_index.proofs.index.AccessIndex.of_rows.Given as goal
 
 abbrev pub invariant-loop-row : goal.invariant-loop-row
-invariant-loop-row l = (barred : Bytes → Bool) → Keeps l.index (among (take l.row-index l.rows) barred)
+invariant-loop-row l = Keeps l.index (among (take l.row-index l.rows))
