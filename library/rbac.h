@@ -140,39 +140,59 @@ uint32_t rbac_explain_user(rbac_office *office, const void *user, size_t user_le
 uint32_t rbac_explain_session(rbac_office *office, const void *session, size_t session_length, const void *operation,
     size_t operation_length, const void *object, size_t object_length, void *out, size_t out_length, rbac_row *reason);
 
-/* Returns a static separation of duty set that would be violated if the user were assigned to the role: the one at the place
- * `index`, from 0, of all of them in byte order. If assignUser is refused with 24 StaticSeparation, it names the first. The office
- * stays the same.
+/* Returns the static separation of duty sets that would be violated if the user were assigned to the role: of all of them in byte
+ * order those from the place `index` on, as many as there is room for in `sets` and in `out`. If assignUser is refused with 24
+ * StaticSeparation, it names the first of all. The office stays the same.
  *
- * RBAC_DONE: the name stands in `out`, and its length is `set->first`.
- * RBAC_ABSENT: there are no more. At place 0 there is none, so assignUser isn't refused with 24 StaticSeparation.
- * RBAC_SHORT as above; 64 bytes are enough.
- * Otherwise the code of the first of these reasons that applies: RBAC_NULL, RBAC_CLOSED, RBAC_BAD_NAME, 2 (no such user),
- * 4 (no such role). It may also be RBAC_MEMORY. */
+ * RBAC_DONE: `*count` sets were returned, of `*total`. Their names stand in `out`, one directly after the other, and their
+ * lengths in `first` of `sets`. With room in `sets` for one, and RBAC_LONGEST_ROW bytes in `out`, 0 in `*count` says that there
+ * is none at this place. With 0 in `*total` assignUser isn't refused with 24 StaticSeparation.
+ * Otherwise 0 is in both, and the result is the code of the first of these reasons that applies: RBAC_NULL (which writes
+ * neither), RBAC_CLOSED, RBAC_BAD_NAME, 2 (no such user), 4 (no such role). It may also be RBAC_MEMORY. */
+uint32_t rbac_assignment_conflicts(rbac_office *office, const void *user, size_t user_length, const void *role, size_t role_length,
+    size_t index, void *out, size_t out_length, rbac_row *sets, size_t set_count, size_t *count, size_t *total);
+
+/* Returns the dynamic separation of duty sets that would be violated if the role were activated in the user's session, as
+ * rbac_assignment_conflicts does. If addActiveRole is refused with 25 DynamicSeparation, it names the first of all.
+ *
+ * The reasons are RBAC_NULL, RBAC_CLOSED, RBAC_BAD_NAME, 2 (no such user), 26 (no such session), 4 (no such role), 28 (the session
+ * isn't the user's), 29 (the user isn't authorized for the role). */
+uint32_t rbac_activation_conflicts(rbac_office *office, const void *user, size_t user_length, const void *session,
+    size_t session_length, const void *role, size_t role_length, size_t index, void *out, size_t out_length, rbac_row *sets,
+    size_t set_count, size_t *count, size_t *total);
+
+/* Returns the separation of duty sets that would be violated if `asc` became an immediate ascendant of `desc`, as
+ * rbac_assignment_conflicts does, and behind the name of each who would violate it, whose length is `second`. With 0 in
+ * `of_sessions` they are the static sets, each with the first user in byte order who would be authorized for too many of its
+ * roles; otherwise the dynamic sets, each with the first session in byte order that would have too many. If addInheritance is
+ * refused with 24 StaticSeparation or 25 DynamicSeparation, it names the first of these sets.
+ *
+ * The reasons are RBAC_NULL, RBAC_CLOSED, RBAC_BAD_NAME, 4 (no such role), 16 (`asc` is `desc` or a junior of it). Each call looks
+ * at all sets, and for each at users or sessions until one violates it. So a call with room for all is the quickest. */
+uint32_t rbac_inheritance_conflicts(rbac_office *office, int of_sessions, const void *asc, size_t asc_length, const void *desc,
+    size_t desc_length, size_t index, void *out, size_t out_length, rbac_row *sets, size_t set_count, size_t *count, size_t *total);
+
+/* Returns the dynamic separation of duty sets that a new session of the user with these roles would violate, as
+ * rbac_assignment_conflicts does, but with a row for each role of such a set that the session would have: the name of the set, and
+ * behind it that of the role, whose length is `second`. The rows are in byte order. If createSession is refused with 25
+ * DynamicSeparation, it names the first of the sets. The names of the roles stand in `roles`, one directly after the other, and
+ * `role_lengths` has their lengths; a role may come twice.
+ *
+ * The reasons are RBAC_NULL, RBAC_CLOSED, RBAC_BAD_NAME, 2 (no such user), 4 (one of the roles doesn't exist), 29 (the user isn't
+ * authorized for one of them), 37 (the user is locked). */
+uint32_t rbac_creation_conflicts(rbac_office *office, const void *user, size_t user_length, const void *roles,
+    const size_t *role_lengths, size_t role_count, size_t index, void *out, size_t out_length, rbac_row *sets, size_t set_count,
+    size_t *count, size_t *total);
+
+/* These return one conflict of those of the first three functions above, the one at the place `index`: its names in `out`, and
+ * their lengths in `*set`.
+ *
+ * RBAC_DONE, or RBAC_ABSENT: there are no more. RBAC_SHORT: `*set` is written, but the names are longer than `out_length`; 128
+ * bytes are enough. Otherwise the reasons are those from above. */
 uint32_t rbac_assignment_conflict(rbac_office *office, const void *user, size_t user_length, const void *role, size_t role_length,
     size_t index, void *out, size_t out_length, rbac_row *set);
-
-/* Returns a dynamic separation of duty set that would be violated if the role were activated in the user's session: the one at
- * the place `index`, from 0, of all of them in byte order. If addActiveRole is refused with 25 DynamicSeparation, it names the
- * first. The office stays the same.
- *
- * The results are those of rbac_assignment_conflict, with these reasons: RBAC_NULL, RBAC_CLOSED, RBAC_BAD_NAME, 2 (no such user),
- * 26 (no such session), 4 (no such role), 28 (the session isn't the user's), 29 (the user isn't authorized for the role). */
 uint32_t rbac_activation_conflict(rbac_office *office, const void *user, size_t user_length, const void *session,
     size_t session_length, const void *role, size_t role_length, size_t index, void *out, size_t out_length, rbac_row *set);
-
-/* Returns a separation of duty set that would be violated if `asc` became an immediate ascendant of `desc`, and who violates it:
- * the set at the place `index`, from 0, of all of them in byte order. With 0 in `of_sessions` they are the static sets, each with
- * the first user in byte order who would be authorized for too many of its roles; otherwise the dynamic sets, each with the
- * first session in byte order that would have too many. If addInheritance is refused with 24 StaticSeparation or 25
- * DynamicSeparation, it names the first of these sets. The office stays the same.
- *
- * RBAC_DONE: the two names stand in `out`, one directly after the other, and their lengths are `set->first` and `set->second`.
- * RBAC_ABSENT: there are no more. At place 0 there is none, so addInheritance isn't refused with this reason.
- * RBAC_SHORT as above; 128 bytes are enough.
- * Otherwise the code of the first of these reasons that applies: RBAC_NULL, RBAC_CLOSED, RBAC_BAD_NAME, 4 (no such role),
- * 16 (`asc` is `desc` or a junior of it). It may also be RBAC_MEMORY. Each call looks at all sets, and for each at users or
- * sessions until one violates it. */
 uint32_t rbac_inheritance_conflict(rbac_office *office, int of_sessions, const void *asc, size_t asc_length, const void *desc,
     size_t desc_length, size_t index, void *out, size_t out_length, rbac_row *set);
 

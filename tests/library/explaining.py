@@ -1,6 +1,7 @@
 """The reasons of decisions, the sets that commands would violate, and the rows with a first name are those of the plain model."""
 
 import itertools
+import json
 import random
 import sys
 from collections import Counter
@@ -8,10 +9,17 @@ from collections import Counter
 import pytest
 
 from machine.commands import COMMANDS, apply
-from machine.reasons import activation_conflicts, assignment_conflicts, explain_session, explain_user, inheritance_conflicts
+from machine.reasons import (
+    activation_conflicts,
+    assignment_conflicts,
+    creation_conflicts,
+    explain_session,
+    explain_user,
+    inheritance_conflicts,
+)
 from machine.state import Refused, State
 
-from .building import built
+from .building import LANGUAGES, built, command_of, run_language
 from .users import PERMISSIONS, USERS, draw_commands
 
 OFFICES = 1_000
@@ -218,6 +226,31 @@ def check_activations(bench):
 
 
 @pytest.mark.needs("python-headers")
+def check_creations(bench):
+    """In random offices with dynamic sets the sets and their roles are those of the model, and createSession names the first."""
+    sys.path.insert(0, str(built() / "python"))
+    from rbac_office import Office
+
+    draws, counted, wrong = random.Random(72), Counter(), []
+    for number in range(OFFICES):
+        roles, commands = draw_commands(draws)
+        commands = with_sets(commands, roles, draw_sets(draws, roles, "createDsdSet"))
+        state, commands = model_of(commands + draw_sessions(draws, roles))
+        with Office() as office:
+            for function, arguments in commands:
+                office.call(function, **arguments)
+            for user, count in itertools.product([*USERS, "zoe"], range(4)):
+                asked = user, draws.sample([*roles, "none"], count)
+                wanted, given = answer(creation_conflicts, state, *asked), answer(office.creation_conflicts, *asked)
+                code, named = named_set(state, "createSession", *asked, "new")
+                if given != wanted or code == 25 and given[0][0] != named or code is None and given != []:
+                    wrong.append(f"office {number}, {asked}: {given} and not {wanted}, {named}")
+                counted[f"refused {given}" if isinstance(given, int) else f"{min(len(given), 2)} sets"] += 1
+    bench.same("kinds", set(counted), {"0 sets", "1 sets", "2 sets", "refused 2", "refused 4", "refused 29", "refused 37"})
+    return judged(bench, "creations", counted, wrong)
+
+
+@pytest.mark.needs("python-headers")
 def check_inheritances(bench):
     """In random offices the sets with users and with sessions are those of the model, and addInheritance names the first."""
     sys.path.insert(0, str(built() / "python"))
@@ -272,3 +305,51 @@ def check_ranges(bench):
     bench.same("tables with rows", {why.split(",")[0] for why in counted if why.endswith("some")}, set(TABLES))
     bench.judge("ranges", wrong)
     return {"ranges": sum(counted.values())}
+
+
+def said(found):
+    """Returns what a language prints for the sets that a command would violate, or for the code of a refusal."""
+    if isinstance(found, int):
+        return str(-found).encode()
+    rows = [row if isinstance(row, tuple) else (row, ()) for row in found]
+    rows = [(name, *([more] if isinstance(more, str) else more)) for name, more in rows]
+    return ";".join(",".join(row) for row in rows).encode()
+
+
+def asked_of_all(draws, state, roles):
+    """Returns lines that ask for conflicts, and what each language has to print."""
+    users, sessions, roles = [*USERS, "zoe"], ["t0", "t1", "t4"], [*roles, "none"]
+    asked = []
+    for _ in range(25):
+        user, session, asc, desc = draws.choice(users), draws.choice(sessions), draws.choice(roles), draws.choice(roles)
+        some = draws.sample(roles, draws.randint(0, 3))
+        asked.append((["assignment", user, asc], answer(assignment_conflicts, state, user, asc)))
+        asked.append((["activation", user, session, asc], answer(activation_conflicts, state, user, session, asc)))
+        asked.append((["creation", user, *some], answer(creation_conflicts, state, user, some)))
+        both = answer(inheritance_conflicts, state, asc, desc)
+        for place, kind in enumerate(("users", "sessions")):
+            asked.append(([kind, asc, desc], both if isinstance(both, int) else both[place]))
+    return [b"%" + "\t".join(words).encode() for words, _ in asked], [said(found) for _, found in asked]
+
+
+@pytest.mark.parametrize("language", LANGUAGES)
+def check_conflicts_in_all_languages(bench, language):
+    """In random offices each language names the sets of the model, and with whom or with which roles they would be violated."""
+    draws, faults, counted = random.Random(73), [], Counter()
+    for number in range(OFFICES // 25):
+        roles, commands = draw_commands(draws)
+        sets = draw_sets(draws, roles), draw_sets(draws, roles, "createDsdSet")
+        state, commands = model_of(with_sets(commands, roles, *sets) + draw_sessions(draws, roles))
+        lines = [json.dumps({**arguments, "fn": function}).encode() for function, arguments in commands]
+        asked, wanted = asked_of_all(draws, state, roles)
+        given, errors, status = run_language(command_of(language), b"\n".join([*lines, *asked]) + b"\n")
+        if errors or status or given[: len(lines)] != [b'{"ok":true}'] * len(lines) or len(given) != len(lines) + len(asked):
+            faults.append(f"office {number}: status {status}, {len(given)} answers, {errors[-300:]!r}")
+        for line, got, want in zip(asked, given[len(lines) :], wanted):
+            if got != want:
+                faults.append(f"office {number}, {line!r}: {got!r} and not {want!r}")
+            counted["refused" if want.startswith(b"-") else "violated" if want else "none"] += 1
+    bench.judge(language, faults)
+    for kind in ("refused", "violated", "none"):
+        bench.same(f"at least 100: {kind}", counted[kind] >= 100, True)
+    return {f"conflicts, {language}": sum(counted.values())}

@@ -142,6 +142,33 @@ static long try_check(int32_t wanted, int32_t wanted_of_user)
     return 1;
 }
 
+/* Asks which sets an inheritance and a new session would violate with each allocation failing in turn: nothing is returned then. */
+static long try_conflicts(void)
+{
+    static const size_t lengths[] = {2, 2};
+    uint32_t codes[2];
+    size_t counts[2], totals[2];
+    rbac_row sets[2];
+    long tries;
+
+    for (tries = 0;; tries++) {
+        for (int of_session = 0; of_session < 2; of_session++) {
+            left = tries;
+            codes[of_session] = of_session ? rbac_creation_conflicts(&office, "ann", 3, "r0r1", lengths, 2, 0, out, sizeof out, sets, 2,
+                                                 &counts[1], &totals[1])
+                                           : rbac_inheritance_conflicts(&office, 0, "r1", 2, "r2", 2, 0, out, sizeof out, sets, 2,
+                                                 &counts[0], &totals[0]);
+            if (left < 0)
+                CHECK(codes[of_session] == RBAC_MEMORY && counts[of_session] == 0 && totals[of_session] == 0);
+        }
+        if (codes[0] == RBAC_DONE && codes[1] == RBAC_DONE)
+            break;
+    }
+    left = -1;
+    CHECK(counts[0] == 1 && totals[0] == 1 && counts[1] == 0 && totals[1] == 0);
+    return 2 * tries;
+}
+
 /* Does all lines in a new office with one of all their allocations failing, each in turn. A line that wasn't done is repeated. The
  * rows in the end, and decisions on the way, are those without a failure, whether or not there is still an index. */
 static long try_all(void)
@@ -238,6 +265,8 @@ int main(void)
         tries += try_line(lines[at]);
         if (at == 9)
             tries += try_check(1, 1) + try_load();
+        if (at == 11)
+            tries += try_conflicts();
     }
     tries += try_check(-26, 0) + try_load() + try_all();
     rbac_close(&office);

@@ -214,6 +214,83 @@ static void inheritances(rbac_office *office)
     want("one by null", rbac_inheritance_conflict(NULL, 0, TEXT("boss"), TEXT("r"), 0, out, 9, &set), RBAC_NULL);
 }
 
+/* Reads the sets that the session, or a new one, would violate at once, with more and with less room than they need. */
+static void many_conflicts(rbac_office *office)
+{
+    static const size_t lengths[] = {4, 5, 4}, one[] = {4}, none[] = {0};
+    rbac_row sets[4];
+    size_t count = 7, total = 7;
+
+    want("a second set", rbac_answer(office, LINE("\"createDsdSet\",\"set\":\"any\",\"roles\":[\"payer\",\"boss\"],\"cardinality\":2"),
+        out, sizeof out, &length), RBAC_DONE);
+    want("a second role", rbac_answer(office, LINE("\"assignUser\",\"user\":\"ann\",\"role\":\"payer\""), out, sizeof out, &length),
+        RBAC_DONE);
+    want("a second user", rbac_answer(office, LINE("\"addUser\",\"user\":\"bob\""), out, sizeof out, &length), RBAC_DONE);
+    memset(out, '-', sizeof out);
+    memset(sets, 0, sizeof sets);
+    want("both", rbac_inheritance_conflicts(office, 2, TEXT("boss"), TEXT("payer"), 0, out, 8, sets, 4, &count, &total), RBAC_DONE);
+    want("their count", count == 2 && total == 2, 1);
+    want("their names", memcmp(out, "anyspays-", 9), 0);
+    want("their lengths", sets[0].first == 3 && sets[0].second == 1 && sets[1].first == 3 && sets[1].third == 0, 1);
+    want("nothing beyond", sets[2].first, 0);
+    want("room for one and a half", rbac_inheritance_conflicts(office, 1, TEXT("boss"), TEXT("payer"), 0, out, 7, sets, 4, &count,
+        &total), RBAC_DONE);
+    want("one of both", count == 1 && total == 2, 1);
+    want("lengths of one", rbac_inheritance_conflicts(office, 1, TEXT("boss"), TEXT("payer"), 1, out, 8, sets, 1, &count, &total),
+        RBAC_DONE);
+    want("the second", count == 1 && total == 2 && memcmp(out, "pays", 4) == 0, 1);
+    want("no room", rbac_inheritance_conflicts(office, 1, TEXT("boss"), TEXT("payer"), 0, NULL, 0, NULL, 0, &count, &total), RBAC_DONE);
+    want("none of both", count == 0 && total == 2, 1);
+    want("the last place", rbac_inheritance_conflicts(office, 1, TEXT("boss"), TEXT("payer"), SIZE_MAX, out, 8, sets, 4, &count,
+        &total), RBAC_DONE);
+    want("none there", count == 0 && total == 2, 1);
+    want("a cycle", rbac_inheritance_conflicts(office, 1, TEXT("teller"), TEXT("boss"), 0, out, 8, sets, 4, &count, &total), 16);
+    want("none of a cycle", count == 0 && total == 0, 1);
+    want("an activation", rbac_activation_conflicts(office, TEXT("ann"), TEXT("s"), TEXT("payer"), 0, out, 8, sets, 4, &count, &total),
+        RBAC_DONE);
+    want("its sets", count == 2 && total == 2 && memcmp(out, "anypay", 6) == 0 && sets[1].second == 0, 1);
+    want("an assignment", rbac_assignment_conflicts(office, TEXT("bob"), TEXT("boss"), 0, out, 8, sets, 4, &count, &total), RBAC_DONE);
+    want("no sets", count == 0 && total == 0, 1);
+
+    want("a session", rbac_creation_conflicts(office, TEXT("ann"), "bosspayerboss", lengths, 3, 0, out, 64, sets, 4, &count, &total),
+        RBAC_DONE);
+    want("its sets with roles", count == 4 && total == 4 && memcmp(out, "anybossanypayerpaypayerpayteller", 32) == 0, 1);
+    want("of its roles", sets[0].second == 4 && sets[1].second == 5 && sets[2].second == 5 && sets[3].second == 6, 1);
+    want("from the third", rbac_creation_conflicts(office, TEXT("ann"), "bosspayer", lengths, 2, 2, out, 8, sets, 4, &count, &total),
+        RBAC_DONE);
+    want("the third", count == 1 && total == 4 && memcmp(out, "paypayer", 8) == 0, 1);
+    want("of no role", rbac_creation_conflicts(office, TEXT("ann"), NULL, NULL, 0, 0, out, 64, sets, 4, &count, &total), RBAC_DONE);
+    want("none", count == 0 && total == 0, 1);
+    want("of nobody", rbac_creation_conflicts(office, TEXT("eve"), "none", one, 1, 0, out, 64, sets, 4, &count, &total), 2);
+    want("of another role", rbac_creation_conflicts(office, TEXT("bob"), "none", one, 1, 0, out, 64, sets, 4, &count, &total), 4);
+    want("of another's role", rbac_creation_conflicts(office, TEXT("bob"), "boss", one, 1, 0, out, 64, sets, 4, &count, &total), 29);
+    want("of no name", rbac_creation_conflicts(office, TEXT("ann"), NULL, none, 1, 0, out, 64, sets, 4, &count, &total), RBAC_BAD_NAME);
+    want("of bytes", rbac_creation_conflicts(office, TEXT("ann"), "\xff...", one, 1, 0, out, 64, sets, 4, &count, &total), RBAC_BAD_NAME);
+    want("none", count == 0 && total == 0, 1);
+}
+
+/* Passes null pointers to the functions that return several sets. */
+static void null_conflicts(rbac_office *office)
+{
+    static const size_t one[] = {4};
+    rbac_row sets[4];
+    size_t count = 7, total = 7;
+
+    want("by null", rbac_inheritance_conflicts(NULL, 0, TEXT("a"), TEXT("b"), 0, out, 8, sets, 4, &count, &total), RBAC_NULL);
+    want("of null", rbac_inheritance_conflicts(office, 0, NULL, 1, TEXT("b"), 0, out, 8, sets, 4, &count, &total), RBAC_NULL);
+    want("to null", rbac_inheritance_conflicts(office, 0, TEXT("a"), TEXT("b"), 0, NULL, 8, sets, 4, &count, &total), RBAC_NULL);
+    want("without lengths", rbac_inheritance_conflicts(office, 0, TEXT("a"), TEXT("b"), 0, out, 8, NULL, 4, &count, &total), RBAC_NULL);
+    want("without a count", rbac_inheritance_conflicts(office, 0, TEXT("a"), TEXT("b"), 0, out, 8, sets, 4, NULL, &total), RBAC_NULL);
+    want("without a total", rbac_inheritance_conflicts(office, 0, TEXT("a"), TEXT("b"), 0, out, 8, sets, 4, &count, NULL), RBAC_NULL);
+    want("no assignment", rbac_assignment_conflicts(office, TEXT("a"), NULL, 1, 0, out, 8, sets, 4, &count, &total), RBAC_NULL);
+    want("no activation", rbac_activation_conflicts(office, TEXT("a"), NULL, 1, TEXT("r"), 0, out, 8, sets, 4, &count, &total), RBAC_NULL);
+    want("a session of null", rbac_creation_conflicts(office, NULL, 1, "boss", one, 1, 0, out, 8, sets, 4, &count, &total), RBAC_NULL);
+    want("null roles", rbac_creation_conflicts(office, TEXT("ann"), NULL, one, 1, 0, out, 8, sets, 4, &count, &total), RBAC_NULL);
+    want("roles without lengths", rbac_creation_conflicts(office, TEXT("ann"), "boss", NULL, 1, 0, out, 8, sets, 4, &count, &total),
+        RBAC_NULL);
+    want("neither is written", count == 7 && total == 7, 1);
+}
+
 /* Finds the three roles: boss, payer and teller. */
 static void ranges(rbac_office *office)
 {
@@ -246,10 +323,14 @@ static void reasons(void)
     };
     rbac_office office = RBAC_OFFICE_NONE;
     rbac_row reason;
+    size_t count = 7, total = 7;
 
     want("why by null", rbac_explain_user(NULL, TEXT("u"), TEXT("p"), TEXT("o"), out, sizeof out, &reason), RBAC_NULL);
     want("why when closed", rbac_explain_user(&office, TEXT("u"), TEXT("p"), TEXT("o"), out, sizeof out, &reason), RBAC_CLOSED);
     want("a conflict when closed", rbac_assignment_conflict(&office, TEXT("u"), TEXT("r"), 0, out, 9, &reason), RBAC_CLOSED);
+    want("conflicts when closed", rbac_creation_conflicts(&office, TEXT("u"), NULL, NULL, 0, 0, out, 9, &reason, 1, &count, &total),
+        RBAC_CLOSED);
+    want("their count", count == 0 && total == 0, 1);
     want("open", rbac_open(&office), RBAC_DONE);
     want("why of no user", rbac_explain_user(&office, NULL, 1, TEXT("p"), TEXT("o"), out, sizeof out, &reason), RBAC_NULL);
     want("why to null", rbac_explain_user(&office, TEXT("u"), TEXT("p"), TEXT("o"), NULL, 1, &reason), RBAC_NULL);
@@ -273,12 +354,16 @@ static void reasons(void)
     want("a conflict by null", rbac_assignment_conflict(NULL, TEXT("ann"), TEXT("r"), 0, out, 9, &reason), RBAC_NULL);
     sessions(&office);
     inheritances(&office);
+    many_conflicts(&office);
+    null_conflicts(&office);
     ranges(&office);
     want("why, too short", rbac_explain_user(&office, TEXT("ann"), TEXT("open"), TEXT("safe"), out, 9, &reason), RBAC_SHORT);
     want("its number", reason.number, RBAC_WHY_ALLOWED);
     want("a lock", rbac_answer(&office, LINE("\"lockUserAccount\",\"user\":\"ann\""), out, sizeof out, &length), RBAC_DONE);
     want("why not", rbac_explain_user(&office, TEXT("ann"), TEXT("open"), TEXT("safe"), NULL, 0, &reason), RBAC_DONE);
     want("its number", reason.number, RBAC_WHY_LOCKED);
+    want("a session of a locked user", rbac_creation_conflicts(&office, TEXT("ann"), NULL, NULL, 0, 0, out, 9, &reason, 1, &count,
+        &total), 37);
     rbac_close(&office);
 }
 

@@ -3,6 +3,9 @@
  *   {..}       a line of docs/reference/api.md: prints the answer
  *   ?A\tB\tC   a decision for the session A, the operation B and the object C: prints what rbac_check returns
  *   !A\tB\tC   a decision for the user A, the operation B and the object C: prints what rbac_check_user returns
+ *   %KIND\t..  prints the sets that a command would violate, by semicolons, each with those who would violate it or with its roles,
+ *              by commas; or minus the code of the refusal. KIND is assignment (a user and a role), activation (a user, a session
+ *              and a role), creation (a user and roles), users or sessions (two roles of an inheritance)
  *   #          prints the revision
  *   =          saves the office, loads the rows into another one, which is used from then on, and prints how many rows
  */
@@ -55,6 +58,72 @@ static void decide(decision_of *decision_about, const char *names, size_t length
         end - object - 1));
 }
 
+enum { WORDS = 40, ROWS = 3 };
+
+/* Asks for some of the sets that a command would violate, of the kind and with the names that the words have. */
+static uint32_t find_conflicts(const char *const *words, const size_t *lengths, size_t number, size_t index, char *out, rbac_row *sets,
+    size_t *count, size_t *total)
+{
+    const size_t room = ROWS * 128;
+
+    if (strcmp(words[0], "assignment") == 0)
+        return rbac_assignment_conflicts(&office, words[1], lengths[1], words[2], lengths[2], index, out, room, sets, ROWS, count, total);
+    if (strcmp(words[0], "activation") == 0)
+        return rbac_activation_conflicts(&office, words[1], lengths[1], words[2], lengths[2], words[3], lengths[3], index, out, room,
+            sets, ROWS, count, total);
+    if (strcmp(words[0], "creation") == 0) {
+        char roles[WORDS * 64];
+        size_t at = 0;
+
+        for (size_t word = 2; word < number; at += lengths[word++])
+            memcpy(roles + at, words[word], lengths[word]);
+        return rbac_creation_conflicts(&office, words[1], lengths[1], roles, lengths + 2, number - 2, index, out, room, sets, ROWS,
+            count, total);
+    }
+    return rbac_inheritance_conflicts(&office, strcmp(words[0], "sessions") == 0, words[1], lengths[1], words[2], lengths[2], index,
+        out, room, sets, ROWS, count, total);
+}
+
+/* Prints the sets that a command would violate. A set with several roles has a row for each. */
+static void say_conflicts(char *line, size_t length)
+{
+    const char *words[WORDS], *last = "";
+    size_t lengths[WORDS], number = 0, count, last_length = 0;
+    char out[ROWS * 128], name[64];
+
+    line[length] = 0;
+    for (char *word = line; word != NULL && number < WORDS; number++) {
+        char *tab = strchr(word, '\t');
+
+        words[number] = word;
+        lengths[number] = tab != NULL ? (size_t)(tab - word) : strlen(word);
+        if (tab != NULL)
+            *tab++ = 0;
+        word = tab;
+    }
+    for (size_t index = 0, total = 1; index < total; index += count) {
+        rbac_row sets[ROWS];
+        const char *at = out;
+        uint32_t code = find_conflicts(words, lengths, number, index, out, sets, &count, &total);
+
+        if (code != RBAC_DONE) {
+            printf("-%" PRIu32, code);
+            break;
+        }
+        for (size_t row = 0; row < count; at += sets[row].first + sets[row].second, row++) {
+            int is_same = sets[row].first == last_length && memcmp(at, last, last_length) == 0;
+
+            if (!is_same)
+                printf("%s%.*s", last_length != 0 ? ";" : "", (int)sets[row].first, at);
+            if (sets[row].second != 0)
+                printf(",%.*s", (int)sets[row].second, at + sets[row].first);
+            last_length = sets[row].first;
+            last = memcpy(name, at, last_length);
+        }
+    }
+    putchar('\n');
+}
+
 static void say_revision(void)
 {
     uint64_t revision;
@@ -105,6 +174,8 @@ int main(void)
             decide(rbac_check, line + 1, length - 1);
         else if (length > 0 && line[0] == '!')
             decide(rbac_check_user, line + 1, length - 1);
+        else if (length > 0 && line[0] == '%')
+            say_conflicts(line + 1, length - 1);
         else if (length == 1 && line[0] == '#')
             say_revision();
         else if (length == 1 && line[0] == '=')

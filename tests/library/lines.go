@@ -28,6 +28,39 @@ func decide(decisionAbout func(holder, operation, object string) (bool, error), 
 	}
 }
 
+// conflicts returns the sets that a command would violate, each with those who would violate it or with its roles, or minus a code.
+func conflicts(office *rbacoffice.Office, line string) (string, error) {
+	words := strings.Split(line, "\t")
+	var rows, sets []string
+	var found []rbacoffice.Conflict
+	var violated []rbacoffice.ViolatedSet
+	var err error
+	switch names := words[1:]; words[0] {
+	case "assignment":
+		sets, err = office.AssignmentConflicts(names[0], names[1])
+	case "activation":
+		sets, err = office.ActivationConflicts(names[0], names[1], names[2])
+	case "creation":
+		violated, err = office.CreationConflicts(names[0], names[1:])
+	case "users":
+		found, err = office.StaticConflicts(names[0], names[1])
+	default:
+		found, err = office.DynamicConflicts(names[0], names[1])
+	}
+	var refused *rbacoffice.RefusedError
+	if errors.As(err, &refused) {
+		return fmt.Sprint(-refused.Code), nil
+	}
+	rows = append(rows, sets...)
+	for _, one := range found {
+		rows = append(rows, one.Set+","+one.Holder)
+	}
+	for _, one := range violated {
+		rows = append(rows, one.Set+","+strings.Join(one.Roles, ","))
+	}
+	return strings.Join(rows, ";"), err
+}
+
 // reload saves the office and returns one with the same rows, and how many rows there are.
 func reload(office *rbacoffice.Office) (*rbacoffice.Office, int, error) {
 	rows, err := office.Rows()
@@ -67,6 +100,8 @@ func run(in *bufio.Reader, out *bufio.Writer) error {
 			said, err = decide(office.Check, text[1:])
 		case strings.HasPrefix(text, "!"):
 			said, err = decide(office.CheckUser, text[1:])
+		case strings.HasPrefix(text, "%"):
+			said, err = conflicts(office, text[1:])
 		case text == "#":
 			said, err = office.Revision()
 		case text == "=":

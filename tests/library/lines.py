@@ -15,6 +15,23 @@ def decide(decision_about, line):
         return -1
 
 
+def conflicts(office, line):
+    """Returns the sets that a command would violate, each with those who would violate it or with its roles, or minus a code."""
+    kind, *names = line.decode().split("\t")
+    try:
+        if kind == "assignment":
+            found = [(it,) for it in office.assignment_conflicts(*names)]
+        elif kind == "activation":
+            found = [(it,) for it in office.activation_conflicts(*names)]
+        elif kind == "creation":
+            found = [(name, *roles) for name, roles in office.creation_conflicts(names[0], names[1:])]
+        else:
+            found = office.inheritance_conflicts(*names, of_sessions=kind == "sessions")
+    except Refused as refused:
+        return str(-refused.code)
+    return ";".join(",".join(row) for row in found)
+
+
 def main():
     office = Office()
     for line in sys.stdin.buffer:
@@ -23,6 +40,8 @@ def main():
             said = str(decide(office.check, line[1:])).encode()
         elif line.startswith(b"!"):
             said = str(decide(office.check_user, line[1:])).encode()
+        elif line.startswith(b"%"):
+            said = conflicts(office, line[1:]).encode()
         elif line == b"#":
             said = str(office.revision).encode()
         elif line == b"=":

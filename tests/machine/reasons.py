@@ -65,6 +65,19 @@ def activation_conflicts(state, user, session, role):
     return [name for name, _ in conflicts(after.dynamic_sets, {it: facts.session_roles(after, it) for it in after.sessions})]
 
 
+def creation_conflicts(state, user, roles):
+    """The dynamic sets that a new session with these roles would violate, in byte order, with those of their roles that it would have."""
+    need_user(state, user)
+    for role in roles:
+        need_role(state, role)
+    refuse_if(not set(roles) <= facts.authorized_roles(state, user), 29)
+    refuse_if(user in state.locked, 37)
+    had = facts.session_roles(with_session(state, "new", user, frozenset(roles)), "new")
+    return [
+        (name, sorted(members & had)) for name, (members, n) in sorted(state.dynamic_sets.items()) if len(members & had) >= n
+    ]
+
+
 def inheritance_conflicts(state, asc, desc):
     """The static sets that would be violated if asc inherited from desc, with the first user of each; the dynamic ones with sessions."""
     need_role(state, asc)

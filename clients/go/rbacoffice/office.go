@@ -7,13 +7,14 @@ package rbacoffice
 // #include <stdlib.h>
 // #include "rbac.h"
 //
-// enum { ROOM = 4096, ROWS = 64 };
+// // So many rows are returned by one call at most, and so many bytes are enough for as many conflicts.
+// enum { ROWS = 64, ROOM = 128 * ROWS };
 //
 // // An office with what its calls return. It is in the memory of C: cgo would check a pointer to Go's memory at each call,
 // // and copy an array that it leads to. For the same reason Go passes its address as a number.
 // typedef struct {
 //     rbac_office office;
-//     size_t length;
+//     size_t length, total;
 //     rbac_row rows[ROWS];
 //     char out[ROOM];
 // } room;
@@ -29,22 +30,30 @@ package rbacoffice
 //         _GoStringPtr(operation), _GoStringLen(operation), _GoStringPtr(object), _GoStringLen(object), made->out, ROOM, made->rows);
 // }
 //
-// static uint32_t assignment_conflict(uintptr_t at, _GoString_ user, _GoString_ role, size_t index) {
+// static uint32_t assignment_conflicts(uintptr_t at, _GoString_ user, _GoString_ role, size_t index) {
 //     room *made = (room *)at;
-//     return rbac_assignment_conflict(&made->office, _GoStringPtr(user), _GoStringLen(user), _GoStringPtr(role),
-//         _GoStringLen(role), index, made->out, ROOM, made->rows);
+//     return rbac_assignment_conflicts(&made->office, _GoStringPtr(user), _GoStringLen(user), _GoStringPtr(role),
+//         _GoStringLen(role), index, made->out, ROOM, made->rows, ROWS, &made->length, &made->total);
 // }
 //
-// static uint32_t activation_conflict(uintptr_t at, _GoString_ user, _GoString_ session, _GoString_ role, size_t index) {
+// static uint32_t activation_conflicts(uintptr_t at, _GoString_ user, _GoString_ session, _GoString_ role, size_t index) {
 //     room *made = (room *)at;
-//     return rbac_activation_conflict(&made->office, _GoStringPtr(user), _GoStringLen(user), _GoStringPtr(session),
-//         _GoStringLen(session), _GoStringPtr(role), _GoStringLen(role), index, made->out, ROOM, made->rows);
+//     return rbac_activation_conflicts(&made->office, _GoStringPtr(user), _GoStringLen(user), _GoStringPtr(session),
+//         _GoStringLen(session), _GoStringPtr(role), _GoStringLen(role), index, made->out, ROOM, made->rows, ROWS,
+//         &made->length, &made->total);
 // }
 //
-// static uint32_t inheritance_conflict(uintptr_t at, int of_sessions, _GoString_ asc, _GoString_ desc, size_t index) {
+// static uint32_t inheritance_conflicts(uintptr_t at, int of_sessions, _GoString_ asc, _GoString_ desc, size_t index) {
 //     room *made = (room *)at;
-//     return rbac_inheritance_conflict(&made->office, of_sessions, _GoStringPtr(asc), _GoStringLen(asc), _GoStringPtr(desc),
-//         _GoStringLen(desc), index, made->out, ROOM, made->rows);
+//     return rbac_inheritance_conflicts(&made->office, of_sessions, _GoStringPtr(asc), _GoStringLen(asc), _GoStringPtr(desc),
+//         _GoStringLen(desc), index, made->out, ROOM, made->rows, ROWS, &made->length, &made->total);
+// }
+//
+// static uint32_t creation_conflicts(uintptr_t at, _GoString_ user, _GoString_ roles, const size_t *lengths, size_t count,
+//     size_t index) {
+//     room *made = (room *)at;
+//     return rbac_creation_conflicts(&made->office, _GoStringPtr(user), _GoStringLen(user), _GoStringPtr(roles), lengths, count,
+//         index, made->out, ROOM, made->rows, ROWS, &made->length, &made->total);
 // }
 //
 // static uint32_t range_of(uintptr_t at, uint32_t table, _GoString_ first, size_t *start, size_t *end) {
@@ -78,6 +87,7 @@ import (
 	"errors"
 	"fmt"
 	"runtime"
+	"strings"
 	"sync"
 	"unsafe"
 )
@@ -286,6 +296,13 @@ type Conflict struct {
 	Set, Holder string
 }
 
+// ViolatedSet is a dynamic separation of duty set that a new session would violate, with those of its roles that the session would have,
+// in byte order.
+type ViolatedSet struct {
+	Set   string
+	Roles []string
+}
+
 // Explain says why Check decides as it does: Allowed exactly if it returns true.
 func (o *Office) Explain(session, operation, object string) (Reason, error) {
 	return o.explain(0, session, operation, object)
@@ -306,37 +323,32 @@ func (o *Office) explain(ofUser C.int, holder, operation, object string) (Reason
 	if code := C.explain(o.at(), ofUser, holder, operation, object); code != C.RBAC_DONE {
 		return Reason{}, errorOf(code)
 	}
-	return Reason{Why(o.room.rows[0].number), o.twoNames()}, nil
-}
-
-// twoNames returns the two names of the first row of the room. The caller holds the lock.
-func (o *Office) twoNames() [2]string {
 	row := o.room.rows[0]
 	text := string(o.out(0, row.first+row.second))
-	return [2]string{text[:row.first], text[row.first:]}
+	return Reason{Why(row.number), [2]string{text[:row.first], text[row.first:]}}, nil
 }
 
 // AssignmentConflicts returns the static separation of duty sets that would be violated if the user were assigned to the role, in byte
 // order. If assignUser is refused with StaticSeparation, it names the first.
 func (o *Office) AssignmentConflicts(user, role string) ([]string, error) {
-	return o.sets(func(index C.size_t) C.uint32_t { return C.assignment_conflict(o.at(), user, role, index) })
+	return o.sets(func(index C.size_t) C.uint32_t { return C.assignment_conflicts(o.at(), user, role, index) })
 }
 
 // ActivationConflicts returns the dynamic separation of duty sets that would be violated if the role were activated in the user's
 // session, in byte order. If addActiveRole is refused with DynamicSeparation, it names the first.
 func (o *Office) ActivationConflicts(user, session, role string) ([]string, error) {
-	return o.sets(func(index C.size_t) C.uint32_t { return C.activation_conflict(o.at(), user, session, role, index) })
+	return o.sets(func(index C.size_t) C.uint32_t { return C.activation_conflicts(o.at(), user, session, role, index) })
 }
 
-// sets returns the names of the sets that a function of the library writes into the room one by one.
-func (o *Office) sets(at func(index C.size_t) C.uint32_t) ([]string, error) {
-	conflicts, err := o.conflicts(at)
+// sets returns the names of the sets that a function of the library writes into the room.
+func (o *Office) sets(from func(index C.size_t) C.uint32_t) ([]string, error) {
+	rows, err := o.violations(from)
 	if err != nil {
 		return nil, err
 	}
-	names := make([]string, len(conflicts))
-	for i, one := range conflicts {
-		names[i] = one.Set
+	names := make([]string, len(rows))
+	for i, row := range rows {
+		names[i] = row.Names[0]
 	}
 	return names, nil
 }
@@ -345,34 +357,69 @@ func (o *Office) sets(at func(index C.size_t) C.uint32_t) ([]string, error) {
 // byte order, each with the first user in byte order who would violate it. If addInheritance is refused with StaticSeparation, it names
 // the first.
 func (o *Office) StaticConflicts(asc, desc string) ([]Conflict, error) {
-	return o.conflicts(func(index C.size_t) C.uint32_t { return C.inheritance_conflict(o.at(), 0, asc, desc, index) })
+	return o.conflicts(0, asc, desc)
 }
 
 // DynamicConflicts returns the dynamic sets that would be violated, each with the first session in byte order that would violate it.
 // If addInheritance is refused with DynamicSeparation, it names the first.
 func (o *Office) DynamicConflicts(asc, desc string) ([]Conflict, error) {
-	return o.conflicts(func(index C.size_t) C.uint32_t { return C.inheritance_conflict(o.at(), 1, asc, desc, index) })
+	return o.conflicts(1, asc, desc)
 }
 
-// conflicts returns what a function of the library writes into the room one by one, until there are no more.
-func (o *Office) conflicts(at func(index C.size_t) C.uint32_t) ([]Conflict, error) {
+// conflicts returns the sets that an inheritance would violate, with users, or with sessions if ofSessions is 1.
+func (o *Office) conflicts(ofSessions C.int, asc, desc string) ([]Conflict, error) {
+	rows, err := o.violations(func(index C.size_t) C.uint32_t { return C.inheritance_conflicts(o.at(), ofSessions, asc, desc, index) })
+	if err != nil {
+		return nil, err
+	}
+	found := make([]Conflict, len(rows))
+	for i, row := range rows {
+		found[i] = Conflict{row.Names[0], row.Names[1]}
+	}
+	return found, nil
+}
+
+// CreationConflicts returns the dynamic separation of duty sets that a new session of the user with these roles would violate, in byte
+// order. If createSession is refused with DynamicSeparation, it names the first.
+func (o *Office) CreationConflicts(user string, roles []string) ([]ViolatedSet, error) {
+	lengths := make([]C.size_t, len(roles)+1) // One more, so that the first has an address.
+	for i, role := range roles {
+		lengths[i] = C.size_t(len(role))
+	}
+	names := strings.Join(roles, "")
+	rows, err := o.violations(func(index C.size_t) C.uint32_t {
+		return C.creation_conflicts(o.at(), user, names, &lengths[0], C.size_t(len(roles)), index)
+	})
+	if err != nil {
+		return nil, err
+	}
+	found := []ViolatedSet{}
+	for _, row := range rows {
+		set, role := row.Names[0], row.Names[1]
+		if len(found) == 0 || found[len(found)-1].Set != set {
+			found = append(found, ViolatedSet{Set: set})
+		}
+		last := &found[len(found)-1]
+		last.Roles = append(last.Roles, role)
+	}
+	return found, nil
+}
+
+// violations returns the rows that a function of the library writes into the room from a place on, until it has written all. They are
+// of no table.
+func (o *Office) violations(from func(index C.size_t) C.uint32_t) (rows []Row, err error) {
 	o.mu.Lock()
 	defer o.mu.Unlock()
 	if o.room == nil {
 		return nil, ErrClosed
 	}
-	found := []Conflict{}
-	for {
-		switch code := at(C.size_t(len(found))); code {
-		case C.RBAC_DONE:
-			names := o.twoNames()
-			found = append(found, Conflict{names[0], names[1]})
-		case C.RBAC_ABSENT:
-			return found, nil
-		default:
+	for o.room.total = 1; C.size_t(len(rows)) < o.room.total; {
+		if code := from(C.size_t(len(rows))); code != C.RBAC_DONE {
 			return nil, errorOf(code)
 		}
+		rows = o.appendRows(rows, tables)
 	}
+	return rows, nil
 }
 
 // Revision returns how many commands the office has accepted. A decision holds as long as this stays the same.
@@ -392,7 +439,7 @@ func (o *Office) Revision() (uint64, error) {
 // refusals has the names of the refusals of questions without a line, and of rows.
 var refusals = map[C.uint32_t]string{
 	C.RBAC_BAD_NAME: "BadName", 2: "NoUser", 4: "NoRole", 6: "NoObject", 16: "Cycle", 26: "NoSession", 28: "NotOwner",
-	29: "NotAuthorized", 32: "TooMany", 33: "NoOperation", 52: "Damaged",
+	29: "NotAuthorized", 32: "TooMany", 33: "NoOperation", 37: "UserLocked", 52: "Damaged",
 }
 
 // errorOf returns the error for a code of the library, which isn't RBAC_DONE.

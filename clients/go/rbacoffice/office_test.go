@@ -222,6 +222,9 @@ func TestExplain(t *testing.T) {
 
 func TestConflicts(t *testing.T) {
 	office := shop(t)
+	created := func(user string, roles ...string) func() (interface{}, error) {
+		return func() (interface{}, error) { return office.CreationConflicts(user, roles) }
+	}
 	tests := []struct {
 		name  string
 		found func() (interface{}, error)
@@ -239,6 +242,13 @@ func TestConflicts(t *testing.T) {
 		{"an inheritance of a role that nobody has", func() (interface{}, error) { return office.StaticConflicts("payer", "buyer") }, []Conflict{}, 0},
 		{"a cycle", func() (interface{}, error) { return office.DynamicConflicts("buyer", "head") }, []Conflict(nil), 16},
 		{"an inheritance of no role", func() (interface{}, error) { return office.StaticConflicts("buyer", "none") }, []Conflict(nil), 4},
+		{"a session", created("ann", "head", "buyer", "head"), []ViolatedSet{}, 0},
+		{"a session without roles", created("ann"), []ViolatedSet{}, 0},
+		{"a session of nobody", created("eve", "none"), []ViolatedSet(nil), 2},
+		{"a session with no role", created("ann", "head", "none"), []ViolatedSet(nil), 4},
+		{"a session with another's role", created("bob", "buyer"), []ViolatedSet(nil), 29},
+		{"a session of a locked user", created("cat"), []ViolatedSet(nil), 37},
+		{"a session without a name", created("ann", "head", ""), []ViolatedSet(nil), 1},
 	}
 	for _, test := range tests {
 		t.Run(test.name, func(t *testing.T) {
@@ -250,8 +260,8 @@ func TestConflicts(t *testing.T) {
 	}
 }
 
-// TestActivationNamesSets has a user who is authorized for both roles of a dynamic set.
-func TestActivationNamesSets(t *testing.T) {
+// TestSessionsNameSets has a user who is authorized for both roles of a dynamic set.
+func TestSessionsNameSets(t *testing.T) {
 	office := shop(t)
 	if err := office.Call("deleteSsdSet", map[string]interface{}{"set": "s"}, nil); err != nil {
 		t.Fatal(err)
@@ -262,6 +272,37 @@ func TestActivationNamesSets(t *testing.T) {
 	names, err := office.ActivationConflicts("ann", "t", "payer")
 	if err != nil || !reflect.DeepEqual(names, []string{"d"}) {
 		t.Errorf("got %v, %v; want d", names, err)
+	}
+	sets, err := office.CreationConflicts("ann", []string{"payer", "head"})
+	if err != nil || !reflect.DeepEqual(sets, []ViolatedSet{{"d", []string{"buyer", "payer"}}}) {
+		t.Errorf("got %v, %v; want d with its roles", sets, err)
+	}
+}
+
+// TestManyConflicts has more conflicts than one call of the library returns, with names as long as names may be.
+func TestManyConflicts(t *testing.T) {
+	office := open(t)
+	call := func(function string, arguments map[string]interface{}) {
+		if err := office.Call(function, arguments, nil); err != nil {
+			t.Fatal(err)
+		}
+	}
+	long := strings.Repeat("x", 61)
+	var roles []string
+	call("addUser", map[string]interface{}{"user": "ann"})
+	for i := 0; i < 32; i++ {
+		roles = append(roles, fmt.Sprintf("r%02d%s", i, long))
+		call("addRole", map[string]interface{}{"role": roles[i]})
+		call("assignUser", map[string]interface{}{"user": "ann", "role": roles[i]})
+	}
+	var want []ViolatedSet
+	for i := 0; i < 64; i++ {
+		want = append(want, ViolatedSet{fmt.Sprintf("s%02d%s", i, long), roles})
+		call("createDsdSet", map[string]interface{}{"set": want[i].Set, "roles": roles, "cardinality": 2})
+	}
+	sets, err := office.CreationConflicts("ann", roles)
+	if err != nil || !reflect.DeepEqual(sets, want) {
+		t.Errorf("got %d sets, %v", len(sets), err)
 	}
 }
 

@@ -14,7 +14,10 @@ from __future__ import annotations
 
 import json
 import os
-from typing import Any, Callable, Iterable, Iterator, NamedTuple
+import struct
+from itertools import groupby
+from operator import itemgetter
+from typing import Any, Iterable, Iterator, NamedTuple
 
 from ._library import Library, after_fork_in_child, after_fork_in_parent, before_fork, set_on_refusal
 
@@ -53,6 +56,7 @@ _NAMES = {
     29: "NotAuthorized",
     32: "TooMany",
     33: "NoOperation",
+    37: "UserLocked",
     52: "Damaged",
 }
 
@@ -99,7 +103,7 @@ os.register_at_fork(before=before_fork, after_in_parent=after_fork_in_parent, af
 class Office(Library):
     """An office in memory. It is empty, or has the rows that `Office.load` is given.
 
-    `answer`, `check`, `check_user` and `close` are in C. A method raises `Refused` if the office refuses, `MemoryError` if an allocation
+    `answer`, `check`, `check_user`, `assignment_conflicts`, `activation_conflicts` and `close` are in C. A method raises `Refused` if the office refuses, `MemoryError` if an allocation
     failed, and `ValueError` if the office is closed.
     """
 
@@ -143,39 +147,24 @@ class Office(Library):
         number, *names = self._explain_session(session, operation, object)
         return Reason(_REASONS[number], tuple(name for name in names if name))
 
-    def assignment_conflicts(self, user: str, role: str, /) -> list[str]:
-        """The static sets that would be violated if the user were assigned to the role, in byte order.
-
-        If assignUser is refused with StaticSeparation, it names the first. Raises RuntimeError if a command is done
-        meanwhile.
-        """
-        return self._listed(lambda index: self._assignment_conflict(user, role, index))
-
-    def activation_conflicts(self, user: str, session: str, role: str, /) -> list[str]:
-        """The dynamic sets that would be violated if the role were activated in the user's session, in byte order.
-
-        If addActiveRole is refused with DynamicSeparation, it names the first. Raises RuntimeError if a command is done
-        meanwhile.
-        """
-        return self._listed(lambda index: self._activation_conflict(user, session, role, index))
-
     def inheritance_conflicts(self, asc: str, desc: str, /, *, of_sessions: bool = False) -> list[tuple[str, str]]:
         """The static sets that would be violated if asc became an immediate ascendant of desc, in byte order, each with the
         first user who would be authorized for too many of its roles; or the dynamic sets, each with the first session.
 
-        If addInheritance is refused for separation of duty, it names the first. Raises RuntimeError if a command is done
-        meanwhile.
+        If addInheritance is refused for separation of duty, it names the first.
         """
-        return self._listed(lambda index: self._inheritance_conflict(of_sessions, asc, desc, index))
+        return self._inheritance_conflicts(of_sessions, asc, desc)
 
-    def _listed(self, at: Callable[[int], Any]) -> list[Any]:
-        """What is at the places from 0 on, up to None."""
-        revision, found = self.revision, []
-        while (one := at(len(found))) is not None:
-            found.append(one)
-        if self.revision != revision:
-            raise RuntimeError("the office changed while its sets were read")
-        return found
+    def creation_conflicts(self, user: str, roles: Iterable[str], /) -> list[tuple[str, list[str]]]:
+        """The dynamic sets that a new session of the user with these roles would violate, in byte order, each with those of
+        its roles that the session would have.
+
+        If createSession is refused with DynamicSeparation, it names the first.
+        """
+        names = [role.encode() for role in roles]
+        lengths = struct.pack(f"{len(names)}N", *map(len, names))
+        pairs = self._creation_conflicts(user, b"".join(names), lengths)
+        return [(name, [role for _, role in members]) for name, members in groupby(pairs, itemgetter(0))]
 
     @property
     def revision(self) -> int:

@@ -241,69 +241,145 @@ static PyObject *library_explain_session(Library *self, PyObject *const *args, P
     return explain(self, args, count, rbac_explain_session, "explain_session takes a session, an operation and an object");
 }
 
-/* Returns the set at a place of those that a command would violate, and who would if `has_holder`, or None behind the last. */
-static PyObject *conflict(uint32_t code, const char *names, const rbac_row *set, int has_holder)
-{
-    if (code == RBAC_ABSENT)
-        Py_RETURN_NONE;
-    if (code != RBAC_DONE)
-        return refuse(code);
-    if (!has_holder)
-        return PyUnicode_FromStringAndSize(names, (Py_ssize_t)set->first);
-    return Py_BuildValue("(s#s#)", names, (Py_ssize_t)set->first, names + set->first, (Py_ssize_t)set->second);
-}
+/* So many bytes are enough for the two names of a conflict. */
+#define LONGEST 128
 
-static PyObject *library_assignment_conflict(Library *self, PyObject *args)
-{
-    const char *user, *role;
-    Py_ssize_t user_length, role_length, index;
-    char name[RBAC_LONGEST_ROW];
-    rbac_row set;
-    uint32_t code;
-
-    if (!PyArg_ParseTuple(args, "s#s#n:assignment_conflict", &user, &user_length, &role, &role_length, &index))
-        return NULL;
-    enter(self);
-    code = rbac_assignment_conflict(&self->office, user, (size_t)user_length, role, (size_t)role_length, (size_t)index, name,
-        sizeof name, &set);
-    leave(self);
-    return conflict(code, name, &set, 0);
-}
-
-static PyObject *library_activation_conflict(Library *self, PyObject *args)
-{
-    const char *user, *session, *role;
-    Py_ssize_t user_length, session_length, role_length, index;
-    char name[RBAC_LONGEST_ROW];
-    rbac_row set;
-    uint32_t code;
-
-    if (!PyArg_ParseTuple(args, "s#s#s#n:activation_conflict", &user, &user_length, &session, &session_length, &role,
-            &role_length, &index))
-        return NULL;
-    enter(self);
-    code = rbac_activation_conflict(&self->office, user, (size_t)user_length, session, (size_t)session_length, role,
-        (size_t)role_length, (size_t)index, name, sizeof name, &set);
-    leave(self);
-    return conflict(code, name, &set, 0);
-}
-
-static PyObject *library_inheritance_conflict(Library *self, PyObject *args)
-{
-    const char *asc, *desc;
-    Py_ssize_t asc_length, desc_length, index;
-    char names[RBAC_LONGEST_ROW];
-    rbac_row set;
+/* A question for the sets that a command would violate: up to three names, or for a new session a user and the roles with the lengths
+ * of their names. */
+typedef struct {
+    const char *names[3];
+    Py_ssize_t lengths[3];
     int of_sessions;
+    const size_t *role_lengths;
+    size_t role_count;
+} Question;
+
+/* Conflicts, and where they are: in the arrays, or if they are more, in what is allocated. */
+typedef struct {
+    char few_names[LONGEST * ROWS], *names;
+    rbac_row few_rows[ROWS], *rows;
+    size_t room, count, total;
+} Conflicts;
+
+typedef uint32_t conflicts_of(rbac_office *, const Question *, Conflicts *);
+
+static uint32_t of_assignment(rbac_office *office, const Question *asked, Conflicts *found)
+{
+    return rbac_assignment_conflicts(office, asked->names[0], (size_t)asked->lengths[0], asked->names[1], (size_t)asked->lengths[1], 0,
+        found->names, LONGEST * found->room, found->rows, found->room, &found->count, &found->total);
+}
+
+static uint32_t of_activation(rbac_office *office, const Question *asked, Conflicts *found)
+{
+    return rbac_activation_conflicts(office, asked->names[0], (size_t)asked->lengths[0], asked->names[1], (size_t)asked->lengths[1],
+        asked->names[2], (size_t)asked->lengths[2], 0, found->names, LONGEST * found->room, found->rows, found->room, &found->count,
+        &found->total);
+}
+
+static uint32_t of_inheritance(rbac_office *office, const Question *asked, Conflicts *found)
+{
+    return rbac_inheritance_conflicts(office, asked->of_sessions, asked->names[0], (size_t)asked->lengths[0], asked->names[1],
+        (size_t)asked->lengths[1], 0, found->names, LONGEST * found->room, found->rows, found->room, &found->count, &found->total);
+}
+
+static uint32_t of_creation(rbac_office *office, const Question *asked, Conflicts *found)
+{
+    return rbac_creation_conflicts(office, asked->names[0], (size_t)asked->lengths[0], asked->names[1], asked->role_lengths,
+        asked->role_count, 0, found->names, LONGEST * found->room, found->rows, found->room, &found->count, &found->total);
+}
+
+/* Finds all conflicts. The caller has the lock, so that nothing changes if it has to ask twice. */
+static uint32_t find_all(rbac_office *office, const Question *asked, conflicts_of *find, Conflicts *found)
+{
     uint32_t code;
 
-    if (!PyArg_ParseTuple(args, "ps#s#n:inheritance_conflict", &of_sessions, &asc, &asc_length, &desc, &desc_length, &index))
-        return NULL;
+    found->names = found->few_names;
+    found->rows = found->few_rows;
+    found->room = ROWS;
+    code = find(office, asked, found);
+    if (code != RBAC_DONE || found->count == found->total)
+        return code;
+    found->room = found->total;
+    found->names = PyMem_RawMalloc(LONGEST * found->room);
+    found->rows = PyMem_RawMalloc(sizeof *found->rows * found->room);
+    return found->names != NULL && found->rows != NULL ? find(office, asked, found) : RBAC_MEMORY;
+}
+
+/* Returns a list of the sets that a command would violate, or of pairs of a set and who violates it or with what. */
+static PyObject *conflicts(Library *self, const Question *asked, conflicts_of *find, int are_pairs)
+{
+    Conflicts found;
+    PyObject *made = NULL;
+    uint32_t code;
+
     enter(self);
-    code = rbac_inheritance_conflict(&self->office, of_sessions, asc, (size_t)asc_length, desc, (size_t)desc_length,
-        (size_t)index, names, sizeof names, &set);
+    code = find_all(&self->office, asked, find, &found);
     leave(self);
-    return conflict(code, names, &set, 1);
+    if (code == RBAC_DONE)
+        made = PyList_New((Py_ssize_t)found.count);
+    else
+        refuse(code);
+    const char *at = found.names;
+    for (size_t number = 0; made != NULL && number < found.count; number++) {
+        const rbac_row *row = &found.rows[number];
+        PyObject *one = are_pairs ? Py_BuildValue("(s#s#)", at, (Py_ssize_t)row->first, at + row->first, (Py_ssize_t)row->second)
+                                  : PyUnicode_FromStringAndSize(at, (Py_ssize_t)row->first);
+
+        if (one == NULL)
+            Py_CLEAR(made);
+        else
+            PyList_SET_ITEM(made, (Py_ssize_t)number, one);
+        at += row->first + row->second;
+    }
+    if (found.names != found.few_names) {
+        PyMem_RawFree(found.names);
+        PyMem_RawFree(found.rows);
+    }
+    return made;
+}
+
+static PyObject *library_assignment_conflicts(Library *self, PyObject *args)
+{
+    Question asked = {0};
+
+    if (!PyArg_ParseTuple(args, "s#s#:assignment_conflicts", &asked.names[0], &asked.lengths[0], &asked.names[1], &asked.lengths[1]))
+        return NULL;
+    return conflicts(self, &asked, of_assignment, 0);
+}
+
+static PyObject *library_activation_conflicts(Library *self, PyObject *args)
+{
+    Question asked = {0};
+
+    if (!PyArg_ParseTuple(args, "s#s#s#:activation_conflicts", &asked.names[0], &asked.lengths[0], &asked.names[1], &asked.lengths[1],
+            &asked.names[2], &asked.lengths[2]))
+        return NULL;
+    return conflicts(self, &asked, of_activation, 0);
+}
+
+static PyObject *library_inheritance_conflicts(Library *self, PyObject *args)
+{
+    Question asked = {0};
+
+    if (!PyArg_ParseTuple(args, "ps#s#:inheritance_conflicts", &asked.of_sessions, &asked.names[0], &asked.lengths[0],
+            &asked.names[1], &asked.lengths[1]))
+        return NULL;
+    return conflicts(self, &asked, of_inheritance, 1);
+}
+
+/* The names of the roles stand one directly after the other; their lengths are bytes, those of numbers of the type size_t. */
+static PyObject *library_creation_conflicts(Library *self, PyObject *args)
+{
+    Question asked = {0};
+    const char *lengths;
+    Py_ssize_t size;
+
+    if (!PyArg_ParseTuple(args, "s#y#y#:creation_conflicts", &asked.names[0], &asked.lengths[0], &asked.names[1], &asked.lengths[1],
+            &lengths, &size))
+        return NULL;
+    asked.role_lengths = (const size_t *)(const void *)lengths;
+    asked.role_count = (size_t)size / sizeof(size_t);
+    return conflicts(self, &asked, of_creation, 1);
 }
 
 static PyObject *library_revision(Library *self, PyObject *Py_UNUSED(ignored))
@@ -473,6 +549,12 @@ PyDoc_STRVAR(check_doc, "check($self, session, operation, object, /)\n--\n\n"
 PyDoc_STRVAR(check_user_doc, "check_user($self, user, operation, object, /)\n--\n\n"
     "Whether the user could do the operation on the object in some session: whether the user may create a session for which\n"
     "`check` returns True, as long as there may be one more.");
+PyDoc_STRVAR(assignment_doc, "assignment_conflicts($self, user, role, /)\n--\n\n"
+    "The static sets that would be violated if the user were assigned to the role, in byte order.\n\n"
+    "If assignUser is refused with StaticSeparation, it names the first.");
+PyDoc_STRVAR(activation_doc, "activation_conflicts($self, user, session, role, /)\n--\n\n"
+    "The dynamic sets that would be violated if the role were activated in the user's session, in byte order.\n\n"
+    "If addActiveRole is refused with DynamicSeparation, it names the first.");
 PyDoc_STRVAR(close_doc, "close($self, /)\n--\n\nFrees the office. Its methods raise ValueError then.");
 
 static PyMethodDef methods[] = {
@@ -483,11 +565,12 @@ static PyMethodDef methods[] = {
     {"_explain_user", (PyCFunction)(void (*)(void))library_explain_user, METH_FASTCALL, "The number of a reason, and its names."},
     {"_explain_session", (PyCFunction)(void (*)(void))library_explain_session, METH_FASTCALL,
         "The number of a reason, and its names."},
-    {"_assignment_conflict", (PyCFunction)library_assignment_conflict, METH_VARARGS, "A set that an assignment would violate, or None."},
-    {"_activation_conflict", (PyCFunction)library_activation_conflict, METH_VARARGS,
-        "A set that an activation would violate, or None."},
-    {"_inheritance_conflict", (PyCFunction)library_inheritance_conflict, METH_VARARGS,
-        "A set that an inheritance would violate, and who would, or None."},
+    {"assignment_conflicts", (PyCFunction)library_assignment_conflicts, METH_VARARGS, assignment_doc},
+    {"activation_conflicts", (PyCFunction)library_activation_conflicts, METH_VARARGS, activation_doc},
+    {"_inheritance_conflicts", (PyCFunction)library_inheritance_conflicts, METH_VARARGS,
+        "The sets that an inheritance would violate, and who would."},
+    {"_creation_conflicts", (PyCFunction)library_creation_conflicts, METH_VARARGS,
+        "The sets that a new session would violate, with a pair for each of their roles."},
     {"_revision", (PyCFunction)library_revision, METH_NOARGS, "How many commands were accepted."},
     {"_rows", (PyCFunction)library_rows, METH_VARARGS, "Some rows of a table from a place on, or none if there is none."},
     {"_range", (PyCFunction)library_range, METH_VARARGS, "The places between which the rows of a table begin with a name."},

@@ -6,7 +6,6 @@ use Rattle.rbac_sets.specs.Table.{number_of}
 use Rattle.rbac_sets.specs.declared.refusal.Refusal.{Refusal}
 use Rattle.rbac_sets.specs.declared.table.Table.{Table}
 use Rattle.rbac_sets.specs.declared.table.TheConstants.Table.{COUNT}
-use Rattle.admin_mgr.specs.RbacState.{RbacState}
 use Rattle.admin_mgr.specs.RowChecks.{IsStateOf, RefusesRows}
 use Rattle.role_lines.specs.Decision.{Decides, DecidesUser, Refuses, RefusesUser}
 use Rattle.role_lines.specs.LineAnswer.{StopsAt}
@@ -85,29 +84,33 @@ CopiesRow (Some office) table index out lengths code =
     ((row : Parts) × (HasRow office table index row × CopiesParts row out lengths code))
     ⊎ ((code ≡ ABSENT) × IsAbsent office table index)
 
--- these are the rows of the state from this place of the table on
-abbrev pub AreRowsAt : RbacState → Table → ℕ → List Parts → Type 0
-AreRowsAt S table index [] = Unit {0}
-AreRowsAt S table index (row ∷ rows) = IsRowAt S table index (Some row) × AreRowsAt S table (index + 1) rows
+-- these are the rows from this place on, of those that `is_at` has at its places
+abbrev pub AreRowsAt : (is_at : ℕ → Option Parts → Type 0) → ℕ → List Parts → Type 0
+AreRowsAt is_at index [] = Unit {0}
+AreRowsAt is_at index (row ∷ rows) = is_at index (Some row) × AreRowsAt is_at (index + 1) rows
 
 -- there is no row at this place, also if no index reaches it
-abbrev pub IsPast : RbacState → Table → ℕ → Type 0
-IsPast S table index = (2 ^ 64 ≤ index) ⊎ IsRowAt S table index None
+abbrev pub IsPast : (is_at : ℕ → Option Parts → Type 0) → ℕ → Type 0
+IsPast is_at index = (2 ^ 64 ≤ index) ⊎ is_at index None
 
--- These rows, from this place of the table on, are copied: their names, one after the other, and their lengths. There is no further
--- row, or no room for its names or for its lengths.
-pub record CopiesFrom (S : RbacState) (table : Table) (index : ℕ) (out : List ℕ) (lengths : List RowLengths) (rows : List Parts) : Type 0 where
-  pub are : AreRowsAt S table index rows
+-- These rows, from this place on, are copied: their names, one after the other, and their lengths. There is no further row, or no room
+-- for its names or for its lengths.
+pub record CopiesFrom (is_at : ℕ → Option Parts → Type 0) (index : ℕ) (out : List ℕ) (lengths : List RowLengths) (rows : List Parts) : Type 0 where
+  pub are : AreRowsAt is_at index rows
   pub names : take (length (flat_map names_in rows)) out ≡ flat_map names_in rows
   pub lengths_are : take (length rows) lengths ≡ map lengths_of rows
-  pub last : (length rows ≡ length lengths) ⊎ (IsPast S table (index + length rows)
-      ⊎ ((row : Parts) × (IsRowAt S table (index + length rows) (Some row) × (length out < length (flat_map names_in rows) + length (names_in row)))))
+  pub last : (length rows ≡ length lengths) ⊎ (IsPast is_at (index + length rows)
+      ⊎ ((row : Parts) × (is_at (index + length rows) (Some row) × (length out < length (flat_map names_in rows) + length (names_in row)))))
 
--- so many rows are copied, or there is no such table
+-- so many rows are copied
+abbrev pub CopiesSome : (is_at : ℕ → Option Parts → Type 0) → ℕ → List ℕ → List RowLengths → ℕ → Type 0
+CopiesSome is_at index out lengths count = (rows : List Parts) × ((count ≡ length rows) × CopiesFrom is_at index out lengths rows)
+
+-- so many rows of the table are copied, or there is no such table
 abbrev pub CopiesRows : Option OfficeInMemory → ℕ → ℕ → List ℕ → List RowLengths → ℕ → ℕ → Type 0
 CopiesRows None table index out lengths count code = (count ≡ 0) × (code ≡ CLOSED)
 CopiesRows (Some office) table index out lengths count code =
-    ((t : Table) × ((number_of t ≡ table) × ((code ≡ DONE) × ((rows : List Parts) × ((count ≡ length rows) × CopiesFrom office.facts t index out lengths rows)))))
+    ((t : Table) × ((number_of t ≡ table) × ((code ≡ DONE) × CopiesSome (IsRowAt office.facts t) index out lengths count)))
     ⊎ ((count ≡ 0) × ((code ≡ ABSENT) × (COUNT ≤ table)))
 
 -- the row is added, or the office is the same: one of the row's names isn't a name, there is no such table, or an allocation failed

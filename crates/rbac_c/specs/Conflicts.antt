@@ -1,20 +1,22 @@
 -- What a call from C returns that says which separation of duty sets a command would violate.
-use Rattle.std.specs.Prelude.{◌≡◌, ◌⊎◌, ℕ, Bool, true, false, List, Option, Some, None}
+use Rattle.std.specs.Prelude.{◌≡◌, ◌⊎◌, ℕ, Bool, true, false, List, [], ◌∷◌, length, take, drop, Option, Some, None}
+use Rattle.std.specs.List.{All}
 use Rattle.rbac_sets.specs.Refusal.{code_of}
-use Rattle.rbac_sets.specs.Sets.{Bytes, Pair}
+use Rattle.rbac_sets.specs.Sets.{Bytes, Pair, from_list, name_cmp}
+use Rattle.rbac_sets.specs.SortedSet.{Stored, set_of}
 use Rattle.rbac_sets.specs.declared.refusal.Refusal.{Refusal}
 use Rattle.rbac_sets.specs.declared.refusal.Refusal.TheVariants.{BadName, Memory}
-use Rattle.rbac_sets.specs.declared.command.Command.TheVariants.{AddActiveRole, AddInheritance}
+use Rattle.rbac_sets.specs.declared.command.Command.TheVariants.{AddActiveRole, AddInheritance, CreateSession}
 use Rattle.admin_mgr.specs.After.{after}
 use Rattle.admin_mgr.specs.Assignment.{after_assignment}
-use Rattle.admin_mgr.specs.RbacState.{RbacState}
-use Rattle.explanations.specs.Conflicts.{activation_refused, assignment_refused, dynamic_conflicts, dynamic_violations, inheritance_refused, static_conflicts, static_violations}
+use Rattle.admin_mgr.specs.RbacState.{RbacState, has_session}
+use Rattle.explanations.specs.Conflicts.{activation_refused, assignment_refused, creation_refused, dynamic_conflicts, dynamic_violations, inheritance_refused, static_conflicts, static_violations, violated_members}
 use Rattle.role_lines.specs.Decision.{IsNameText}
 use Rattle.role_lines.specs.OfficeInMemory.{OfficeInMemory}
-use Rattle.role_lines.specs.StoredRow.{Parts, name_at, pair_at}
-use Rattle.rbac_c.specs.Calls.{CopiesParts}
+use Rattle.role_lines.specs.StoredRow.{name_at, pair_at}
+use Rattle.rbac_c.specs.Calls.{CopiesSome}
 use Rattle.rbac_c.specs.declared.calls.RowLengths.{RowLengths}
-use Rattle.rbac_c.specs.declared.calls.TheConstants.{ABSENT, CLOSED}
+use Rattle.rbac_c.specs.declared.calls.TheConstants.{DONE, CLOSED}
 
 module _ (S : RbacState) (user role : List ℕ) where
   -- the question isn't refused, and these are all static sets that the state would violate if the user were assigned to the role
@@ -60,27 +62,66 @@ module _ (S : RbacState) (asc desc : List ℕ) where
       ⊎ (((refusal ≡ BadName) × ¬ (IsNameText asc × IsNameText desc))
       ⊎ ((IsNameText asc × IsNameText desc) × (inheritance_refused S asc desc ≡ Some refusal)))
 
--- the row at a place of a list is copied, or the list is shorter
-abbrev pub CopiesFound : Option Parts → List ℕ → RowLengths → ℕ → Type 0
-CopiesFound found out lengths code = ((row : Parts) × ((found ≡ Some row) × CopiesParts row out lengths code)) ⊎ ((code ≡ ABSENT) × (found ≡ None))
+-- The texts that stand in a text one after the other, with these lengths. What is beyond its end is left out.
+abbrev pub divided : List ℕ → List ℕ → List (List ℕ)
+divided text [] = []
+divided text (n ∷ lengths) = take n text ∷ divided (drop n text) lengths
 
--- the set at this place of the list is copied, or the list is shorter, or the question is refused
-abbrev pub CopiesConflict : Option OfficeInMemory → List ℕ → List ℕ → ℕ → List ℕ → RowLengths → ℕ → Type 0
-CopiesConflict None user role index out lengths code = code ≡ CLOSED
-CopiesConflict (Some office) user role index out lengths code =
-    ((names : List Bytes) × (ViolatesSets office.facts user role names × CopiesFound (name_at names index) out lengths code))
-    ⊎ ((refusal : Refusal) × (RefusesAssignment office.facts user role refusal × (code ≡ code_of refusal)))
+module _ (S : RbacState) (user : List ℕ) (texts : List (List ℕ)) where
+  -- The question isn't refused, and these are all dynamic sets that the state would violate if a session of the user with these roles
+  -- were created, each with those of its roles that the session would have. Whatever the new session's name is, they are the same.
+  pub record ViolatesByCreation (pairs : List Pair) : Type 0 where
+    pub unrefused : creation_refused S user (from_list texts) ≡ None
+    pub pairs_are : (roles : Stored Bytes) (session : Bytes) → set_of name_cmp roles ≡ from_list texts → has_session S session ≡ false
+        → pairs ≡ violated_members (after S (CreateSession user roles session)) session
+
+  -- an allocation failed, or one of the names isn't one, or the question is refused
+  abbrev pub RefusesCreation : Refusal → Type 0
+  RefusesCreation refusal =
+      (refusal ≡ Memory)
+      ⊎ (((refusal ≡ BadName) × ¬ (IsNameText user × All IsNameText texts))
+      ⊎ ((IsNameText user × All IsNameText texts) × (creation_refused S user (from_list texts) ≡ Some refusal)))
+
+-- ---- what is copied
+
+-- the names from this place on are copied, and this is how many there are in all
+abbrev pub CopiesNames : List Bytes → ℕ → List ℕ → List RowLengths → ℕ → ℕ → Type 0
+CopiesNames names index out lengths count total = (total ≡ length names) × CopiesSome (λ place row. row ≡ name_at names place) index out lengths count
+
+-- the same for pairs of names
+abbrev pub CopiesPairs : List Pair → ℕ → List ℕ → List RowLengths → ℕ → ℕ → Type 0
+CopiesPairs pairs index out lengths count total = (total ≡ length pairs) × CopiesSome (λ place row. row ≡ pair_at pairs place) index out lengths count
+
+-- nothing is copied, for this reason
+abbrev pub CopiesNothing : ℕ → ℕ → ℕ → ℕ → Type 0
+CopiesNothing reason count total code = (count ≡ 0) × ((total ≡ 0) × (code ≡ reason))
+
+-- the sets that an assignment would violate are copied from this place on, or the question is refused
+abbrev pub CopiesAssignment : Option OfficeInMemory → List ℕ → List ℕ → ℕ → List ℕ → List RowLengths → ℕ → ℕ → ℕ → Type 0
+CopiesAssignment None user role index out lengths count total code = CopiesNothing CLOSED count total code
+CopiesAssignment (Some office) user role index out lengths count total code =
+    ((names : List Bytes) × (ViolatesSets office.facts user role names × ((code ≡ DONE) × CopiesNames names index out lengths count total)))
+    ⊎ ((refusal : Refusal) × (RefusesAssignment office.facts user role refusal × CopiesNothing (code_of refusal) count total code))
 
 -- the same for an activation
-abbrev pub CopiesActivation : Option OfficeInMemory → List ℕ → List ℕ → List ℕ → ℕ → List ℕ → RowLengths → ℕ → Type 0
-CopiesActivation None user session role index out lengths code = code ≡ CLOSED
-CopiesActivation (Some office) user session role index out lengths code =
-    ((names : List Bytes) × (ViolatesInSession office.facts user session role names × CopiesFound (name_at names index) out lengths code))
-    ⊎ ((refusal : Refusal) × (RefusesActivation office.facts user session role refusal × (code ≡ code_of refusal)))
+abbrev pub CopiesActivation : Option OfficeInMemory → List ℕ → List ℕ → List ℕ → ℕ → List ℕ → List RowLengths → ℕ → ℕ → ℕ → Type 0
+CopiesActivation None user session role index out lengths count total code = CopiesNothing CLOSED count total code
+CopiesActivation (Some office) user session role index out lengths count total code =
+    ((names : List Bytes)
+    × (ViolatesInSession office.facts user session role names × ((code ≡ DONE) × CopiesNames names index out lengths count total)))
+    ⊎ ((refusal : Refusal) × (RefusesActivation office.facts user session role refusal × CopiesNothing (code_of refusal) count total code))
 
--- the same for an inheritance: the set, and who violates it
-abbrev pub CopiesInheritance : Option OfficeInMemory → (of_sessions : Bool) → List ℕ → List ℕ → ℕ → List ℕ → RowLengths → ℕ → Type 0
-CopiesInheritance None of_sessions asc desc index out lengths code = code ≡ CLOSED
-CopiesInheritance (Some office) of_sessions asc desc index out lengths code =
-    ((conflicts : List Pair) × (ViolatesByInheritance office.facts asc desc of_sessions conflicts × CopiesFound (pair_at conflicts index) out lengths code))
-    ⊎ ((refusal : Refusal) × (RefusesInheritance office.facts asc desc refusal × (code ≡ code_of refusal)))
+-- the same for an inheritance: each set, and who violates it
+abbrev pub CopiesInheritance : Option OfficeInMemory → (of_sessions : Bool) → List ℕ → List ℕ → ℕ → List ℕ → List RowLengths → ℕ → ℕ → ℕ → Type 0
+CopiesInheritance None of_sessions asc desc index out lengths count total code = CopiesNothing CLOSED count total code
+CopiesInheritance (Some office) of_sessions asc desc index out lengths count total code =
+    ((pairs : List Pair)
+    × (ViolatesByInheritance office.facts asc desc of_sessions pairs × ((code ≡ DONE) × CopiesPairs pairs index out lengths count total)))
+    ⊎ ((refusal : Refusal) × (RefusesInheritance office.facts asc desc refusal × CopiesNothing (code_of refusal) count total code))
+
+-- the same for a new session: each set, and a role of it that the session would have
+abbrev pub CopiesCreation : Option OfficeInMemory → List ℕ → List (List ℕ) → ℕ → List ℕ → List RowLengths → ℕ → ℕ → ℕ → Type 0
+CopiesCreation None user texts index out lengths count total code = CopiesNothing CLOSED count total code
+CopiesCreation (Some office) user texts index out lengths count total code =
+    ((pairs : List Pair) × (ViolatesByCreation office.facts user texts pairs × ((code ≡ DONE) × CopiesPairs pairs index out lengths count total)))
+    ⊎ ((refusal : Refusal) × (RefusesCreation office.facts user texts refusal × CopiesNothing (code_of refusal) count total code))

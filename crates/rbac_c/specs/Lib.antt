@@ -3,3 +3,4 @@ pub mod Conflicts
 pub mod Held
 pub mod Range
 pub mod Reasons
+pub mod private

@@ -5,22 +5,20 @@ ghost use Rattle.std.specs.Prelude.{◌≡◌, ◌⊎◌, ◌<◌, Some, None, I
 ghost use Rattle.admin_mgr.specs.RbacState.{empty_state};
 ghost use Rattle.role_lines.specs.OfficeInMemory.{OfficeInMemory, starting};
 ghost use Rattle.role_lines.specs.contracts.office.MemoryOffice.{the_row};
-ghost use Rattle.role_lines.specs.StoredRow.{name_at, pair_at, parts};
+ghost use Rattle.role_lines.specs.StoredRow.{parts};
 ghost use Rattle.rbac_c.specs.Calls.{AddsRow, AnswersCall, Copies, CopiesKept, CopiesParts, CopiesRow, CopiesRows, Decided, IsDecided, IsRefused, Loads};
-ghost use Rattle.rbac_c.specs.Conflicts.{CopiesActivation, CopiesConflict, CopiesFound, CopiesInheritance};
+ghost use Rattle.rbac_c.specs.Conflicts.{CopiesActivation, CopiesAssignment, CopiesCreation, CopiesInheritance, divided};
 ghost use Rattle.rbac_c.specs.Held.{reads};
 ghost use Rattle.rbac_c.specs.Range.{FindsRange};
 ghost use Rattle.rbac_c.specs.Reasons.{ExplainsSession, ExplainsUser};
 
-use crate::conflicts::{
-    activation_conflicts, assignment_conflicts, inheritance_conflicts, name_row, pair_row,
-};
-use crate::copying::{copy, copy_row, copy_rows};
+use crate::conflicts::{copy_activation, copy_assignment, copy_creation, copy_inheritance};
+use crate::copying::{Rows, copy, copy_row, copy_rows};
 use crate::explaining::{reason_row, session_reason, session_reason_row, user_reason};
 use crate::handle::OfficeHandle;
 use crate::range::range;
 use bit_tables::Seed;
-use rbac_sets::{Name, Refusal};
+use rbac_sets::Refusal;
 use role_lines::{MemoryOffice, row_at, row_of, table_numbered};
 use std::alloc::Global;
 use std::mem::replace;
@@ -211,53 +209,31 @@ pub extern "C" fn rbac_office_explain_session(
     }
 }
 
-/// Writes the name of a static separation of duty set that would be violated if the user were assigned to the role into
-/// `out`, and its length to `lengths`: the set at this place of all of them, in byte order. Returns the code of the
-/// refusal if there is no such user or role.
+/// Writes the names of the static separation of duty sets that would be violated if the user were assigned to the role into
+/// `out`, one after the other, and their lengths to `lengths`: the sets from this place on of all of them, in byte order, as
+/// many as there is room for in both. `count` gets how many these are, and `total` how many there are in all. Returns the code
+/// of the refusal if there is no such user or role; both are 0 then.
 #[unsafe(no_mangle)]
-pub extern "C" fn rbac_office_assignment_conflict(
+pub extern "C" fn rbac_office_assignment_conflicts(
     alloc: Global,
     office: &mut OfficeHandle,
     user: &[u8],
     role: &[u8],
     index: usize,
     out: &mut [u8],
-    lengths: &mut RowLengths,
+    lengths: &mut [RowLengths],
+    count: &mut usize,
+    total: &mut usize,
 ) -> u32
     ensures keeps { office.new.office ≡ office.old.office }
-    ensures copies { CopiesConflict office.old.office user.now role.now index out.new lengths.new result }
+    ensures copies { CopiesAssignment office.old.office user.now role.now index out.new lengths.new count.new total.new result }
 {
+    *count = 0;
+    *total = 0;
     match replace(office, OfficeHandle::none()).into_box(alloc) {
         Some(held) => {
-            let result = assignment_conflict(alloc, &held, user, role, index, out, lengths);
-            put(alloc, office, OfficeHandle::of(held));
-            result
-        }
-        None => CLOSED,
-    }
-}
-
-/// Writes the name of a dynamic separation of duty set that would be violated if the role were activated in the user's
-/// session into `out`, and its length to `lengths`: the set at this place of all of them, in byte order. Returns the code of
-/// the refusal if there is no such user, session or role, or the session isn't the user's, or the user isn't authorized.
-#[unsafe(no_mangle)]
-pub extern "C" fn rbac_office_activation_conflict(
-    alloc: Global,
-    office: &mut OfficeHandle,
-    user: &[u8],
-    session: &[u8],
-    role: &[u8],
-    index: usize,
-    out: &mut [u8],
-    lengths: &mut RowLengths,
-) -> u32
-    ensures keeps { office.new.office ≡ office.old.office }
-    ensures copies { CopiesActivation office.old.office user.now session.now role.now index out.new lengths.new result }
-{
-    match replace(office, OfficeHandle::none()).into_box(alloc) {
-        Some(held) => {
-            let result = activation_conflict(
-                alloc, &held, user, session, role, index, out, lengths,
+            let result = copy_assignment(
+                alloc, &held, user, role, index, out, lengths, count, total,
             );
             put(alloc, office, OfficeHandle::of(held));
             result
@@ -266,12 +242,44 @@ pub extern "C" fn rbac_office_activation_conflict(
     }
 }
 
-/// Writes the name of a static separation of duty set that would be violated if `asc` became an immediate ascendant of
-/// `desc`, and that of the first user who would violate it, into `out`, one after the other, and their lengths to `lengths`:
-/// the set at this place of all of them, in byte order. With `of_sessions` they are the dynamic sets, each with the first
-/// session. Returns the code of the refusal if there is no such role, or the inheritance would make a cycle.
+/// The same for the dynamic separation of duty sets that would be violated if the role were activated in the user's session.
+/// Returns the code of the refusal if there is no such user, session or role, or the session isn't the user's, or the user
+/// isn't authorized for the role.
 #[unsafe(no_mangle)]
-pub extern "C" fn rbac_office_inheritance_conflict(
+pub extern "C" fn rbac_office_activation_conflicts(
+    alloc: Global,
+    office: &mut OfficeHandle,
+    user: &[u8],
+    session: &[u8],
+    role: &[u8],
+    index: usize,
+    out: &mut [u8],
+    lengths: &mut [RowLengths],
+    count: &mut usize,
+    total: &mut usize,
+) -> u32
+    ensures keeps { office.new.office ≡ office.old.office }
+    ensures copies { CopiesActivation office.old.office user.now session.now role.now index out.new lengths.new count.new total.new result }
+{
+    *count = 0;
+    *total = 0;
+    match replace(office, OfficeHandle::none()).into_box(alloc) {
+        Some(held) => {
+            let result = copy_activation(
+                alloc, &held, user, session, role, index, out, lengths, count, total,
+            );
+            put(alloc, office, OfficeHandle::of(held));
+            result
+        }
+        None => CLOSED,
+    }
+}
+
+/// The same for the static separation of duty sets that would be violated if `asc` became an immediate ascendant of `desc`:
+/// each row has the set, and the first user who would violate it. With `of_sessions` they are the dynamic sets, each with the
+/// first session. Returns the code of the refusal if there is no such role, or the inheritance would make a cycle.
+#[unsafe(no_mangle)]
+pub extern "C" fn rbac_office_inheritance_conflicts(
     alloc: Global,
     office: &mut OfficeHandle,
     of_sessions: bool,
@@ -279,14 +287,18 @@ pub extern "C" fn rbac_office_inheritance_conflict(
     desc: &[u8],
     index: usize,
     out: &mut [u8],
-    lengths: &mut RowLengths,
+    lengths: &mut [RowLengths],
+    count: &mut usize,
+    total: &mut usize,
 ) -> u32
     ensures keeps { office.new.office ≡ office.old.office }
-    ensures copies { CopiesInheritance office.old.office of_sessions asc.now desc.now index out.new lengths.new result }
+    ensures copies { CopiesInheritance office.old.office of_sessions asc.now desc.now index out.new lengths.new count.new total.new result }
 {
+    *count = 0;
+    *total = 0;
     match replace(office, OfficeHandle::none()).into_box(alloc) {
         Some(held) => {
-            let result = inheritance_conflict(
+            let result = copy_inheritance(
                 alloc,
                 &held,
                 of_sessions,
@@ -295,6 +307,51 @@ pub extern "C" fn rbac_office_inheritance_conflict(
                 index,
                 out,
                 lengths,
+                count,
+                total,
+            );
+            put(alloc, office, OfficeHandle::of(held));
+            result
+        }
+        None => CLOSED,
+    }
+}
+
+/// The same for the dynamic separation of duty sets that a new session of the user with these roles would violate: each row
+/// has the set, and a role of it that the session would have. The names of the roles stand in `roles` one after the other, and
+/// `role_lengths` has their lengths. Returns the code of the refusal if there is no such user or role, or the user isn't
+/// authorized for one of them or is locked.
+#[unsafe(no_mangle)]
+pub extern "C" fn rbac_office_creation_conflicts(
+    alloc: Global,
+    office: &mut OfficeHandle,
+    user: &[u8],
+    roles: &[u8],
+    role_lengths: &[usize],
+    index: usize,
+    out: &mut [u8],
+    lengths: &mut [RowLengths],
+    count: &mut usize,
+    total: &mut usize,
+) -> u32
+    ensures keeps { office.new.office ≡ office.old.office }
+    ensures copies { CopiesCreation office.old.office user.now (divided roles.now role_lengths.now) index out.new lengths.new count.new total.new result }
+{
+    *count = 0;
+    *total = 0;
+    match replace(office, OfficeHandle::none()).into_box(alloc) {
+        Some(held) => {
+            let result = copy_creation(
+                alloc,
+                &held,
+                user,
+                roles,
+                role_lengths,
+                index,
+                out,
+                lengths,
+                count,
+                total,
             );
             put(alloc, office, OfficeHandle::of(held));
             result
@@ -519,82 +576,6 @@ fn explain_session(
     }
 }
 
-// Copies the set at this place of those that the assignment would violate.
-fn assignment_conflict(
-    alloc: Global,
-    office: &MemoryOffice,
-    user: &[u8],
-    role: &[u8],
-    index: usize,
-    out: &mut [u8],
-    lengths: &mut RowLengths,
-) -> u32
-    ensures { CopiesConflict (Some office.now) user.now role.now index out.new lengths.new result }
-{
-    match assignment_conflicts(alloc, office.state(), user, role) {
-        Ok(names) => copy_name(&names, index, out, lengths),
-        Err(refusal) => refusal.code(),
-    }
-}
-
-// Copies the set at this place of those that the activation would violate.
-fn activation_conflict(
-    alloc: Global,
-    office: &MemoryOffice,
-    user: &[u8],
-    session: &[u8],
-    role: &[u8],
-    index: usize,
-    out: &mut [u8],
-    lengths: &mut RowLengths,
-) -> u32
-    ensures { CopiesActivation (Some office.now) user.now session.now role.now index out.new lengths.new result }
-{
-    match activation_conflicts(alloc, office.state(), user, session, role) {
-        Ok(sets) => copy_name(&sets, index, out, lengths),
-        Err(refusal) => refusal.code(),
-    }
-}
-
-// Copies the set at this place of those that the inheritance would violate, and who violates it.
-fn inheritance_conflict(
-    alloc: Global,
-    office: &MemoryOffice,
-    of_sessions: bool,
-    asc: &[u8],
-    desc: &[u8],
-    index: usize,
-    out: &mut [u8],
-    lengths: &mut RowLengths,
-) -> u32
-    ensures { CopiesInheritance (Some office.now) of_sessions asc.now desc.now index out.new lengths.new result }
-{
-    match inheritance_conflicts(alloc, office.state(), of_sessions, asc, desc) {
-        Ok(conflicts) => copy_pair(&conflicts, index, out, lengths),
-        Err(refusal) => refusal.code(),
-    }
-}
-
-// Copies the name at this place.
-fn copy_name(names: &[Name], index: usize, out: &mut [u8], lengths: &mut RowLengths) -> u32
-    ensures { CopiesFound (name_at names.now index) out.new lengths.new result }
-{
-    match name_row(names, index) {
-        Some(name) => copy_row(&name, out, lengths),
-        None => ABSENT,
-    }
-}
-
-// Copies the names of the pair at this place.
-fn copy_pair(pairs: &[(Name, Name)], index: usize, out: &mut [u8], lengths: &mut RowLengths) -> u32
-    ensures { CopiesFound (pair_at pairs.now index) out.new lengths.new result }
-{
-    match pair_row(pairs, index) {
-        Some(pair) => copy_row(&pair, out, lengths),
-        None => ABSENT,
-    }
-}
-
 // Finds the rows of the table that begin with these bytes.
 fn find_range(
     office: &MemoryOffice,
@@ -650,7 +631,7 @@ fn rows(
         *count = 0;
         return ABSENT;
     };
-    *count = copy_rows(office.state(), table, index, out, lengths);
+    *count = copy_rows(Rows::OfTable(office.state(), table), index, out, lengths);
     DONE
 }
 

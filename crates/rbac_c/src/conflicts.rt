@@ -1,20 +1,147 @@
-//! The separation of duty sets that a command would violate, as rows.
-ghost use Rattle.std.specs.Prelude.{◌≡◌, ◌⊎◌, IfOk, IfErr, option_map};
+//! The separation of duty sets that a command would violate, copied into the buffers of a caller. Names may be any bytes.
+ghost use Rattle.std.specs.Prelude.{◌≡◌, ◌⊎◌, Some, IfOk, IfErr};
+ghost use Rattle.std.specs.List.{All};
+ghost use Rattle.rbac_sets.specs.Sets.{from_list, name_cmp};
+ghost use Rattle.rbac_sets.specs.SortedSet.{set_of};
 ghost use Rattle.role_lines.specs.Decision.{IsNameText};
-ghost use Rattle.role_lines.specs.RowParts.{parts_of};
-ghost use Rattle.role_lines.specs.StoredRow.{name_at, pair_at};
-ghost use Rattle.rbac_c.specs.Conflicts.{RefusesActivation, RefusesAssignment, RefusesInheritance, ViolatesByInheritance, ViolatesInSession, ViolatesSets};
+ghost use Rattle.rbac_c.specs.Conflicts.{CopiesActivation, CopiesAssignment, CopiesCreation, CopiesInheritance, CopiesNames, CopiesPairs, RefusesActivation, RefusesAssignment, RefusesCreation, RefusesInheritance, ViolatesByCreation, ViolatesByInheritance, ViolatesInSession, ViolatesSets, divided};
 
+use crate::calls::{DONE, RowLengths};
+use crate::copying::{Rows, copy_rows};
 use admin_mgr::State;
 use explanations::{
-    violated_by_activation, violated_by_assignment, violated_by_inheritance, violated_in_sessions,
+    violated_by_activation, violated_by_assignment, violated_by_creation, violated_by_inheritance,
+    violated_in_sessions,
 };
-use rbac_sets::{Name, Refusal};
-use role_lines::RowParts;
+use rbac_sets::{Name, NameSet, Refusal};
+use role_lines::MemoryOffice;
 use std::alloc::Global;
 
+// Copies the sets from this place on of those that the assignment would violate.
+pub(crate) fn copy_assignment(
+    alloc: Global,
+    office: &MemoryOffice,
+    user: &[u8],
+    role: &[u8],
+    index: usize,
+    out: &mut [u8],
+    lengths: &mut [RowLengths],
+    count: &mut usize,
+    total: &mut usize,
+) -> u32
+    ensures { CopiesAssignment (Some office.now) user.now role.now index out.new lengths.new count.new total.new result }
+{
+    *count = 0;
+    *total = 0;
+    match assignment_conflicts(alloc, office.state(), user, role) {
+        Ok(names) => copy_names(&names, index, out, lengths, count, total),
+        Err(refusal) => refusal.code(),
+    }
+}
+
+// Copies the sets from this place on of those that the activation would violate.
+pub(crate) fn copy_activation(
+    alloc: Global,
+    office: &MemoryOffice,
+    user: &[u8],
+    session: &[u8],
+    role: &[u8],
+    index: usize,
+    out: &mut [u8],
+    lengths: &mut [RowLengths],
+    count: &mut usize,
+    total: &mut usize,
+) -> u32
+    ensures { CopiesActivation (Some office.now) user.now session.now role.now index out.new lengths.new count.new total.new result }
+{
+    *count = 0;
+    *total = 0;
+    match activation_conflicts(alloc, office.state(), user, session, role) {
+        Ok(names) => copy_names(&names, index, out, lengths, count, total),
+        Err(refusal) => refusal.code(),
+    }
+}
+
+// Copies the sets from this place on of those that the inheritance would violate, each with who violates it.
+pub(crate) fn copy_inheritance(
+    alloc: Global,
+    office: &MemoryOffice,
+    of_sessions: bool,
+    asc: &[u8],
+    desc: &[u8],
+    index: usize,
+    out: &mut [u8],
+    lengths: &mut [RowLengths],
+    count: &mut usize,
+    total: &mut usize,
+) -> u32
+    ensures { CopiesInheritance (Some office.now) of_sessions asc.now desc.now index out.new lengths.new count.new total.new result }
+{
+    *count = 0;
+    *total = 0;
+    match inheritance_conflicts(alloc, office.state(), of_sessions, asc, desc) {
+        Ok(pairs) => copy_pairs(&pairs, index, out, lengths, count, total),
+        Err(refusal) => refusal.code(),
+    }
+}
+
+// Copies the sets from this place on of those that the new session would violate, each with a role that it would have.
+pub(crate) fn copy_creation(
+    alloc: Global,
+    office: &MemoryOffice,
+    user: &[u8],
+    roles: &[u8],
+    role_lengths: &[usize],
+    index: usize,
+    out: &mut [u8],
+    lengths: &mut [RowLengths],
+    count: &mut usize,
+    total: &mut usize,
+) -> u32
+    ensures { CopiesCreation (Some office.now) user.now (divided roles.now role_lengths.now) index out.new lengths.new count.new total.new result }
+{
+    *count = 0;
+    *total = 0;
+    match creation_conflicts(alloc, office.state(), user, roles, role_lengths) {
+        Ok(pairs) => copy_pairs(&pairs, index, out, lengths, count, total),
+        Err(refusal) => refusal.code(),
+    }
+}
+
+// Copies the names from this place on, and writes how many there are in all.
+fn copy_names(
+    names: &[Name],
+    index: usize,
+    out: &mut [u8],
+    lengths: &mut [RowLengths],
+    count: &mut usize,
+    total: &mut usize,
+) -> u32
+    ensures { (result ≡ DONE) × CopiesNames names.now index out.new lengths.new count.new total.new }
+{
+    *count = copy_rows(Rows::Names(names), index, out, lengths);
+    *total = names.len();
+    DONE
+}
+
+// Copies the pairs from this place on, and writes how many there are in all.
+fn copy_pairs(
+    pairs: &[(Name, Name)],
+    index: usize,
+    out: &mut [u8],
+    lengths: &mut [RowLengths],
+    count: &mut usize,
+    total: &mut usize,
+) -> u32
+    ensures { (result ≡ DONE) × CopiesPairs pairs.now index out.new lengths.new count.new total.new }
+{
+    *count = copy_rows(Rows::Pairs(pairs), index, out, lengths);
+    *total = pairs.len();
+    DONE
+}
+
 // The static separation of duty sets that would be violated if the user were assigned to the role. The two may be any bytes.
-pub(crate) fn assignment_conflicts(
+fn assignment_conflicts(
     alloc: Global,
     state: &State,
     user: &[u8],
@@ -30,7 +157,7 @@ pub(crate) fn assignment_conflicts(
 
 // The dynamic separation of duty sets that would be violated if the role were activated in the user's session. The three may
 // be any bytes.
-pub(crate) fn activation_conflicts(
+fn activation_conflicts(
     alloc: Global,
     state: &State,
     user: &[u8],
@@ -48,7 +175,7 @@ pub(crate) fn activation_conflicts(
 
 // The static separation of duty sets that would be violated if `asc` became an immediate ascendant of `desc`, each with the
 // first user; or the dynamic ones with the first session. The two may be any bytes.
-pub(crate) fn inheritance_conflicts(
+fn inheritance_conflicts(
     alloc: Global,
     state: &State,
     of_sessions: bool,
@@ -67,6 +194,45 @@ pub(crate) fn inheritance_conflicts(
     }
 }
 
+// The dynamic separation of duty sets that a new session of the user with these roles would violate, each with those of its
+// roles that the session would have. The names of the roles stand one after the other and have these lengths. All may be any
+// bytes.
+fn creation_conflicts(
+    alloc: Global,
+    state: &State,
+    user: &[u8],
+    roles: &[u8],
+    lengths: &[usize],
+) -> Result<Vec<(Name, Name)>, Refusal>
+    ensures violated { IfOk result (λ pairs. ViolatesByCreation state.now.facts user.now (divided roles.now lengths.now) pairs.items) }
+    ensures refused { IfErr result (λ refusal. RefusesCreation state.now.facts user.now (divided roles.now lengths.now) refusal) }
+{
+    let user = owned(alloc, user)?;
+    let roles = owned_set(alloc, roles, lengths)?;
+    violated_by_creation(alloc, state, &user, &roles)
+}
+
+// The set of the names that stand in a text one after the other and have these lengths. `BadName` if one of them isn't the text
+// of a name.
+fn owned_set(alloc: Global, text: &[u8], lengths: &[usize]) -> Result<NameSet, Refusal>
+    ensures ok { IfOk result (λ set. (set_of name_cmp set ≡ from_list (divided text.now lengths.now)) × All IsNameText (divided text.now lengths.now)) }
+    ensures err { IfErr result (λ refusal. (refusal ≡ Refusal.Memory)
+        ⊎ ((refusal ≡ Refusal.BadName) × ¬ (All IsNameText (divided text.now lengths.now)))) }
+{
+    let mut set = NameSet::new(alloc);
+    let mut rest = text;
+    for length in lengths {
+        let (first, others) = rest.split_at((*length).min(rest.len()));
+        let name = owned(alloc, first)?;
+        if !set.contains(&name) {
+            set.reserve(1)?;
+            set.insert_reserved(name);
+        }
+        rest = others;
+    }
+    Ok(set)
+}
+
 // The name with these bytes. `BadName` if they aren't the text of a name.
 fn owned(alloc: Global, bytes: &[u8]) -> Result<Name, Refusal>
     ensures ok { IfOk result (λ name. (name ≡ bytes.now) × IsNameText bytes.now) }
@@ -76,30 +242,4 @@ fn owned(alloc: Global, bytes: &[u8]) -> Result<Name, Refusal>
         Ok(text) => Name::new(alloc, text),
         Err(_) => Err(Refusal::BadName),
     }
-}
-
-// The name at this place, as a row.
-pub(crate) fn name_row(names: &[Name], index: usize) -> Option<RowParts<'_>>
-    ensures { option_map parts_of result ≡ name_at names.now index }
-{
-    let name = names.get(index)?;
-    Some(RowParts {
-        first: name.as_str().as_bytes(),
-        second: b"",
-        third: b"",
-        number: 0,
-    })
-}
-
-// The pair at this place, as a row.
-pub(crate) fn pair_row(pairs: &[(Name, Name)], index: usize) -> Option<RowParts<'_>>
-    ensures { option_map parts_of result ≡ pair_at pairs.now index }
-{
-    let (first, second) = pairs.get(index)?;
-    Some(RowParts {
-        first: first.as_str().as_bytes(),
-        second: second.as_str().as_bytes(),
-        third: b"",
-        number: 0,
-    })
 }

@@ -1,14 +1,25 @@
 //! Texts and rows that are copied into the buffers of a caller.
-ghost use Rattle.std.specs.Prelude.{◌≡◌, ◌≤◌, ◌+◌, ◌↔◌, ◌⊎◌, List, IsTrue, Some, None, IfSome, IfNone, length, take, ◌++◌};
-ghost use Rattle.admin_mgr.specs.RbacState.{RbacState};
+ghost use Rattle.std.specs.Prelude.{◌≡◌, ◌≤◌, ◌+◌, ◌↔◌, IsTrue, Some, IfSome, IfNone, option_map, length, take, ◌++◌};
 ghost use Rattle.role_lines.specs.RowParts.{parts_of};
-ghost use Rattle.role_lines.specs.StoredRow.{IsRowAt, Parts, names_in};
-ghost use Rattle.rbac_c.specs.Calls.{Copies, CopiesFrom, CopiesParts, IsPast, lengths_of};
+ghost use Rattle.role_lines.specs.StoredRow.{name_at, names_in, pair_at};
+ghost use Rattle.rbac_c.specs.Calls.{Copies, CopiesParts, CopiesSome, IsPast, lengths_of};
+ghost use Rattle.rbac_c.specs.private.Copied.{row_of};
 
 use crate::calls::{DONE, RowLengths, SHORT};
 use admin_mgr::State;
-use rbac_sets::Table;
+use rbac_sets::{Name, Table};
 use role_lines::{RowParts, row_at};
+
+// The rows from which a call copies.
+#[derive(Clone, Copy)]
+pub(crate) enum Rows<'a> {
+    // The rows of a table.
+    OfTable(&'a State, Table),
+    // Each name is a row.
+    Names(&'a [Name]),
+    // Each pair is a row of two names.
+    Pairs(&'a [(Name, Name)]),
+}
 
 // Copies a text into the buffer, if it is long enough, and writes the length of the text.
 pub(crate) fn copy(text: &[u8], out: &mut [u8], count: &mut usize) -> u32
@@ -34,21 +45,19 @@ pub(crate) fn copy_row(row: &RowParts<'_>, out: &mut [u8], lengths: &mut RowLeng
     DONE
 }
 
-// Copies the rows from this place of the table on, as many as there are and as there is room for, and returns how many
-// these are.
+// Copies the rows from this place on, as many as there are and as there is room for, and returns how many these are.
 pub(crate) fn copy_rows(
-    state: &State,
-    table: Table,
+    rows: Rows<'_>,
     index: usize,
     out: &mut [u8],
     lengths: &mut [RowLengths],
 ) -> usize
-    ensures { (rows : List Parts) × ((result ≡ length rows) × CopiesFrom state.now.facts table index out.new lengths.new rows) }
+    ensures { CopiesSome (row_of rows.entry) index out.new lengths.new result }
 {
     let mut at = 0;
     let mut count = 0;
     while count < lengths.len() {
-        let Some(row) = row_behind(state, table, index, count) else {
+        let Some(row) = row_behind(rows, index, count) else {
             break;
         };
         if !fits(&row, out.len() - at) {
@@ -62,12 +71,49 @@ pub(crate) fn copy_rows(
 }
 
 // The row so many places behind this one.
-fn row_behind(state: &State, table: Table, index: usize, count: usize) -> Option<RowParts<'_>>
-    ensures there { IfSome result (λ row. IsRowAt state.now.facts table (index + count) (Some (parts_of row))) }
-    ensures past { IfNone result (IsPast state.now.facts table (index + count)) }
+fn row_behind<'a>(rows: Rows<'a>, index: usize, count: usize) -> Option<RowParts<'a>>
+    ensures there { IfSome result (λ row. row_of rows.entry (index + count) (Some (parts_of row))) }
+    ensures past { IfNone result (IsPast (row_of rows.entry) (index + count)) }
 {
     let place = index.checked_add(count)?;
-    row_at(state, table, place)
+    row(rows, place)
+}
+
+// The row at this place, if there is one.
+fn row<'a>(rows: Rows<'a>, place: usize) -> Option<RowParts<'a>>
+    ensures { row_of rows.entry place (option_map parts_of result) }
+{
+    match rows {
+        Rows::OfTable(state, table) => row_at(state, table, place),
+        Rows::Names(names) => name_row(names, place),
+        Rows::Pairs(pairs) => pair_row(pairs, place),
+    }
+}
+
+// The name at this place, as a row.
+fn name_row(names: &[Name], place: usize) -> Option<RowParts<'_>>
+    ensures { option_map parts_of result ≡ name_at names.now place }
+{
+    let name = names.get(place)?;
+    Some(RowParts {
+        first: name.as_str().as_bytes(),
+        second: b"",
+        third: b"",
+        number: 0,
+    })
+}
+
+// The pair at this place, as a row.
+fn pair_row(pairs: &[(Name, Name)], place: usize) -> Option<RowParts<'_>>
+    ensures { option_map parts_of result ≡ pair_at pairs.now place }
+{
+    let (first, second) = pairs.get(place)?;
+    Some(RowParts {
+        first: first.as_str().as_bytes(),
+        second: second.as_str().as_bytes(),
+        third: b"",
+        number: 0,
+    })
 }
 
 // The lengths of the names of a row, and its number.

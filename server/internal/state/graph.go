@@ -8,8 +8,6 @@ import (
 
 // A Graph has the inheritances and the separation of duty sets of an office at one moment. It never changes.
 type Graph struct {
-	// juniors has the roles of which a role is an immediate ascendant.
-	juniors map[string][]string
 	// Edges are the immediate inheritances, and Static and Dynamic the sets, in the order of their names.
 	Edges           []Row
 	Static, Dynamic []NamedSet
@@ -20,21 +18,15 @@ func (v *View) Graph() *Graph {
 	if graph := v.state.graph.Load(); graph != nil {
 		return graph
 	}
-	graph := newGraph(v.all(rbacoffice.Inheritances))
-	graph.Static = v.sets(rbacoffice.StaticCardinalities, rbacoffice.StaticMembers)
-	graph.Dynamic = v.sets(rbacoffice.DynamicCardinalities, rbacoffice.DynamicMembers)
+	graph := &Graph{
+		Edges:   v.all(rbacoffice.Inheritances),
+		Static:  v.sets(rbacoffice.StaticCardinalities, rbacoffice.StaticMembers),
+		Dynamic: v.sets(rbacoffice.DynamicCardinalities, rbacoffice.DynamicMembers),
+	}
 	if v.err == nil {
 		v.state.graph.Store(graph) // Nobody changes the office meanwhile.
 	}
 	return graph
-}
-
-func newGraph(edges []Row) *Graph {
-	g := &Graph{juniors: map[string][]string{}, Edges: edges}
-	for _, edge := range edges {
-		g.juniors[edge[0]] = append(g.juniors[edge[0]], edge[1])
-	}
-	return g
 }
 
 // sets returns the sets of one kind.
@@ -56,22 +48,6 @@ func (g *Graph) Sets(isStatic bool) []NamedSet {
 		return g.Static
 	}
 	return g.Dynamic
-}
-
-// Below returns a role and its juniors in a graph that may not be that of the office yet.
-func (g *Graph) Below(role string) map[string]bool {
-	found := map[string]bool{role: true}
-	for todo := []string{role}; len(todo) > 0; {
-		next := todo[len(todo)-1]
-		todo = todo[:len(todo)-1]
-		for _, junior := range g.juniors[next] {
-			if !found[junior] {
-				found[junior] = true
-				todo = append(todo, junior)
-			}
-		}
-	}
-	return found
 }
 
 // Violated returns the first dynamic set, in the order of their names, of which too many members are among some roles, and these members.
@@ -111,6 +87,21 @@ func (v *View) Above(list, others []string) map[string][]string {
 				found[role] = append(found[role], other)
 			}
 		}
+	}
+	return found
+}
+
+// among returns, for each of some roles, which roles of a list are this role or a junior of it.
+func (v *View) among(list, roles []string) map[string]map[string]bool {
+	found := make(map[string]map[string]bool, len(roles))
+	for _, role := range roles {
+		has, below := map[string]bool{}, v.Below(role)
+		for _, one := range list {
+			if below[one] {
+				has[one] = true
+			}
+		}
+		found[role] = has
 	}
 	return found
 }

@@ -64,46 +64,105 @@ type holding struct {
 	roles        []string
 }
 
-// Conflicts returns the separation of duty sets that a command would violate now, static ones first, in the order of their names. It
-// looks at nothing else that might refuse the command.
-func (s *State) Conflicts(call *api.Call) (found []Conflict, err error) {
-	var graph *Graph
-	var users, sessions []holding
-	kinds := separating[call.Function]
-	var static []NamedSet
-	err = s.Look(func(v *View) {
-		graph = v.Graph()
-		if static = setsAfter(graph.Static, call); kinds[0] {
-			static, users = v.refusing(static, call), v.usersAfter(call)
-		}
-		if kinds[1] {
-			sessions = v.sessionsAfter(call)
-		}
-	})
-	if err != nil {
-		return nil, err
-	}
-	if call.Function == "addInheritance" {
-		now := graph
-		graph = newGraph(append(append([]Row(nil), now.Edges...), Row{call.Ascendant, call.Descendant}))
-		graph.Static, graph.Dynamic = now.Static, now.Dynamic
-	}
-	found = graph.conflicts(true, static, users)
-	return append(found, graph.conflicts(false, setsAfter(graph.Dynamic, call), sessions)...), nil
+// A judgement is what has to be known about a command: the sets that it can violate, and those who would violate them.
+type judgement struct {
+	static, dynamic []NamedSet
+	users, sessions []holding
+	// has tells for a role which members of the sets are this role or a junior of it.
+	has map[string]map[string]bool
 }
 
-// refusing returns those of some static sets that refuse an assignment, as librbac says. If there is no such user or role, or the command
-// is another one, it returns them all.
-func (v *View) refusing(sets []NamedSet, call *api.Call) (found []NamedSet) {
-	if call.Function != "assignUser" {
-		return sets
+// Conflicts returns the separation of duty sets that a command would violate now, static ones first, in the order of their names. A
+// command that is refused before they are judged violates none.
+func (s *State) Conflicts(call *api.Call) (found []Conflict, err error) {
+	var judged judgement
+	if err := s.Look(func(v *View) { judged = v.judge(call) }); err != nil {
+		return nil, err
 	}
-	names, err := v.state.office.AssignmentConflicts(call.User, call.Role)
+	found = judged.conflicts(true, judged.static, judged.users)
+	return append(found, judged.conflicts(false, judged.dynamic, judged.sessions)...), nil
+}
+
+// judge reads what has to be known about a command.
+func (v *View) judge(call *api.Call) (j judgement) {
+	if call.Has("set") {
+		j.static, j.dynamic = v.changedSet(call)
+	} else {
+		j.static, j.dynamic = v.violated(call)
+	}
+	if len(j.static) > 0 {
+		j.users = v.usersAfter(call)
+	}
+	if len(j.dynamic) > 0 {
+		j.sessions = v.sessionsAfter(call)
+	}
+	j.has = v.had(&j, call)
+	return j
+}
+
+// had returns which members of the sets of a judgement each role has that somebody is assigned to or that is activated: those that are
+// the role or a junior of it after the command.
+func (v *View) had(j *judgement, call *api.Call) map[string]map[string]bool {
+	var members, roles []string
+	for _, sets := range [][]NamedSet{j.static, j.dynamic} {
+		for _, set := range sets {
+			members = append(members, set.Roles...)
+		}
+	}
+	for _, holders := range [][]holding{j.users, j.sessions} {
+		for _, one := range holders {
+			roles = append(roles, one.roles...)
+		}
+	}
+	if call.Function != "addInheritance" {
+		return v.among(sorted(members), sorted(roles))
+	}
+	found := v.among(sorted(append(members, call.Ascendant)), sorted(append(roles, call.Descendant)))
+	for _, has := range found {
+		for member := range found[call.Descendant] {
+			has[member] = has[member] || has[call.Ascendant]
+		}
+	}
+	return found
+}
+
+// violated returns the sets that a command would violate, which changes none of them, as librbac says.
+func (v *View) violated(call *api.Call) (static, dynamic []NamedSet) {
+	office, graph := v.state.office, v.Graph()
+	switch call.Function {
+	case "assignUser":
+		names, err := office.AssignmentConflicts(call.User, call.Role)
+		return v.named(graph.Static, names, err), nil
+	case "addActiveRole":
+		names, err := office.ActivationConflicts(call.User, call.Session, call.Role)
+		return nil, v.named(graph.Dynamic, names, err)
+	case "createSession":
+		sets, err := office.CreationConflicts(call.User, call.Roles)
+		var names []string
+		for _, one := range sets {
+			names = append(names, one.Set)
+		}
+		return nil, v.named(graph.Dynamic, names, err)
+	}
+	names := func(found []rbacoffice.Conflict, err error) (names []string, _ error) {
+		for _, one := range found {
+			names = append(names, one.Set)
+		}
+		return names, err
+	}
+	users, err := names(office.StaticConflicts(call.Ascendant, call.Descendant))
+	static = v.named(graph.Static, users, err)
+	sessions, err := names(office.DynamicConflicts(call.Ascendant, call.Descendant))
+	return static, v.named(graph.Dynamic, sessions, err)
+}
+
+// named returns those of some sets that librbac names, both in the order of their names: none if it refuses the question.
+func (v *View) named(sets []NamedSet, names []string, err error) (found []NamedSet) {
 	var refused *rbacoffice.RefusedError
 	if errors.As(err, &refused) || v.fail(err) {
-		return sets
+		return nil
 	}
-	for _, one := range sets { // Both are in the order of their names.
+	for _, one := range sets {
 		if len(names) > 0 && one.Name == names[0] {
 			found, names = append(found, one), names[1:]
 		}
@@ -111,27 +170,27 @@ func (v *View) refusing(sets []NamedSet, call *api.Call) (found []NamedSet) {
 	return found
 }
 
-// setsAfter returns the sets that a command can violate: the one that it makes or changes, as it would be then, or all.
-func setsAfter(sets []NamedSet, call *api.Call) []NamedSet {
-	name := call.Set
-	if !call.Has("set") {
-		return sets
-	}
-	changed := NamedSet{Name: name}
-	for _, one := range sets {
-		if one.Name == name {
+// changedSet returns the set that a command makes or changes, as it would be then.
+func (v *View) changedSet(call *api.Call) (static, dynamic []NamedSet) {
+	isStatic := separating[call.Function][0]
+	changed := NamedSet{Name: call.Set}
+	for _, one := range v.Graph().Sets(isStatic) {
+		if one.Name == call.Set {
 			changed = one
 		}
 	}
 	switch function := call.Function; {
 	case strings.HasPrefix(function, "create"):
-		changed = NamedSet{name, sorted(call.Roles), cardinalityOf(call)}
+		changed = NamedSet{call.Set, sorted(call.Roles), cardinalityOf(call)}
 	case strings.HasPrefix(function, "add"):
 		changed.Roles = sorted(append([]string{call.Role}, changed.Roles...))
 	default:
 		changed.Cardinality = cardinalityOf(call)
 	}
-	return []NamedSet{changed}
+	if isStatic {
+		return []NamedSet{changed}, nil
+	}
+	return nil, []NamedSet{changed}
 }
 
 // cardinalityOf reads the cardinality from the line of a call, which ends with it.
@@ -185,17 +244,19 @@ func (v *View) sessionsAfter(call *api.Call) (found []holding) {
 }
 
 // conflicts returns the sets of which one of some holders has too many members.
-func (g *Graph) conflicts(isStatic bool, sets []NamedSet, holders []holding) (found []Conflict) {
-	below := map[string]map[string]bool{}
+func (j *judgement) conflicts(isStatic bool, sets []NamedSet, holders []holding) (found []Conflict) {
 	for _, set := range sets {
-		one := Conflict{NamedSet: set, IsStatic: isStatic}
-		counted := counting{members: one.Roles, below: below, masks: map[string]uint64{}}
+		one, masks := Conflict{NamedSet: set, IsStatic: isStatic}, j.masks(set.Roles)
 		for _, holder := range holders {
 			if one.Cardinality < 1 || len(one.Holders) == mostHolders {
 				break
 			}
-			if counted.count(g, holder.roles) >= one.Cardinality {
-				one.Holders = append(one.Holders, Holder{holder.user, holder.digest, g.held(one.Roles, holder.roles, below)})
+			all := uint64(0)
+			for _, role := range holder.roles {
+				all |= masks[role]
+			}
+			if int64(bits.OnesCount64(all)) >= one.Cardinality {
+				one.Holders = append(one.Holders, Holder{holder.user, holder.digest, j.held(one.Roles, holder.roles)})
 			}
 		}
 		if len(one.Holders) > 0 {
@@ -205,44 +266,25 @@ func (g *Graph) conflicts(isStatic bool, sets []NamedSet, holders []holding) (fo
 	return found
 }
 
-// A counting counts members of a set, of which there are at most 32. below keeps what is below a role, and masks which of the members
-// are, a bit for each.
-type counting struct {
-	members []string
-	below   map[string]map[string]bool
-	masks   map[string]uint64
-}
-
-// count returns how many of the members are among roles and their juniors.
-func (c *counting) count(g *Graph, roles []string) int64 {
-	all := uint64(0)
-	for _, role := range roles {
-		mask, isKept := c.masks[role]
-		if !isKept {
-			if c.below[role] == nil {
-				c.below[role] = g.Below(role)
+// masks returns which of some members, of which there are at most 32, each role has: a bit for each.
+func (j *judgement) masks(members []string) map[string]uint64 {
+	masks := make(map[string]uint64, len(j.has))
+	for role, has := range j.has {
+		for i, member := range members {
+			if has[member] {
+				masks[role] |= 1 << i
 			}
-			for i, member := range c.members {
-				if c.below[role][member] {
-					mask |= 1 << i
-				}
-			}
-			c.masks[role] = mask
 		}
-		all |= mask
 	}
-	return int64(bits.OnesCount64(all))
+	return masks
 }
 
-// held returns which of some members are among roles and their juniors, and by which of the roles. What is below a role is kept.
-func (g *Graph) held(members, roles []string, below map[string]map[string]bool) (found []Held) {
+// held returns which of some members are among roles and their juniors, and by which of the roles.
+func (j *judgement) held(members, roles []string) (found []Held) {
 	for _, member := range members {
 		one := Held{Role: member}
 		for _, role := range roles {
-			if below[role] == nil {
-				below[role] = g.Below(role)
-			}
-			if below[role][member] {
+			if j.has[role][member] {
 				one.By = append(one.By, role)
 			}
 		}

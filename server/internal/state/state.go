@@ -3,8 +3,8 @@
 // lists what no function of the office lists. Beside it are kept the numbers of the order, the newest commands for those who watch, and
 // the times of sessions: nothing else is known twice.
 //
-// What it concludes itself is how separation of duty sets and holders belong together, for conflicts, explanations and reports (Graph,
-// Conflicts).
+// Which sets a command on users, sessions or inheritances would violate librbac says. What it concludes itself is who holds their
+// members (Conflicts), what a command on a set would violate, and what sets forbid a role, for explanations and reports (Graph).
 package state
 
 import (

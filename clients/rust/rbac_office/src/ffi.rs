@@ -110,7 +110,7 @@ extern "C" {
         out_length: usize,
         reason: *mut RowLengths,
     ) -> u32;
-    pub fn rbac_assignment_conflict(
+    pub fn rbac_assignment_conflicts(
         office: *mut Handle,
         user: *const u8,
         user_length: usize,
@@ -119,9 +119,12 @@ extern "C" {
         index: usize,
         out: *mut u8,
         out_length: usize,
-        set: *mut RowLengths,
+        sets: *mut RowLengths,
+        set_count: usize,
+        count: *mut usize,
+        total: *mut usize,
     ) -> u32;
-    pub fn rbac_activation_conflict(
+    pub fn rbac_activation_conflicts(
         office: *mut Handle,
         user: *const u8,
         user_length: usize,
@@ -132,9 +135,12 @@ extern "C" {
         index: usize,
         out: *mut u8,
         out_length: usize,
-        set: *mut RowLengths,
+        sets: *mut RowLengths,
+        set_count: usize,
+        count: *mut usize,
+        total: *mut usize,
     ) -> u32;
-    pub fn rbac_inheritance_conflict(
+    pub fn rbac_inheritance_conflicts(
         office: *mut Handle,
         of_sessions: c_int,
         asc: *const u8,
@@ -144,7 +150,25 @@ extern "C" {
         index: usize,
         out: *mut u8,
         out_length: usize,
-        set: *mut RowLengths,
+        sets: *mut RowLengths,
+        set_count: usize,
+        count: *mut usize,
+        total: *mut usize,
+    ) -> u32;
+    pub fn rbac_creation_conflicts(
+        office: *mut Handle,
+        user: *const u8,
+        user_length: usize,
+        roles: *const u8,
+        role_lengths: *const usize,
+        role_count: usize,
+        index: usize,
+        out: *mut u8,
+        out_length: usize,
+        sets: *mut RowLengths,
+        set_count: usize,
+        count: *mut usize,
+        total: *mut usize,
     ) -> u32;
     pub fn rbac_revision(office: *const Handle, revision: *mut u64) -> u32;
     pub fn rbac_rows(

@@ -16,7 +16,10 @@
 use std::fmt;
 use std::sync::{PoisonError, RwLock, RwLockReadGuard, RwLockWriteGuard};
 
+mod conflicts;
 mod ffi;
+
+pub use conflicts::{Conflict, ViolatedSet};
 
 use ffi::{Handle, RowLengths};
 
@@ -25,7 +28,7 @@ const ROOM: usize = 4096;
 /// So many rows are read at once, at most.
 const ROWS: usize = 64;
 /// So many bytes are enough for two names.
-const NAMES: usize = 128;
+const LONGEST_PAIR: usize = 128;
 
 /// Why a call has no result.
 #[derive(Clone, Debug, PartialEq, Eq)]
@@ -62,6 +65,7 @@ fn name_of(code: u32) -> &'static str {
         29 => "NotAuthorized",
         32 => "TooMany",
         33 => "NoOperation",
+        37 => "UserLocked",
         52 => "Damaged",
         _ => "Unknown",
     }
@@ -182,14 +186,6 @@ impl Reason {
             _ => Reason::NotActive,
         }
     }
-}
-
-/// A separation of duty set that an inheritance would violate, with the first user who would be authorized for too many of its
-/// roles, or with the first session that would have too many.
-#[derive(Clone, Debug, PartialEq, Eq)]
-pub struct Conflict {
-    pub set: String,
-    pub holder: String,
 }
 
 /// An office in memory.
@@ -318,7 +314,7 @@ impl Office {
 
     /// The reason of the decision about the holder, which is a session or a user.
     fn explain_holder(&self, explanation: ffi::Explanation, holder: &str, operation: &str, object: &str) -> Result<Reason, Error> {
-        let mut names = [0; NAMES];
+        let mut names = [0; LONGEST_PAIR];
         let mut reason = RowLengths::default();
         // SAFETY: the pointers and lengths are those of texts and of an array, and the lock is held.
         let code = unsafe {
@@ -340,103 +336,6 @@ impl Office {
         }
         let (first, second) = two_names(&names, &reason);
         Ok(Reason::of(reason.number, first, second))
-    }
-
-    /// The static separation of duty sets that would be violated if the user were assigned to the role, in byte order. If
-    /// assignUser is refused with StaticSeparation, it names the first.
-    pub fn assignment_conflicts(&self, user: &str, role: &str) -> Result<Vec<String>, Error> {
-        let found = self.conflicts(|handle, index, out, set| {
-            // SAFETY: the pointers and lengths are those of texts and of a slice, and the lock is held.
-            unsafe {
-                ffi::rbac_assignment_conflict(
-                    handle,
-                    user.as_ptr(),
-                    user.len(),
-                    role.as_ptr(),
-                    role.len(),
-                    index,
-                    out.as_mut_ptr(),
-                    out.len(),
-                    set,
-                )
-            }
-        })?;
-        Ok(found.into_iter().map(|one| one.set).collect())
-    }
-
-    /// The dynamic separation of duty sets that would be violated if the role were activated in the user's session, in byte
-    /// order. If addActiveRole is refused with DynamicSeparation, it names the first.
-    pub fn activation_conflicts(&self, user: &str, session: &str, role: &str) -> Result<Vec<String>, Error> {
-        let found = self.conflicts(|handle, index, out, set| {
-            // SAFETY: the pointers and lengths are those of texts and of a slice, and the lock is held.
-            unsafe {
-                ffi::rbac_activation_conflict(
-                    handle,
-                    user.as_ptr(),
-                    user.len(),
-                    session.as_ptr(),
-                    session.len(),
-                    role.as_ptr(),
-                    role.len(),
-                    index,
-                    out.as_mut_ptr(),
-                    out.len(),
-                    set,
-                )
-            }
-        })?;
-        Ok(found.into_iter().map(|one| one.set).collect())
-    }
-
-    /// The static separation of duty sets that would be violated if `asc` became an immediate ascendant of `desc`, in byte
-    /// order, each with the first user who would violate it. If addInheritance is refused with StaticSeparation, it names the
-    /// first.
-    pub fn static_conflicts(&self, asc: &str, desc: &str) -> Result<Vec<Conflict>, Error> {
-        self.inheritance_conflicts(false, asc, desc)
-    }
-
-    /// The dynamic sets that would be violated, each with the first session that would violate it. If addInheritance is refused
-    /// with DynamicSeparation, it names the first.
-    pub fn dynamic_conflicts(&self, asc: &str, desc: &str) -> Result<Vec<Conflict>, Error> {
-        self.inheritance_conflicts(true, asc, desc)
-    }
-
-    fn inheritance_conflicts(&self, of_sessions: bool, asc: &str, desc: &str) -> Result<Vec<Conflict>, Error> {
-        self.conflicts(|handle, index, out, set| {
-            // SAFETY: the pointers and lengths are those of texts and of a slice, and the lock is held.
-            unsafe {
-                ffi::rbac_inheritance_conflict(
-                    handle,
-                    of_sessions.into(),
-                    asc.as_ptr(),
-                    asc.len(),
-                    desc.as_ptr(),
-                    desc.len(),
-                    index,
-                    out.as_mut_ptr(),
-                    out.len(),
-                    set,
-                )
-            }
-        })
-    }
-
-    /// What a function of the library returns one by one, until there are no more.
-    fn conflicts(&self, at: impl Fn(&mut Handle, usize, &mut [u8], &mut RowLengths) -> u32) -> Result<Vec<Conflict>, Error> {
-        let mut found = Vec::new();
-        let mut handle = self.lock();
-        loop {
-            let mut names = [0; NAMES];
-            let mut lengths = RowLengths::default();
-            match at(&mut handle, found.len(), &mut names, &mut lengths) {
-                ffi::DONE => {
-                    let (set, holder) = two_names(&names, &lengths);
-                    found.push(Conflict { set, holder });
-                }
-                ffi::ABSENT => return Ok(found),
-                code => return Err(Error::of(code)),
-            }
-        }
     }
 
     /// How many commands the office has accepted. A decision holds as long as this stays the same.
@@ -544,7 +443,7 @@ impl Drop for Office {
 
 #[cfg(test)]
 mod tests {
-    use super::{Conflict, Error, Office, Reason, Row, Table};
+    use super::{Conflict, Error, Office, Reason, Row, Table, ViolatedSet};
     use std::thread;
 
     fn row(table: Table, first: &str, second: &str) -> Row {
@@ -636,6 +535,48 @@ mod tests {
         assert_eq!(office.dynamic_conflicts("buyer", "payer"), Ok(vec![conflict("d", "t")]));
         assert_eq!(office.static_conflicts("payer", "buyer"), Ok(vec![]));
         assert_eq!(office.static_conflicts("payer", "payer"), Err(refused(16, "Cycle")));
+    }
+
+    #[test]
+    fn conflicts_of_a_session_are_named() {
+        let office = shop();
+        assert_eq!(office.creation_conflicts("ann", &["buyer", "buyer"]), Ok(vec![]));
+        assert_eq!(office.creation_conflicts("ann", &[]), Ok(vec![]));
+        assert_eq!(office.creation_conflicts("eve", &["none"]), Err(refused(2, "NoUser")));
+        assert_eq!(office.creation_conflicts("ann", &["buyer", "none"]), Err(refused(4, "NoRole")));
+        assert_eq!(office.creation_conflicts("bob", &["buyer"]), Err(refused(29, "NotAuthorized")));
+        assert_eq!(office.creation_conflicts("bob", &[""]), Err(refused(1, "BadName")));
+        for line in [
+            r#"{"fn":"deleteSsdSet","set":"s"}"#,
+            r#"{"fn":"assignUser","user":"ann","role":"payer"}"#,
+            r#"{"fn":"lockUserAccount","user":"bob"}"#,
+        ] {
+            assert_eq!(office.answer(line.as_bytes()).unwrap(), br#"{"ok":true}"#, "{line}");
+        }
+        let violated = ViolatedSet { set: "d".to_string(), roles: vec!["buyer".to_string(), "payer".to_string()] };
+        assert_eq!(office.creation_conflicts("ann", &["payer", "buyer"]), Ok(vec![violated]));
+        assert_eq!(office.creation_conflicts("bob", &[]), Err(refused(37, "UserLocked")));
+    }
+
+    #[test]
+    fn many_conflicts_are_named() {
+        let office = Office::new().unwrap();
+        let done = |line: &str| assert_eq!(office.answer(line.as_bytes()).unwrap(), br#"{"ok":true}"#, "{line}");
+        let name = |letter: char, number: usize| format!("{letter}{number:02}{}", "x".repeat(61));
+        done(r#"{"fn":"addUser","user":"ann"}"#);
+        let roles: Vec<String> = (0..32).map(|number| name('r', number)).collect();
+        for role in &roles {
+            done(&format!(r#"{{"fn":"addRole","role":"{role}"}}"#));
+            done(&format!(r#"{{"fn":"assignUser","user":"ann","role":"{role}"}}"#));
+        }
+        for number in 0..64 {
+            let set = name('s', number);
+            done(&format!(r#"{{"fn":"createDsdSet","set":"{set}","roles":{roles:?},"cardinality":2}}"#));
+        }
+        let wanted: Vec<ViolatedSet> =
+            (0..64).map(|number| ViolatedSet { set: name('s', number), roles: roles.clone() }).collect();
+        let asked: Vec<&str> = roles.iter().map(String::as_str).collect();
+        assert_eq!(office.creation_conflicts("ann", &asked), Ok(wanted));
     }
 
     #[test]

@@ -1,0 +1,5 @@
+use Rattle.std.proofs.Common.{refl, rules}
+use Rattle.rbac_c.proofs.conflicts.copy_names.Goals as goal
+
+pub returns : goal.returns
+returns c = (refl, (search rules, c.copy_rows.ensures))
