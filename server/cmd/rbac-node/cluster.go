@@ -139,7 +139,7 @@ func (s *clusterSettings) adoptInto(ctx context.Context, shared *ledger.Ledger, 
 
 // open checks the settings, and opens the log in etcd.
 func (s *clusterSettings) open(common *settings) (*ledger.Ledger, *logs.Logger, func(), error) {
-	s.common, s.Program, s.AnswerTimeout, s.HangTimeout = common, common.program, common.answerTimeout, common.hangTimeout
+	s.common, s.Program, s.AnswerTimeout, s.HangTimeout = common, common.program, common.front.AnswerTimeout, common.hangTimeout
 	if err := s.check(); err != nil {
 		return nil, nil, nil, err
 	}
@@ -193,8 +193,8 @@ func (s *clusterSettings) serveNode(ctx context.Context, shared *ledger.Ledger, 
 	if err != nil {
 		return err
 	}
-	if s.common.refused == "" {
-		s.common.refused = filepath.Join(s.Data, "refused")
+	if s.common.front.Refused == "" {
+		s.common.front.Refused = filepath.Join(s.Data, "refused")
 	}
 	registry := metrics.New(version, sources, proved)
 	f, err := front.New(ctx, s.common.frontOptions(addresses, events, registry))
@@ -202,7 +202,7 @@ func (s *clusterSettings) serveNode(ctx context.Context, shared *ledger.Ledger, 
 		return err
 	}
 	defer f.Close()
-	s.IsOpen, s.SessionAge = s.common.callers.Callers == "", s.common.sessionAge
+	s.IsOpen, s.SessionAge = s.common.front.IsOpen(), s.common.sessionAge
 	if !s.common.record.isOff {
 		s.Record = s.common.followRecord(s.Data, s.Options.File(), s.partEntries, events, registry)
 	}
@@ -224,8 +224,7 @@ func (s *clusterSettings) answer(ctx context.Context, f *front.Front, n *node.No
 		return err
 	}
 	failed := make(chan error, 1)
-	peers := web.Serve(reportingTo(failed), listener, peerHandler(n, all),
-		web.Limits{Connections: peerConnections, AnswerTimeout: snapshotTimeout})
+	peers := web.ServeIn(web.NewRoom(peerConnections), reportingTo(failed), listener, peerHandler(n, all), web.Limits{AnswerTimeout: snapshotTimeout})
 	err = answer(ctx, f, n, failed, events, func(within context.Context) { web.Shutdown(within, peers) })
 	if ctx.Err() != nil && errors.Is(err, context.Canceled) {
 		return nil // The signal came while the node was recovering.
@@ -237,7 +236,7 @@ func (s *clusterSettings) answer(ctx context.Context, f *front.Front, n *node.No
 func peerHandler(n *node.Node, registry *prometheus.Registry) http.Handler {
 	mux := http.NewServeMux()
 	mux.Handle("/snapshot", n.Snapshots())
-	mux.HandleFunc("/healthz", n.ServeHealth)
+	mux.HandleFunc("/healthz", func(w http.ResponseWriter, _ *http.Request) { n.Health().Reply(w) })
 	mux.Handle("/metrics", metrics.Handler(registry))
 	return mux
 }

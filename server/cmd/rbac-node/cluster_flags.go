@@ -62,7 +62,7 @@ func (s *clusterSettings) check() error {
 	case s.peerTLS.Cert != "" && s.peerTLS.CA == "" && !s.isPeerOpen:
 		return errors.New("--peer-cert without --peer-ca gives everybody the whole policy; if that is wanted, add --peer-open")
 	}
-	if s.common != nil && s.common.callers.Callers != "" && !s.isEtcdOpen && !s.asksUsers() {
+	if s.common != nil && !s.common.front.IsOpen() && !s.isEtcdOpen && !s.asksUsers() {
 		return errors.New("with --callers give https URLs of etcd, and --etcd-user or --etcd-cert: whoever may write etcd's log " +
 			"needs to be no caller; if others can't reach etcd, add --etcd-open")
 	}

@@ -113,7 +113,7 @@ func withArguments(count int, do func(arguments []string) error) func([]string) 
 
 // newSettings returns settings whose flags are defined.
 func newSettings(flags *flag.FlagSet) *settings {
-	s := &settings{hangups: make(chan os.Signal, 1)}
+	s := &settings{}
 	s.define(flags)
 	s.cluster.define(flags)
 	return s
@@ -121,7 +121,9 @@ func newSettings(flags *flag.FlagSet) *settings {
 
 func prepareServe(flags *flag.FlagSet) func([]string) error {
 	s := newSettings(flags)
-	signal.Notify(s.hangups, syscall.SIGHUP)
+	hangups := make(chan os.Signal, 1)
+	signal.Notify(hangups, syscall.SIGHUP)
+	s.front.Hangups = hangups
 	return withArguments(0, func([]string) error { return serve(s) })
 }
 
@@ -138,7 +140,7 @@ func prepareCallers(flags *flag.FlagSet) func([]string) error {
 		case s.isCheck && len(arguments) == 0:
 			return untilSignal(s.checkCallers)
 		case !s.isCheck && len(arguments) == 1:
-			s.callers.Callers = arguments[0]
+			s.front.Callers.Callers = arguments[0]
 			return untilSignal(s.printGrants)
 		}
 		return errUsage

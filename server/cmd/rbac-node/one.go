@@ -5,7 +5,6 @@ import (
 	"errors"
 	"os"
 
-	"rbac-node/internal/feed"
 	"rbac-node/internal/front"
 	"rbac-node/internal/logs"
 	"rbac-node/internal/metrics"
@@ -21,15 +20,15 @@ func (s *settings) serveOne(ctx context.Context) error {
 		return err
 	}
 	for _, address := range addresses {
-		if !address.IsLocal() && (s.tls.Cert == "" || s.callers.Callers == "") {
+		if !address.IsLocal() && (s.front.TLS.Cert == "" || s.front.IsOpen()) {
 			return errNotLocal
 		}
 	}
 	if err := single.CheckFile(ctx, s.program, s.office); err != nil {
 		return err
 	}
-	if s.refused == "" {
-		s.refused = s.office + ".refused"
+	if s.front.Refused == "" {
+		s.front.Refused = s.office + ".refused"
 	}
 	log, registry := logs.New(os.Stderr), metrics.New(version, sources, proved)
 	options := s.frontOptions(addresses, log, registry)
@@ -40,8 +39,8 @@ func (s *settings) serveOne(ctx context.Context) error {
 	}
 	defer f.Close()
 	one := single.Options{
-		File: s.office, Program: s.program, AnswerTimeout: s.answerTimeout, HangTimeout: s.hangTimeout, Reads: single.MostReads,
-		Log: log, Figures: feed.NewFigures(registry), IsOpen: options.IsOpen(),
+		File: s.office, Program: s.program, AnswerTimeout: s.front.AnswerTimeout, HangTimeout: s.hangTimeout, Reads: single.MostReads,
+		Log: log, Metrics: registry, IsOpen: options.IsOpen(),
 		SessionAge: s.sessionAge, SessionIdle: s.sessionIdle,
 	}
 	failed := make(chan error, 1)

@@ -12,7 +12,6 @@ import (
 
 	"github.com/prometheus/client_golang/prometheus"
 
-	"rbac-node/internal/callers"
 	"rbac-node/internal/front"
 	"rbac-node/internal/logs"
 	"rbac-node/internal/web"
@@ -27,20 +26,13 @@ const (
 
 // settings are what the command line chooses for an office, on one machine or on several.
 type settings struct {
-	office, program, listen, origins, refused string
-	publicURL                                 string
-	sessionAge, sessionIdle                   time.Duration
-	answerTimeout, hangTimeout                time.Duration
-	connections, callerRequests               int
-	tls                                       web.TLS
-	callers                                   callers.Files
-	isCheck                                   bool
-	decisionsShare                            float64
-	decisionsFile                             string
-	record                                    recordSettings
-	cluster                                   clusterSettings
-	// hangups gets SIGHUP.
-	hangups chan os.Signal
+	front                            front.Options
+	office, program, listen, origins string
+	sessionAge, sessionIdle          time.Duration
+	hangTimeout                      time.Duration
+	isCheck                          bool
+	record                           recordSettings
+	cluster                          clusterSettings
 }
 
 // define defines the flags, and where their values go.
@@ -48,26 +40,26 @@ func (s *settings) define(flags *flag.FlagSet) {
 	flags.StringVar(&s.office, "office", "", "`file` of the office, which is made if it doesn't exist, for one machine")
 	flags.StringVar(&s.listen, "listen", "", "where clients connect, as `ADDRESS,..`: each HOST:PORT or unix:PATH")
 	flags.StringVar(&s.program, "program", "rbac", "the proved `program`, a path or a name that is looked up in PATH")
-	flags.DurationVar(&s.answerTimeout, "timeout", 10*time.Second, "how long a request waits for its answer")
+	flags.DurationVar(&s.front.AnswerTimeout, "timeout", 10*time.Second, "how long a request waits for its answer")
 	flags.DurationVar(&s.hangTimeout, "hang-timeout", time.Minute, "how long the replay may answer nothing before it is killed")
-	flags.IntVar(&s.connections, "connections", allowedConnections(), "how many connections of clients there may be at once")
-	flags.IntVar(&s.callerRequests, "caller-requests", defaultCallerRequests, "how many requests of one caller there may be at once")
-	flags.StringVar(&s.tls.Cert, "tls-cert", "", "`file` of the certificate for clients")
-	flags.StringVar(&s.tls.Key, "tls-key", "", "`file` of the key of that certificate")
-	flags.StringVar(&s.tls.CA, "tls-ca", "", "`file` of the authority of the certificates of clients")
-	flags.StringVar(&s.callers.Callers, "callers", "", "`file` that says who may do what; without it everybody may do everything")
-	flags.StringVar(&s.callers.Tokens, "tokens", "", "`file` with the SHA-256 and the name of each token")
-	flags.StringVar(&s.callers.Keys, "oidc-keys", "", "`file` with the public keys of JWTs")
-	flags.StringVar(&s.callers.Issuer, "oidc-issuer", "", "`issuer` of JWTs")
-	flags.StringVar(&s.callers.Audience, "oidc-audience", "", "`audience` for which JWTs have to be")
-	flags.StringVar(&s.callers.Subject, "oidc-claim", "sub", "`claim` of a JWT that names its caller")
+	flags.IntVar(&s.front.Connections, "connections", allowedConnections(), "how many connections of clients there may be at once")
+	flags.IntVar(&s.front.CallerRequests, "caller-requests", defaultCallerRequests, "how many requests of one caller there may be at once")
+	flags.StringVar(&s.front.TLS.Cert, "tls-cert", "", "`file` of the certificate for clients")
+	flags.StringVar(&s.front.TLS.Key, "tls-key", "", "`file` of the key of that certificate")
+	flags.StringVar(&s.front.TLS.CA, "tls-ca", "", "`file` of the authority of the certificates of clients")
+	flags.StringVar(&s.front.Callers.Callers, "callers", "", "`file` that says who may do what; without it everybody may do everything")
+	flags.StringVar(&s.front.Callers.Tokens, "tokens", "", "`file` with the SHA-256 and the name of each token")
+	flags.StringVar(&s.front.Callers.Keys, "oidc-keys", "", "`file` with the public keys of JWTs")
+	flags.StringVar(&s.front.Callers.Issuer, "oidc-issuer", "", "`issuer` of JWTs")
+	flags.StringVar(&s.front.Callers.Audience, "oidc-audience", "", "`audience` for which JWTs have to be")
+	flags.StringVar(&s.front.Callers.Subject, "oidc-claim", "sub", "`claim` of a JWT that names its caller")
 	flags.DurationVar(&s.sessionAge, "session-age", 0, "after how much time a session ends (default: never)")
 	flags.DurationVar(&s.sessionIdle, "session-idle", 0, "after how much time without a use a session ends (default: never), for one machine")
-	flags.StringVar(&s.publicURL, "public-url", "", "where clients find the front, as the `URL` https://HOST:PORT, for AuthZEN's metadata")
+	flags.StringVar(&s.front.PublicURL, "public-url", "", "where clients find the front, as the `URL` https://HOST:PORT, for AuthZEN's metadata")
 	flags.StringVar(&s.origins, "origin", "", "origins from which browsers may send requests, as `ORIGIN,..`; it sets no CORS fields")
-	flags.StringVar(&s.refused, "refused", "", "`file` for requests that are refused with 401, 403 or 421 (default: OFFICE.refused)")
-	flags.Float64Var(&s.decisionsShare, "log-decisions", 0, "which `share` of the decisions is logged, from 0, for none, to 1")
-	flags.StringVar(&s.decisionsFile, "decisions-file", "", "`file` for them, which may be moved away (default: the log on standard error)")
+	flags.StringVar(&s.front.Refused, "refused", "", "`file` for requests that are refused with 401, 403 or 421 (default: OFFICE.refused)")
+	flags.Float64Var(&s.front.DecisionsShare, "log-decisions", 0, "which `share` of the decisions is logged, from 0, for none, to 1")
+	flags.StringVar(&s.front.DecisionsFile, "decisions-file", "", "`file` for them, which may be moved away (default: the log on standard error)")
 	flags.BoolVar(&s.record.isOff, "no-record", false, "don't record commands")
 	flags.DurationVar(&s.record.verifyEvery, "record-verify", 6*time.Hour,
 		"after how much time the whole chain of the record is verified again; 0 is never")
@@ -84,9 +76,9 @@ func allowedConnections() int {
 
 // check refuses settings with which nothing can run.
 func (s *settings) check() error {
-	files := s.callers
+	files := s.front.Callers
 	switch {
-	case s.answerTimeout <= 0 || s.hangTimeout < time.Second:
+	case s.front.AnswerTimeout <= 0 || s.hangTimeout < time.Second:
 		return errors.New("--timeout must be above zero, and --hang-timeout at least 1s")
 	case s.sessionAge < 0 || s.sessionIdle < 0:
 		return errors.New("--session-age and --session-idle must not be below zero")
@@ -97,17 +89,17 @@ func (s *settings) check() error {
 	case web.MaxConnections() < 1:
 		return fmt.Errorf("the limit of open files is too low for any connection: raise it by %d or more (ulimit -n, or LimitNOFILE= of systemd)",
 			1-web.MaxConnections())
-	case s.connections < 1 || s.connections > web.MaxConnections():
+	case s.front.Connections < 1 || s.front.Connections > web.MaxConnections():
 		return fmt.Errorf("--connections must be from 1 to %d, as the limit of file descriptors allows", web.MaxConnections())
-	case !(s.decisionsShare >= 0 && s.decisionsShare <= 1):
+	case !(s.front.DecisionsShare >= 0 && s.front.DecisionsShare <= 1):
 		return errors.New("--log-decisions must be from 0 to 1")
-	case s.decisionsFile != "" && s.decisionsShare == 0:
+	case s.front.DecisionsFile != "" && s.front.DecisionsShare == 0:
 		return errors.New("--decisions-file needs --log-decisions")
-	case s.callerRequests < 1:
+	case s.front.CallerRequests < 1:
 		return errors.New("--caller-requests must be at least 1")
 	case files.Callers == "" && files.Tokens+files.Keys != "":
 		return errors.New("--tokens and --oidc-keys need --callers")
-	case s.tls.CA != "" && s.tls.Cert == "":
+	case s.front.TLS.CA != "" && s.front.TLS.Cert == "":
 		return errors.New("--tls-ca needs --tls-cert")
 	}
 	return nil
@@ -123,14 +115,10 @@ func (s *settings) listenOr(other string) ([]front.Address, error) {
 
 // frontOptions returns the options of the front.
 func (s *settings) frontOptions(addresses []front.Address, log *logs.Logger, registry *prometheus.Registry) front.Options {
-	options := front.Options{
-		Addresses: addresses, TLS: s.tls, Connections: s.connections, CallerRequests: s.callerRequests, AnswerTimeout: s.answerTimeout, Refused: s.refused,
-		PublicURL:      strings.TrimSuffix(s.publicURL, "/"),
-		DecisionsShare: s.decisionsShare, DecisionsFile: s.decisionsFile,
-		Log: log, Metrics: registry, Hangups: s.hangups,
-		Callers: callers.Options{Files: s.callers, Log: log},
-	}
-	options.Callers.Authority = s.tls.CA
+	options := s.front
+	options.Addresses, options.Log, options.Metrics = addresses, log, registry
+	options.PublicURL = strings.TrimSuffix(options.PublicURL, "/")
+	options.Callers.Log, options.Callers.Authority = log, options.TLS.CA
 	if s.origins != "" {
 		options.Origins = strings.Split(s.origins, ",")
 	}

@@ -10,9 +10,6 @@ import (
 	"strings"
 	"time"
 
-	"github.com/prometheus/client_golang/prometheus"
-	"github.com/prometheus/client_golang/prometheus/promauto"
-
 	"rbac-node/internal/boottime"
 )
 
@@ -130,92 +127,13 @@ const whyField = "Office-Why"
 // An Office does batches of calls. An error that is no Refusal is answered as Unavailable.
 type Office interface {
 	Do(ctx context.Context, b Batch) (Answers, error)
-	ServeHealth(w http.ResponseWriter, r *http.Request)
 }
 
 // These are limits of `rbac serve`. A longer import, which it accepts, would make a line that no replay accepts.
 const MaxBodyBytes, maxFields = 65_536, 64
 
-// A Handler answers requests from an office.
-type Handler struct {
-	ctx     context.Context
-	office  Office
-	answers *prometheus.CounterVec
-	seconds *prometheus.HistogramVec
-	denied  prometheus.Counter
-	allowed prometheus.Counter
-	// LogDecision may be nil.
-	LogDecision func(d Decision)
-}
-
-// NewHandler returns a handler. It answers until the context ends, also if the client has ended its side of the connection, as
-// `rbac serve` does: so requests have the context of the handler.
-func NewHandler(ctx context.Context, office Office, registry prometheus.Registerer) *Handler {
-	make := promauto.With(registry)
-	decisions := make.NewCounterVec(prometheus.CounterOpts{Name: "rbac_node_decisions_total", Help: "Decisions about access."}, []string{"decision"})
-	h := &Handler{
-		ctx: ctx, office: office,
-		answers: make.NewCounterVec(prometheus.CounterOpts{
-			Name: "rbac_node_answers_total", Help: "Requests that were answered.",
-		}, []string{"kind", "status"}),
-		seconds: make.NewHistogramVec(prometheus.HistogramOpts{
-			Name: "rbac_node_answer_seconds", Help: "How long requests took.", Buckets: prometheus.ExponentialBuckets(0.0005, 2, 15),
-		}, []string{"kind"}),
-		denied: decisions.WithLabelValues("denied"), allowed: decisions.WithLabelValues("allowed"),
-	}
-	for _, kind := range []Kind{Command, Question} { // They are reported from the start.
-		h.answers.WithLabelValues(string(kind), strconv.Itoa(http.StatusOK))
-		h.seconds.WithLabelValues(string(kind))
-	}
-	return h
-}
-
-// A Judge decides what may be done. An error refuses it.
-type Judge interface {
-	// MayAny refuses a request for a function, before a body that isn't small is read, if no call of the function may be done.
-	MayAny(function string) error
-	// May refuses a call.
-	May(call *Call) error
-	// Caller returns who asks.
-	Caller() string
-}
-
-// Serve answers a request for a function that the judge lets through. done is called when the office has nothing more to do for the
-// request, before the client gets the answer.
-func (h *Handler) Serve(w http.ResponseWriter, r *http.Request, judge Judge, done func()) {
-	start := time.Now()
-	kind, call, err := read(r, judge.MayAny)
-	if err == nil {
-		err = judge.May(call)
-	}
-	var answers Answers
-	var rule Rule
-	if err == nil {
-		rule, err = RuleOf(r)
-	}
-	if err == nil {
-		answers, err = Do(h.ctx, h.office, Batch{Kind: kind, Calls: []*Call{call}, Rule: rule})
-	}
-	done()
-	status := respond(w, answers, err)
-	if err == nil && call.Function == checkAccess {
-		h.Decided(decisionOf(call, judge.Caller(), answers.Texts[0]))
-	}
-	h.Note(kind, status, start)
-}
-
-// checkAccess is the function that decides, and Allowed what it answers if it allows something.
-const checkAccess, Allowed = "checkAccess", `{"ok":true,"value":true}`
-
-// respond writes the answer to a call or an error, and returns its status.
-func respond(w http.ResponseWriter, answers Answers, err error) int {
-	if err != nil {
-		return Refuse(w, RefusalOf(err))
-	}
-	answers.SetHead(w.Header())
-	text := answers.Texts[0]
-	return Write(w, StatusOf(text), text)
-}
+// Allowed and Denied are what the office answers to a question about access that it decides.
+const Allowed, Denied = `{"ok":true,"value":true}`, `{"ok":true,"value":false}`
 
 // Refuse answers a request without the office, and returns the status. If nothing else is said, only POST is allowed.
 func Refuse(w http.ResponseWriter, refused Refusal, methods ...string) int {
@@ -267,58 +185,46 @@ func StatusOf(answer []byte) int {
 // SmallBody is how many bytes of a body are read before it is known whether the caller may do anything of that kind.
 const SmallBody = 4096
 
-// read judges the head of a request in the order of `rbac serve`, reads the body if it is small or the function may be asked for, and
-// makes a call of the two.
-func read(r *http.Request, may func(function string) error) (Kind, *Call, error) {
+// FunctionOf returns the function that a request is for, and how it is to be answered. It judges the head in the order of `rbac serve`.
+func FunctionOf(r *http.Request) (name string, kind Kind, err error) {
 	// A ServeMux would redirect paths that it would write differently.
-	name := strings.TrimPrefix(r.RequestURI, "/v1/")
+	name = strings.TrimPrefix(r.RequestURI, "/v1/")
 	called, known := functions[name]
 	known = known && name != r.RequestURI
-	kind := called.kind
-	if !known {
+	if kind = called.kind; !known {
 		kind = "none"
 	}
 	if err := judgeHead(r, known); err != nil {
-		return kind, nil, err
+		return name, kind, err
 	}
+	ofQuestions, err := KindOfQuestions(r)
 	if kind == Question {
-		kind = kindOf(r)
+		kind = ofQuestions
 	}
-	if r.ContentLength > SmallBody {
-		if err := may(name); err != nil {
-			return kind, nil, err
-		}
-	}
-	body, err := readAll(r)
-	if err != nil {
-		return kind, nil, BadRequest(http.StatusBadRequest)
-	}
-	call, err := parseBody(name, body)
-	return kind, call, err
+	return name, kind, err
 }
 
-// KindOfQuestions returns how the questions of a request are to be answered, or refuses what it says of that.
-func KindOfQuestions(r *http.Request) (Kind, error) {
-	if !isConsistency(r.Header.Get(consistencyField)) {
-		return Question, wrongConsistency
+// ReadCall reads the body of a request for a function, and makes a call of the two.
+func ReadCall(r *http.Request, name string) (*Call, error) {
+	body, err := readAll(r)
+	if err != nil {
+		return nil, BadRequest(http.StatusBadRequest)
 	}
-	return kindOf(r), nil
+	return parseBody(name, body)
 }
 
 // consistencyField is the field of a request that says how new the state has to be that answers a question.
 const consistencyField = "Consistency"
 
-var wrongConsistency = BadRequestSince(http.StatusBadRequest, "Consistency is linearizable or local")
-
-func kindOf(r *http.Request) Kind {
-	if r.Header.Get(consistencyField) == string(Local) {
-		return Local
+// KindOfQuestions returns how the questions of a request are to be answered, or refuses what it says of that.
+func KindOfQuestions(r *http.Request) (Kind, error) {
+	switch r.Header.Get(consistencyField) {
+	case "", "linearizable":
+		return Question, nil
+	case string(Local):
+		return Local, nil
 	}
-	return Question
-}
-
-func isConsistency(text string) bool {
-	return text == "" || text == string(Local) || text == "linearizable"
+	return Question, BadRequestSince(http.StatusBadRequest, "Consistency is linearizable or local")
 }
 
 // judgeHead refuses a head that `rbac serve` would refuse.
@@ -330,18 +236,25 @@ func judgeHead(r *http.Request, known bool) error {
 	switch {
 	case fields > maxFields:
 		return BadRequest(http.StatusRequestHeaderFieldsTooLarge)
+	case len(r.TransferEncoding) == 0 && !known:
+		return UnknownFunction
+	case r.ContentLength == 0 && r.Header.Get("Content-Length") == "" && r.ProtoMajor == 1 && r.Method == http.MethodPost:
+		return BadRequest(http.StatusLengthRequired)
+	}
+	return judgeBody(r, MaxBodyBytes)
+}
+
+// judgeBody refuses a request that isn't one by POST with a body of at most this many bytes.
+func judgeBody(r *http.Request, most int64) error {
+	switch {
 	case len(r.TransferEncoding) > 0:
 		return BadRequest(http.StatusNotImplemented)
-	case !known:
-		return UnknownFunction
 	case r.Method != http.MethodPost:
 		return BadRequest(http.StatusMethodNotAllowed)
-	case r.ContentLength < 0 || r.ContentLength == 0 && r.Header.Get("Content-Length") == "" && r.ProtoMajor == 1:
+	case r.ContentLength < 0:
 		return BadRequest(http.StatusLengthRequired)
-	case r.ContentLength > MaxBodyBytes:
-		return tooLong(MaxBodyBytes)
-	case !isConsistency(r.Header.Get(consistencyField)):
-		return BadRequest(http.StatusBadRequest)
+	case r.ContentLength > most:
+		return tooLong(most)
 	}
 	return nil
 }

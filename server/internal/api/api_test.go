@@ -1,77 +1,16 @@
 package api
 
 import (
-	"context"
 	"errors"
-	"io"
-	"net"
 	"net/http"
 	"net/http/httptest"
 	"strings"
 	"testing"
 	"time"
 
-	"github.com/prometheus/client_golang/prometheus"
-
 	"rbac-node/internal/boottime"
 	"rbac-node/internal/office"
 )
-
-// A fakeOffice accepts everything, and remembers it.
-type fakeOffice struct {
-	lines  []string
-	newest boottime.Moment
-}
-
-func (f *fakeOffice) Do(_ context.Context, b Batch) (Answers, error) {
-	f.lines = append(f.lines, string(b.Kind)+" "+string(b.Calls[0].Line))
-	return Answers{[][]byte{[]byte(`{"ok":true}`)}, Point{Newest: f.newest}}, nil
-}
-
-func (f *fakeOffice) ServeHealth(http.ResponseWriter, *http.Request) {}
-
-// said returns all that a server answers to some bytes until it closes the connection.
-func said(t *testing.T, office Office, text string) string {
-	handler := NewHandler(context.Background(), office, prometheus.NewRegistry())
-	server := httptest.NewServer(http.HandlerFunc(func(w http.ResponseWriter, r *http.Request) {
-		handler.Serve(w, r, everybody{}, func() {})
-	}))
-	defer server.Close()
-	conn, err := net.Dial("tcp", server.Listener.Addr().String())
-	if err != nil {
-		t.Fatal(err)
-	}
-	defer conn.Close()
-	if _, err := io.WriteString(conn, text); err != nil {
-		t.Fatal(err)
-	}
-	_ = conn.SetDeadline(time.Now().Add(20 * time.Second))
-	given, err := io.ReadAll(conn)
-	if err != nil {
-		t.Fatalf("after %q: %v", given, err)
-	}
-	return string(given)
-}
-
-const command = "POST /v1/addUser HTTP/1.1\r\nHost: a\r\nContent-Length: 14\r\n\r\n{\"user\":\"ann\"}"
-
-// After a request that is refused with 501 the connection is closed: what follows may be meant as its body.
-func TestSmuggledRequest(t *testing.T) {
-	office := &fakeOffice{}
-	given := said(t, office, "POST /v1/addUser HTTP/1.1\r\nHost: a\r\nContent-Length: 5\r\nTransfer-Encoding: chunked\r\n\r\n0\r\n\r\n"+command)
-	if strings.Count(given, "HTTP/1.1") != 1 || !strings.HasPrefix(given, "HTTP/1.1 501 ") || len(office.lines) > 0 {
-		t.Errorf("%v, %s", office.lines, given)
-	}
-}
-
-// Office-Age is what has passed since the state was the newest one.
-func TestAge(t *testing.T) {
-	office := &fakeOffice{newest: boottime.Now() - boottime.Moment(3*time.Second)}
-	given := said(t, office, "POST /v1/ssdRoleSets HTTP/1.1\r\nHost: a\r\nConsistency: local\r\nConnection: close\r\nContent-Length: 0\r\n\r\n")
-	if !strings.Contains(given, "Office-Age: 3.") || len(office.lines) != 1 || office.lines[0] != `local {"fn":"ssdRoleSets"}` {
-		t.Errorf("%v, %s", office.lines, given)
-	}
-}
 
 // The time of an answer is not after that of its age, if the process is paused before the answer is written.
 func TestPausedAnswer(t *testing.T) {
@@ -93,15 +32,6 @@ func TestPausedAnswer(t *testing.T) {
 	}
 }
 
-// Keys that the office ignores don't get into the log.
-func TestIgnoredKeys(t *testing.T) {
-	office := &fakeOffice{}
-	said(t, office, strings.NewReplacer("14", "81", "Host", "Connection: close\r\nHost", `"ann"`, `"ann","x":"`+strings.Repeat("y", 60)+`"`).Replace(command))
-	if len(office.lines) != 1 || office.lines[0] != `command {"fn":"addUser","user":"ann"}` {
-		t.Errorf("%v", office.lines)
-	}
-}
-
 func TestRead(t *testing.T) {
 	for _, one := range []struct {
 		method, target, body string
@@ -119,7 +49,11 @@ func TestRead(t *testing.T) {
 		{"POST", "/v1/importAssignments", strings.Repeat("a", MaxBodyBytes+1), http.StatusRequestEntityTooLarge},
 		{"POST", "/v1/importAssignments", strings.Repeat("a", office.MaxLineBytes-100), 0},
 	} {
-		_, _, err := read(httptest.NewRequest(one.method, one.target, strings.NewReader(one.body)), func(string) error { return nil })
+		request := httptest.NewRequest(one.method, one.target, strings.NewReader(one.body))
+		name, _, err := FunctionOf(request)
+		if err == nil {
+			_, err = ReadCall(request, name)
+		}
 		var r Refusal
 		status := 0
 		if errors.As(err, &r) {
@@ -128,27 +62,6 @@ func TestRead(t *testing.T) {
 		if status != one.status {
 			t.Errorf("%s %s %.20s: %d and not %d", one.method, one.target, one.body, status, one.status)
 		}
-	}
-}
-
-// An everybody lets all through.
-type everybody struct{}
-
-func (everybody) MayAny(string) error { return nil }
-func (everybody) May(*Call) error     { return nil }
-func (everybody) Caller() string      { return "" }
-
-// A body that isn't small isn't read if no call of the function may be done.
-func TestUnread(t *testing.T) {
-	body := strings.NewReader(strings.Repeat(" ", SmallBody) + `{"user":"ann"}`)
-	_, _, err := read(httptest.NewRequest("POST", "/v1/addUser", body), func(function string) error {
-		if function != "addUser" {
-			t.Errorf("the function is %s", function)
-		}
-		return Forbidden
-	})
-	if err != Forbidden || body.Len() < SmallBody {
-		t.Errorf("%v, and %d bytes are left", err, body.Len())
 	}
 }
 

@@ -86,6 +86,7 @@ func ParseBatch(body []byte) (calls []*Call, err error) {
 		if call.Kind == Command {
 			commands++
 		}
+		call.Number = number
 		calls = append(calls, call)
 		if len(calls) > MaxBatchLines || commands > MaxBatchCommands {
 			why := "a batch has at most %d lines, of which at most %d are commands"
@@ -93,18 +94,4 @@ func ParseBatch(body []byte) (calls []*Call, err error) {
 		}
 	}
 	return calls, nil
-}
-
-// LineOf returns the number of the line that has a call of a batch, by the place of the call.
-func LineOf(body []byte, place int) int {
-	for number, line := range bytes.Split(body, []byte("\n")) {
-		if len(bytes.Trim(line, " \t\r")) == 0 {
-			continue
-		}
-		if place == 0 {
-			return number + 1
-		}
-		place--
-	}
-	return 0
 }

@@ -41,6 +41,8 @@ type Call struct {
 	Kind     Kind
 	Arguments
 	Line []byte
+	// Number is that of its line in the body of a batch, from 1.
+	Number int
 	// Caller is who asks, and Reason why, if it has said so.
 	Caller, Reason string
 }
@@ -156,8 +158,7 @@ func (c *Call) writeBehind(lines []byte) ([]byte, error) {
 	begin := len(lines)
 	line := append(append(append(lines, `{"fn":"`...), c.Function...), '"')
 	for _, key := range functions[c.Function].keys {
-		line = append(append(append(line, `,"`...), key...), `":`...)
-		switch key {
+		switch line = AppendKey(line, key); key {
 		case "cardinality":
 			line = append(line, c.Cardinality...)
 		case "roles":
@@ -172,6 +173,11 @@ func (c *Call) writeBehind(lines []byte) ([]byte, error) {
 		return nil, BadRequestSince(http.StatusRequestEntityTooLarge, "the request makes a line of more than %d bytes", office.MaxLineBytes)
 	}
 	return line, nil
+}
+
+// AppendKey appends a key of an object of JSON that has another one before.
+func AppendKey(line []byte, key string) []byte {
+	return append(append(append(line, `,"`...), key...), `":`...)
 }
 
 // AppendQuoted appends a text as JSON, in as few bytes as its control characters allow.

@@ -10,26 +10,9 @@ type Decision struct {
 	Name string
 }
 
-// decisionOf returns the decision that the answer to checkAccess is.
-func decisionOf(call *Call, caller string, answer []byte) Decision {
-	return DecisionOf(Decision{Caller: caller, Session: call.Session, Operation: call.Operation, Object: call.Object}, answer)
-}
-
-// DecisionOf returns a decision with what the office has answered.
-func DecisionOf(d Decision, answer []byte) Decision {
-	d.IsAllowed = string(answer) == Allowed
+// DecisionOf returns the decision that an answer to a call is.
+func DecisionOf(call *Call, answer []byte) Decision {
+	d := Decision{Session: call.Session, User: call.User, Operation: call.Operation, Object: call.Object, IsAllowed: string(answer) == Allowed}
 	d.Code, d.Name = CodeOf(answer)
 	return d
-}
-
-// Decided counts a decision, and passes it on if decisions are logged.
-func (h *Handler) Decided(d Decision) {
-	if d.IsAllowed {
-		h.allowed.Inc()
-	} else {
-		h.denied.Inc()
-	}
-	if h.LogDecision != nil {
-		h.LogDecision(d)
-	}
 }

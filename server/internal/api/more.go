@@ -6,21 +6,12 @@ import (
 	"fmt"
 	"io"
 	"net/http"
-	"strconv"
-	"time"
 )
 
 // ReadBody returns the body of a request by POST, which may have at most this many bytes.
 func ReadBody(r *http.Request, most int64) ([]byte, error) {
-	switch {
-	case len(r.TransferEncoding) > 0:
-		return nil, BadRequest(http.StatusNotImplemented)
-	case r.Method != http.MethodPost:
-		return nil, BadRequest(http.StatusMethodNotAllowed)
-	case r.ContentLength < 0:
-		return nil, BadRequest(http.StatusLengthRequired)
-	case r.ContentLength > most:
-		return nil, tooLong(most)
+	if err := judgeBody(r, most); err != nil {
+		return nil, err
 	}
 	body, err := readAll(r)
 	if err != nil {
@@ -88,10 +79,4 @@ func PairsOf(answer []byte) (pairs [][2]string, err error) {
 		copy(pairs[i][:], pair)
 	}
 	return pairs, nil
-}
-
-// Note counts a request that was answered, and how long that took.
-func (h *Handler) Note(kind Kind, status int, start time.Time) {
-	h.answers.WithLabelValues(string(kind), strconv.Itoa(status)).Inc()
-	h.seconds.WithLabelValues(string(kind)).Observe(time.Since(start).Seconds())
 }

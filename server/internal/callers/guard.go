@@ -28,11 +28,11 @@ func NewGuard(set *Set, most int) *Guard {
 func (g *Guard) use() *Set {
 	g.mutex.Lock()
 	defer g.mutex.Unlock()
-	g.set.using++
+	g.set.using.RLock()
 	return g.set
 }
 
-// A Visit is a request of a caller.
+// A Visit is a request of a caller. A nil one is that of anybody, if there are no callers: everything may be done.
 type Visit struct {
 	Caller string
 	guard  *Guard
@@ -46,34 +46,46 @@ func (g *Guard) Enter(r *http.Request) (visit *Visit, why, refused error) {
 	set := g.use()
 	caller, why := set.identify(r)
 	if why != nil {
-		g.leave(set)
+		set.using.RUnlock()
 		return nil, why, api.Unauthorized
 	}
 	g.mutex.Lock()
 	defer g.mutex.Unlock()
 	if g.atOnce[caller] == g.most {
-		g.leaveLocked(set)
+		set.using.RUnlock()
 		return nil, nil, api.TooManyRequests
 	}
 	g.atOnce[caller]++
 	return &Visit{Caller: caller, guard: g, set: set}, nil, nil
 }
 
-// Name returns the name of the caller.
-func (v *Visit) Name() string { return v.Caller }
+// Name returns the name of the caller, which is empty if there are no callers.
+func (v *Visit) Name() string {
+	if v == nil {
+		return ""
+	}
+	return v.Caller
+}
 
 // May refuses the caller if it may not do all of some calls.
-func (v *Visit) May(calls ...*api.Call) error { return v.set.May(v.Caller, calls...) }
+func (v *Visit) May(calls ...*api.Call) error {
+	if v == nil {
+		return nil
+	}
+	return v.set.May(v.Caller, calls...)
+}
 
 // MayAny refuses the caller if it has none of some operations, in no scope.
-func (v *Visit) MayAny(operations ...string) error { return v.set.MayAny(v.Caller, operations...) }
-
-// MayRead refuses the caller if it may not do an operation that isn't a function of the office.
-func (v *Visit) MayRead(operation string) error { return v.set.MayRead(v.Caller, operation) }
+func (v *Visit) MayAny(operations ...string) error {
+	if v == nil {
+		return nil
+	}
+	return v.set.MayAny(v.Caller, operations...)
+}
 
 // Rights returns what the caller may do, a grant for each scope.
 func (v *Visit) Rights() ([]Grant, error) {
-	if !v.set.names[v.Caller] {
+	if v == nil || !v.set.names[v.Caller] {
 		return nil, nil
 	}
 	return v.set.grantsOf(v.Caller)
@@ -82,8 +94,12 @@ func (v *Visit) Rights() ([]Grant, error) {
 // Again does something while the caller of a request that is still being answered may do an operation, by the callers that are in
 // force now. A caller who is no longer known, or is another one, is refused.
 func (v *Visit) Again(r *http.Request, operation string, do func()) error {
+	if v == nil {
+		do()
+		return nil
+	}
 	set := v.guard.use()
-	defer v.guard.leave(set)
+	defer set.using.RUnlock()
 	caller, err := set.identify(r)
 	if err != nil || caller != v.Caller {
 		return api.Unauthorized
@@ -97,24 +113,17 @@ func (v *Visit) Again(r *http.Request, operation string, do func()) error {
 
 // Done says that the office has nothing more to do for the request. Other callers may then come into force.
 func (v *Visit) Done() {
-	v.guard.mutex.Lock()
-	defer v.guard.mutex.Unlock()
-	v.done()
-}
-
-// done is Done while the guard is locked.
-func (v *Visit) done() {
-	if !v.isJudged {
+	if v != nil && !v.isJudged {
 		v.isJudged = true
-		v.guard.leaveLocked(v.set)
+		v.set.using.RUnlock()
 	}
 }
 
 // Leave says that the request has been answered.
 func (v *Visit) Leave() {
+	v.Done()
 	v.guard.mutex.Lock()
 	defer v.guard.mutex.Unlock()
-	v.done()
 	if v.isLeft {
 		return
 	}
@@ -124,43 +133,31 @@ func (v *Visit) Leave() {
 	}
 }
 
-func (g *Guard) leave(set *Set) {
-	g.mutex.Lock()
-	defer g.mutex.Unlock()
-	g.leaveLocked(set)
-}
-
-// leaveLocked counts that a request no longer uses a set. The guard is locked.
-func (g *Guard) leaveLocked(set *Set) {
-	if set.using--; set.using == 0 && set != g.set {
-		close(set.idle)
-	}
-}
-
 // Replace puts a set in force. It returns when all requests that the earlier set has judged are done: when each has been left, and
 // when the office has answered a question that was asked after that.
 func (g *Guard) Replace(ctx context.Context, set *Set, ask func(context.Context) error) error {
 	g.mutex.Lock()
 	old := g.set
 	g.set = set
-	if old.using == 0 {
-		close(old.idle)
-	}
 	g.mutex.Unlock()
-	select {
-	case <-old.idle:
+	closed := make(chan struct{})
+	go func() {
+		defer close(closed)
+		old.using.Lock() // Nobody gets it any more.
 		old.Close()
+	}()
+	select {
+	case <-closed:
+		return ask(ctx)
 	case <-ctx.Done():
-		go func() { <-old.idle; old.Close() }()
 		return fmt.Errorf("requests that the earlier callers sent are still at hand: %w", ctx.Err())
 	}
-	return ask(ctx)
 }
 
 // Knows reports whether a request shows who asks.
 func (g *Guard) Knows(r *http.Request) bool {
 	set := g.use()
-	defer g.leave(set)
+	defer set.using.RUnlock()
 	_, err := set.identify(r)
 	return err == nil
 }

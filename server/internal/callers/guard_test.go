@@ -82,8 +82,8 @@ func TestReplace(t *testing.T) {
 	if given := strings.Join(order, ", "); given != "left, asked, in force" {
 		t.Error(given)
 	}
-	if len(g.atOnce) != 0 || sets[1].using != 0 {
-		t.Errorf("%v, %d", g.atOnce, sets[1].using)
+	if len(g.atOnce) != 0 || !sets[1].using.TryLock() {
+		t.Errorf("%v, or the set is in use", g.atOnce)
 	}
 }
 
@@ -145,15 +145,15 @@ func TestAtOnce(t *testing.T) {
 	for _, visit := range visits[1:] {
 		visit.Leave()
 	}
-	if g.current().using != 0 {
-		t.Errorf("%d are left", g.current().using)
+	if !g.current().using.TryLock() {
+		t.Error("some are left")
 	}
 }
 
 func TestEnterWithoutIdentity(t *testing.T) {
 	g := NewGuard(twoSets(t)[0], 3)
 	visit, why, err := g.Enter(requestOf("c"))
-	if visit != nil || why == nil || err != error(api.Unauthorized) || g.current().using != 0 {
+	if visit != nil || why == nil || err != error(api.Unauthorized) || !g.current().using.TryLock() {
 		t.Errorf("%v, %v, %v", visit, why, err)
 	}
 }

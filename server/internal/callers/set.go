@@ -46,9 +46,8 @@ type Set struct {
 	authority *x509.CertPool
 	verifier  verifier
 
-	// using is how many requests use the set, and idle is closed when a set that is no longer in force has none. See Guard.
-	using int
-	idle  chan struct{}
+	// using is read by each request that uses the set, and locked when the set is no longer in force. See Guard.
+	using sync.RWMutex
 }
 
 // A verifier names the caller that a JWT is about.
@@ -58,7 +57,7 @@ type verifier interface {
 
 // Load reads all files. The set has to be closed.
 func Load(ctx context.Context, options Options) (*Set, error) {
-	s := &Set{names: map[string]bool{}, idle: make(chan struct{})}
+	s := &Set{names: map[string]bool{}}
 	var err error
 	if s.tokens, err = readTokens(options.Tokens); err != nil {
 		return nil, err

@@ -45,11 +45,14 @@ func (e *Endpoints) evaluateOne(r *request, fields api.Fields) (int, error) {
 	if err := asked.check(); err != nil {
 		return 0, err
 	}
-	q, isKnown := asked.query()
-	if !isKnown {
+	call, err := asked.call()
+	if err != nil {
+		return 0, err
+	}
+	if call == nil {
 		return 0, notRead("subject.type is session or user, and resource.type has no colon")
 	}
-	decisions, err := e.decideAll(r, api.Rule{}, []query{q})
+	decisions, err := e.decideAll(r, call)
 	if err != nil {
 		return 0, err
 	}
@@ -97,19 +100,23 @@ func (e *Endpoints) evaluations(r *request) (int, error) {
 // evaluateAll decides evaluations. One about a subject or a resource of an unknown sort is refused by itself.
 func (e *Endpoints) evaluateAll(r *request, evaluations []evaluation) ([]api.Decision, error) {
 	decisions := make([]api.Decision, len(evaluations))
-	var queries []query
+	var calls []*api.Call
 	var places []int
 	for i, one := range evaluations {
-		if q, isKnown := one.query(); isKnown {
-			queries, places = append(queries, q), append(places, i)
-		} else {
+		call, err := one.call()
+		switch {
+		case err != nil:
+			return nil, err
+		case call != nil:
+			calls, places = append(calls, call), append(places, i)
+		default:
 			decisions[i].Code, decisions[i].Name = errNotRead.Code, errNotRead.Name
 		}
 	}
-	if len(queries) == 0 {
+	if len(calls) == 0 {
 		return decisions, nil
 	}
-	found, err := e.decideAll(r, api.Rule{}, queries)
+	found, err := e.decideAll(r, calls...)
 	if err != nil {
 		return nil, err
 	}
@@ -263,20 +270,23 @@ func (asked evaluation) check() error {
 	return nil
 }
 
-// query returns what the office decides, or false if it knows no such subjects or resources. The object is the id of the resource if its
+// call returns the call that decides, or nil if the office knows no such subjects or resources. The object is the id of the resource if its
 // type is "object", and otherwise TYPE:ID. So a type has no colon: otherwise two resources could be one object.
-func (asked evaluation) query() (q query, isKnown bool) {
-	q.operation, q.object = asked.action, asked.resource.id
+func (asked evaluation) call() (*api.Call, error) {
+	wanted := api.Arguments{Operation: asked.action, Object: asked.resource.id}
 	if asked.resource.kind != "object" {
-		q.object = asked.resource.kind + ":" + asked.resource.id
+		wanted.Object = asked.resource.kind + ":" + asked.resource.id
 	}
 	switch asked.subject.kind {
 	case "session":
-		q.session = asked.subject.id
+		wanted.Session = asked.subject.id
 	case "user":
-		q.user = asked.subject.id
+		wanted.User = asked.subject.id
 	}
-	return q, q.session+q.user != "" && !strings.Contains(asked.resource.kind, ":")
+	if wanted.Session+wanted.User == "" || strings.Contains(asked.resource.kind, ":") {
+		return nil, nil
+	}
+	return deciding(wanted)
 }
 
 // configurationPath is where clients of AuthZEN look for the end points.

@@ -36,7 +36,7 @@ func (e *Endpoints) batch(r *request) (int, error) {
 	if err != nil {
 		return 0, err
 	}
-	r.done()
+	r.visit.Done()
 	return writeLines(r.w, answers), nil
 }
 
@@ -57,18 +57,13 @@ func (e *Endpoints) do(r *request, rule api.Rule, lines []*api.Call) ([][]byte, 
 	}
 	for i, answer := range answers {
 		if lines[i].Function == checkAccess || lines[i].Function == api.DecideByUser {
-			e.Decided(r.Request, r.visitor, queryOf(lines[i]).decision(answer))
+			e.decided(r, lines[i], answer)
 		}
 		if rule.IsStopped && !api.IsAccepted(answer) {
 			return answers[:i+1], nil
 		}
 	}
 	return answers, nil
-}
-
-// queryOf returns what a line asks to be decided.
-func queryOf(line *api.Call) query {
-	return query{session: line.Session, user: line.User, operation: line.Operation, object: line.Object}
 }
 
 // readStop reads from the target of a request whether a batch ends after the first line that is refused.

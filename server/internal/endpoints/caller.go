@@ -18,17 +18,14 @@ func (e *Endpoints) caller(r *request) (int, error) {
 		Caller string  `json:"caller"`
 		Open   bool    `json:"open,omitempty"`
 		Rights []right `json:"rights"`
-	}{Open: r.visitor == nil, Rights: []right{}}
-	if r.visitor != nil {
-		value.Caller = r.visitor.Name()
-		grants, err := r.visitor.Rights()
-		if err != nil {
-			return 0, err
-		}
-		for _, one := range grants {
-			if len(one.Functions) > 0 {
-				value.Rights = append(value.Rights, right{one.Functions, one.Scope})
-			}
+	}{Caller: r.visit.Name(), Open: r.visit == nil, Rights: []right{}}
+	grants, err := r.visit.Rights()
+	if err != nil {
+		return 0, err
+	}
+	for _, one := range grants {
+		if len(one.Functions) > 0 {
+			value.Rights = append(value.Rights, right{one.Functions, one.Scope})
 		}
 	}
 	return r.replyValue(value)

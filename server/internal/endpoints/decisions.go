@@ -7,61 +7,91 @@ import (
 	"rbac-node/internal/api"
 )
 
-// A query is what is to be decided: may a session, or a user in some session, do an operation on an object? One of the two is empty.
-type query struct{ session, user, operation, object string }
-
 // checkAccess is the function that decides about a session.
 const checkAccess = "checkAccess"
 
-// call returns the call that has to be allowed to the visitor.
-func (q query) call() (*api.Call, error) {
-	if q.user != "" {
-		return api.NewOther(api.DecideByUser, "user", q.user, "operation", q.operation, "object", q.object), nil
+// deciding returns the call that decides about a session, or about a user in some session, if a user is named. That has to be allowed to
+// the caller.
+func deciding(asked api.Arguments) (*api.Call, error) {
+	if asked.User != "" {
+		return api.NewOther(api.DecideByUser, "user", asked.User, "operation", asked.Operation, "object", asked.Object), nil
 	}
-	return api.NewCall(checkAccess, "session", q.session, "operation", q.operation, "object", q.object)
+	return api.NewCallWith(checkAccess, asked)
 }
 
-// readQuery reads a query about what is at one of some keys, of which one has to be there.
-func readQuery(fields api.Fields, keys ...string) (q query, err error) {
-	texts := map[string]*string{"session": &q.session, "user": &q.user, "operation": &q.operation, "object": &q.object}
+// readAsked reads what is to be decided about what is at one of some keys, of which one has to be there.
+func readAsked(fields api.Fields, keys ...string) (*api.Call, error) {
+	var asked api.Arguments
+	texts := map[string]*string{"session": &asked.Session, "user": &asked.User, "operation": &asked.Operation, "object": &asked.Object}
 	count := 0
 	for key, text := range texts {
 		if !fields.Has(key) {
 			continue
 		}
+		var err error
 		if *text, err = api.TextAt(fields, key); err != nil {
-			return q, err
+			return nil, err
 		}
 		if has(keys, key) {
 			count++
 		}
 	}
-	if count != 1 || q.session+q.user == "" {
-		return q, notRead("one key has to be there, and not empty: %s", strings.Join(keys, " or "))
+	if count != 1 || asked.Session+asked.User == "" {
+		return nil, notRead("one key has to be there, and not empty: %s", strings.Join(keys, " or "))
 	}
-	return q, q.check("operation", "object")
+	if err := check(asked, "operation", "object"); err != nil {
+		return nil, err
+	}
+	return deciding(asked)
 }
 
-// check refuses a query without an operation or an object, with the name of what is missing.
-func (q query) check(operation, object string) error {
+// check refuses what lacks an operation or an object, with the name of what is missing.
+func check(asked api.Arguments, operation, object string) error {
 	switch "" {
-	case q.operation:
+	case asked.Operation:
 		return notRead("%s is missing", operation)
-	case q.object:
+	case asked.Object:
 		return notRead("%s is missing", object)
 	}
 	return nil
 }
 
-// decideAll decides queries of a visitor at one place in the order, if the policy is as a rule says.
-func (e *Endpoints) decideAll(r *request, rule api.Rule, queries []query) ([]api.Decision, error) {
-	calls, decisions := make([]*api.Call, len(queries)), make([]api.Decision, len(queries))
-	for i := range queries {
-		var err error
-		if calls[i], err = queries[i].call(); err != nil {
-			return nil, err
-		}
+// decideByUser answers whether a user may do an operation on an object in some session.
+func (e *Endpoints) decideByUser(r *request) (int, error) {
+	fields, err := readObject(r)
+	if err != nil {
+		return 0, err
 	}
+	call, err := readAsked(fields, "user")
+	if err != nil {
+		return 0, err
+	}
+	rule, err := api.RuleOf(r.Request)
+	if err != nil {
+		return 0, err
+	}
+	answers, err := e.askAll(r, rule, call)
+	if err != nil {
+		return 0, err
+	}
+	return r.reply(api.StatusOf(answers[0]), answers[0]), nil
+}
+
+// decideAll decides calls of a caller at one place in the order.
+func (e *Endpoints) decideAll(r *request, calls ...*api.Call) ([]api.Decision, error) {
+	answers, err := e.askAll(r, api.Rule{}, calls...)
+	if err != nil {
+		return nil, err
+	}
+	decisions := make([]api.Decision, len(calls))
+	for i, answer := range answers {
+		decisions[i] = api.DecisionOf(calls[i], answer)
+	}
+	return decisions, nil
+}
+
+// askAll returns the answers to calls of a caller that decide, at one place in the order, if the policy is as a rule says.
+func (e *Endpoints) askAll(r *request, rule api.Rule, calls ...*api.Call) ([][]byte, error) {
 	if err := r.may(calls...); err != nil {
 		return nil, err
 	}
@@ -70,15 +100,9 @@ func (e *Endpoints) decideAll(r *request, rule api.Rule, queries []query) ([]api
 		return nil, err
 	}
 	for i, answer := range answers {
-		decisions[i] = queries[i].decision(answer)
-		e.Decided(r.Request, r.visitor, decisions[i])
+		e.decided(r, calls[i], answer)
 	}
-	return decisions, nil
-}
-
-// decision returns the decision that an answer to the query is.
-func (q query) decision(answer []byte) api.Decision {
-	return api.DecisionOf(api.Decision{Session: q.session, User: q.user, Operation: q.operation, Object: q.object}, answer)
+	return answers, nil
 }
 
 // The fields of a request to decide.
@@ -93,10 +117,14 @@ func (e *Endpoints) decide(r *request) (int, error) {
 	if err != nil {
 		return 0, err
 	}
-	if asked.session+asked.user == "" {
+	if asked.Session+asked.User == "" {
 		return r.status(http.StatusForbidden), nil // Nobody has logged in.
 	}
-	decisions, err := e.decideAll(r, api.Rule{}, []query{asked})
+	call, err := deciding(asked)
+	if err != nil {
+		return 0, err
+	}
+	decisions, err := e.decideAll(r, call)
 	if err != nil {
 		return 0, err
 	}
@@ -108,18 +136,18 @@ func (e *Endpoints) decide(r *request) (int, error) {
 
 // readFields reads what is to be decided from a header. The session and the user may be left out: a gateway leaves out what has no
 // value.
-func readFields(header http.Header) (q query, err error) {
+func readFields(header http.Header) (asked api.Arguments, err error) {
 	for name, text := range map[string]*string{
-		sessionField: &q.session, userField: &q.user, operationField: &q.operation, objectField: &q.object,
+		sessionField: &asked.Session, userField: &asked.User, operationField: &asked.Operation, objectField: &asked.Object,
 	} {
 		values := header[name]
 		if len(values) > 1 {
-			return q, notRead("%s is there more than once", name)
+			return asked, notRead("%s is there more than once", name)
 		}
 		*text = header.Get(name)
 	}
-	if q.session != "" && q.user != "" {
-		return q, notRead("%s and %s exclude each other", sessionField, userField)
+	if asked.Session != "" && asked.User != "" {
+		return asked, notRead("%s and %s exclude each other", sessionField, userField)
 	}
-	return q, q.check(operationField, objectField)
+	return asked, check(asked, operationField, objectField)
 }

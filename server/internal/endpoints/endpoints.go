@@ -1,17 +1,21 @@
-// Package endpoints answers what no function of an office does: batches, decisions by status alone, and the interfaces that others
-// speak.
+// Package endpoints answers requests from an office: for its functions, and for what no function does, such as batches, decisions by status
+// alone, and the interfaces that others speak.
 package endpoints
 
 import (
 	"context"
 	"errors"
 	"net/http"
+	"net/url"
 	"strconv"
 	"strings"
 	"time"
 
+	"github.com/prometheus/client_golang/prometheus"
+
 	"rbac-node/internal/api"
 	"rbac-node/internal/callers"
+	"rbac-node/internal/recorded"
 	"rbac-node/internal/state"
 	"rbac-node/internal/trial"
 )
@@ -21,44 +25,34 @@ type Office interface {
 	api.Office
 	// Await returns when the state has all that questions of a kind have to see.
 	Await(ctx context.Context, kind api.Kind) (api.Point, error)
-	// State returns what is known of the office, or nil. IsReady reports whether the office answers.
+	// State returns what is known of the office, or nil. IsReady reports whether the office answers, and Health its condition.
 	State() *state.State
 	IsReady() bool
+	Health() api.Health
+	// Record returns the record, or nil if nothing is recorded.
+	Record() recorded.Reader
+	// Note keeps an entry in the record that is no command, and returns its number.
+	Note(ctx context.Context, entry *api.Call) (number int64, err error)
+	// Settle returns when all commands are done that were asked before, also those that nobody waits for any more.
+	Settle(ctx context.Context) error
 }
 
-// A Visitor is who asks, if there are callers.
-type Visitor interface {
-	// May reports whether the caller may do all of some calls. An error is a refusal. MayAny refuses a caller that has none of some
-	// operations, in no scope.
-	May(calls ...*api.Call) error
-	MayAny(operations ...string) error
-	// Done says that the office has nothing more to do for the request.
-	Done()
-	// Name returns the name of the caller, and Rights what it may do.
-	Name() string
-	Rights() ([]callers.Grant, error)
-	// Again does something while the caller may do an operation by the callers that are in force now.
-	Again(r *http.Request, operation string, do func()) error
-}
-
-// Options are what the command line sets.
+// Options are what the front sets.
 type Options struct {
 	// PublicURL is where clients find the front, or empty.
 	PublicURL string
-	// Note is called after each answer, with its kind and status, and when the request began.
-	Note func(kind api.Kind, status int, start time.Time)
-	// Decided is called with each decision about access, which doesn't say who has asked for it.
-	Decided func(r *http.Request, visitor Visitor, decided api.Decision)
-	// Sign writes on a command who asks for it and why, or refuses it.
-	Sign func(r *http.Request, visitor Visitor, call *api.Call) error
+	// LogDecision is called with each decision about access, unless it is nil.
+	LogDecision func(decided api.Decision)
 	// Denied is called if a caller may not do something.
-	Denied func(r *http.Request, visitor Visitor, err error)
+	Denied  func(r *http.Request, visit *callers.Visit)
+	Metrics prometheus.Registerer
 }
 
 // Endpoints answer requests from an office.
 type Endpoints struct {
 	Options
-	// life is the context of requests: they are done also if the client has ended its side of the connection.
+	figures
+	// life is the context of requests: they are done also if the client has ended its side of the connection, as `rbac serve` does them.
 	life   context.Context
 	office Office
 	at     map[string]endpoint
@@ -71,7 +65,10 @@ type Endpoints struct {
 
 // New returns endpoints that answer until the context ends.
 func New(life context.Context, office Office, options Options) *Endpoints {
-	e := &Endpoints{Options: options, life: life, office: office, tickets: newTickets(), slots: newSlots(), bodies: newSlots(), trials: trial.NewTurn()}
+	e := &Endpoints{
+		Options: options, figures: newFigures(options.Metrics), life: life, office: office,
+		tickets: newTickets(), slots: newSlots(), bodies: newSlots(), trials: trial.NewTurn(),
+	}
 	e.add()
 	return e
 }
@@ -79,10 +76,10 @@ func New(life context.Context, office Office, options Options) *Endpoints {
 // A request is one that is being answered.
 type request struct {
 	*http.Request
-	sign    func(call *api.Call) error
-	w       http.ResponseWriter
-	ctx     context.Context
-	visitor Visitor
+	w   http.ResponseWriter
+	ctx context.Context
+	// visit is nil if there are no callers.
+	visit *callers.Visit
 	// kind is how questions are to be answered.
 	kind api.Kind
 }
@@ -99,8 +96,8 @@ type endpoint struct {
 
 // What needs some right to what a body may name.
 var (
-	deciding   = []string{checkAccess, api.DecideByUser}
-	explaining = append(state.SeparatingFunctions(), deciding...)
+	decisions  = []string{checkAccess, api.DecideByUser}
+	explaining = append(state.SeparatingFunctions(), decisions...)
 	batching   = append(api.Functions(), api.DecideByUser)
 )
 
@@ -108,10 +105,10 @@ var (
 func (e *Endpoints) add() {
 	e.at = map[string]endpoint{
 		"/v1/batch":              {"batch", post, e.batch, batching},
-		"/v1/decideByUser":       {"decision", post, e.decideByUser, deciding[1:]},
+		"/v1/decideByUser":       {"decision", post, e.decideByUser, decisions[1:]},
 		"/decide":                {"decision", getOrPost, e.decide, nil},
-		"/access/v1/evaluation":  {"decision", post, e.evaluation, deciding},
-		"/access/v1/evaluations": {"batch", post, e.evaluations, deciding},
+		"/access/v1/evaluation":  {"decision", post, e.evaluation, decisions},
+		"/access/v1/evaluations": {"batch", post, e.evaluations, decisions},
 		"/explain":               {"question", post, e.explain, explaining},
 		"/sessions":              {"command", post, e.makeSession, []string{"createSession"}},
 		severalLists:             {"list", post, e.lists, nil},
@@ -145,34 +142,21 @@ func (e *Endpoints) find(target string) (found endpoint, has bool) {
 
 var get, post, getOrPost = []string{http.MethodGet}, []string{http.MethodPost}, []string{http.MethodGet, http.MethodPost}
 
-// Has reports whether an endpoint is at the path of a request.
-func (e *Endpoints) Has(r *http.Request) bool {
-	_, has := e.find(r.RequestURI)
-	return has
-}
-
-// Serve answers a request of a visitor, or of anybody if that is nil.
-func (e *Endpoints) Serve(w http.ResponseWriter, r *http.Request, visitor Visitor) {
-	start := time.Now()
-	at, _ := e.find(r.RequestURI)
-	sign := func(call *api.Call) error { return e.Sign(r, visitor, call) }
-	kind, err := api.KindOfQuestions(r)
-	asked := &request{r, sign, w, e.life, visitor, kind}
-	status := 0
-	switch {
-	case err != nil:
-	case !has(at.methods, r.Method):
-		err = api.BadRequest(http.StatusMethodNotAllowed)
-	default:
-		if err = asked.mayAny(at.operations); err == nil {
-			status, err = at.answer(asked)
-		}
+// Serve answers a request of a caller, or of anybody if there are no callers. What is for no endpoint is for a function.
+func (e *Endpoints) Serve(w http.ResponseWriter, r *http.Request, visit *callers.Visit) {
+	start, asked := time.Now(), &request{Request: r, w: w, ctx: e.life, visit: visit}
+	status, err := 0, error(nil)
+	at, isThere := e.find(r.RequestURI)
+	if isThere {
+		status, err = at.serve(asked)
+	} else {
+		at.kind, status, err = e.function(asked)
 	}
-	asked.done()
+	visit.Done()
 	if err != nil {
 		refused := api.RefusalOf(err)
-		if visitor != nil && (refused == api.Forbidden || refused == api.Unavailable) {
-			e.Denied(r, visitor, refused)
+		if visit != nil && refused == api.Forbidden {
+			e.Denied(r, visit)
 		}
 		var line *api.LineError
 		if errors.As(err, &line) {
@@ -182,6 +166,56 @@ func (e *Endpoints) Serve(w http.ResponseWriter, r *http.Request, visitor Visito
 	}
 	e.Note(at.kind, status, start)
 }
+
+// serve answers a request for an endpoint.
+func (at endpoint) serve(r *request) (status int, err error) {
+	if r.kind, err = api.KindOfQuestions(r.Request); err != nil {
+		return 0, err
+	}
+	if !has(at.methods, r.Method) {
+		return 0, api.BadRequest(http.StatusMethodNotAllowed)
+	}
+	if at.operations != nil {
+		if err := r.mayAny(at.operations...); err != nil {
+			return 0, err
+		}
+	}
+	return at.answer(r)
+}
+
+// function answers a request for a function of the office, and returns how it is counted.
+func (e *Endpoints) function(r *request) (kind api.Kind, status int, err error) {
+	name, kind, err := api.FunctionOf(r.Request)
+	if err == nil {
+		err = r.mayAny(name)
+	}
+	if err != nil {
+		return kind, 0, err
+	}
+	call, err := api.ReadCall(r.Request, name)
+	if err == nil {
+		err = r.may(call)
+	}
+	if err != nil {
+		return kind, 0, err
+	}
+	rule, err := api.RuleOf(r.Request)
+	if err != nil {
+		return kind, 0, err
+	}
+	r.kind = kind
+	answers, err := e.ask(r, rule, call)
+	if err != nil {
+		return kind, 0, err
+	}
+	if call.Function == checkAccess {
+		e.decided(r, call, answers[0])
+	}
+	return kind, r.reply(api.StatusOf(answers[0]), answers[0]), nil
+}
+
+// errNotHere is the refusal of what this front doesn't have, such as a record.
+var errNotHere = api.BadRequest(http.StatusNotFound)
 
 // errNotRead is the refusal of a request that can't be read, and notRead the same with what is wrong.
 var errNotRead = api.BadRequest(http.StatusBadRequest)
@@ -208,16 +242,34 @@ func noSuch(kind, name string) error {
 	return refused
 }
 
-// only returns the value of a key of a query.
-func only(key string, given []string) (string, error) {
-	if len(given) != 1 {
-		return "", notRead("%s is there more than once", echoed(key))
-	}
-	return given[0], nil
-}
-
 // errNoQuery is the refusal of a query that isn't one.
 var errNoQuery = notRead("the query isn't written as a URL has it")
+
+// readQuery calls a function with each key of a query and its value, until that fails.
+func readQuery(text string, set func(key, value string) error) error {
+	values, err := url.ParseQuery(text)
+	if err != nil {
+		return errNoQuery
+	}
+	for key, given := range values {
+		if len(given) != 1 {
+			return notRead("%s is there more than once", echoed(key))
+		}
+		if err := set(key, given[0]); err != nil {
+			return err
+		}
+	}
+	return nil
+}
+
+// readLimit reads how many rows an answer has at most.
+func readLimit(text string) (int, error) {
+	limit, err := strconv.Atoi(text)
+	if err != nil || limit < 1 || limit > mostRows {
+		return 0, notRead("limit is a number from 1 to %d", mostRows)
+	}
+	return limit, nil
+}
 
 func has(methods []string, method string) bool {
 	for _, one := range methods {
@@ -242,7 +294,7 @@ func (e *Endpoints) known(r *request) (*state.State, error) {
 	return e.office.State(), nil
 }
 
-// knownTo is known for a visitor that may do an operation.
+// knownTo is known for a caller that may do an operation.
 func (e *Endpoints) knownTo(r *request, operation string) (*state.State, error) {
 	if err := r.may(api.NewOther(operation)); err != nil {
 		return nil, err
@@ -262,43 +314,33 @@ func (e *Endpoints) ask(r *request, rule api.Rule, calls ...*api.Call) ([][]byte
 	return answers.Texts, nil
 }
 
-// mayAny refuses the request of a visitor that has none of some operations, if there are any, unless its body is small.
-func (r *request) mayAny(operations []string) error {
-	if r.visitor == nil || operations == nil || r.ContentLength <= api.SmallBody {
+// mayAny refuses the request of a caller that has none of some operations, unless its body is small.
+func (r *request) mayAny(operations ...string) error {
+	if r.ContentLength <= api.SmallBody {
 		return nil
 	}
-	return r.visitor.MayAny(operations...)
+	return r.visit.MayAny(operations...)
 }
 
-// may refuses calls unless the visitor may do all of them.
+// may refuses calls unless the caller may do all of them, and writes on commands who asks for them and why.
 func (r *request) may(calls ...*api.Call) error {
 	for _, call := range calls {
 		if err := r.sign(call); err != nil {
 			return err
 		}
 	}
-	if r.visitor == nil {
-		return nil
-	}
-	return r.visitor.May(calls...)
-}
-
-// done says that the office has nothing more to do for the request. Afterwards it may be answered.
-func (r *request) done() {
-	if r.visitor != nil {
-		r.visitor.Done()
-	}
+	return r.visit.May(calls...)
 }
 
 // reply answers the request with a text of JSON.
 func (r *request) reply(status int, text []byte) int {
-	r.done()
+	r.visit.Done()
 	return api.Write(r.w, status, text)
 }
 
 // status answers the request by a status alone.
 func (r *request) status(status int) int {
-	r.done()
+	r.visit.Done()
 	if status != http.StatusNoContent {
 		r.w.Header().Set("Content-Length", "0")
 	}

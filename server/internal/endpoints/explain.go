@@ -41,13 +41,9 @@ func (e *Endpoints) explain(r *request) (int, error) {
 	if fields.Has("command") {
 		return e.explainCommand(r, fields.At("command"))
 	}
-	q, err := readQuery(fields, "session", "user")
-	if err != nil {
-		return 0, err
-	}
-	base, err := q.call()
+	call, err := readAsked(fields, "session", "user")
 	if err == nil {
-		err = r.may(base)
+		err = r.may(call)
 	}
 	if err != nil {
 		return 0, err
@@ -57,9 +53,9 @@ func (e *Endpoints) explain(r *request) (int, error) {
 		return 0, err
 	}
 	var seen facts
-	e.office.State().Touch([]*api.Call{base})
+	e.office.State().Touch([]*api.Call{call})
 	err = e.office.State().Look(func(v *state.View) {
-		seen, at.Policy, at.Revision = factsOf(v, q, base), v.Numbers.Policy, v.Numbers.Revision
+		seen, at.Policy, at.Revision = factsOf(v, call), v.Numbers.Policy, v.Numbers.Revision
 	})
 	if err != nil {
 		return 0, err
@@ -68,13 +64,13 @@ func (e *Endpoints) explain(r *request) (int, error) {
 	switch {
 	case !api.IsAccepted(seen.decision):
 		return r.reply(api.StatusOf(seen.decision), seen.decision), nil
-	case q.user != "":
-		return r.replyValue(r.explainedUser(q, seen))
+	case call.User != "":
+		return r.replyValue(r.explainedUser(call.Arguments, seen))
 	}
-	return r.replyValue(r.explainedSession(q, seen))
+	return r.replyValue(r.explainedSession(call.Arguments, seen))
 }
 
-// Facts are what the office has to say about a query at one moment.
+// Facts are what the office has to say about a decision at one moment.
 type facts struct {
 	decision []byte
 	// granted has the roles that have the permission, and own those that the user is authorized for or that the session has.
@@ -88,16 +84,16 @@ type facts struct {
 	user     string
 }
 
-// factsOf asks the office about a query. No role has a permission that doesn't exist.
-func factsOf(v *state.View, q query, base *api.Call) facts {
-	seen := facts{decision: v.Answer(base), user: q.user, blocked: map[string]blocked{}}
-	seen.granted = v.Names("permissionRoles", "object", q.object, "operation", q.operation)
-	if q.user == "" {
-		session, _ := v.Session(q.session)
+// factsOf asks the office about what a call decides. No role has a permission that doesn't exist.
+func factsOf(v *state.View, call *api.Call) facts {
+	seen := facts{decision: v.Answer(call), user: call.User, blocked: map[string]blocked{}}
+	seen.granted = v.Names("permissionRoles", "object", call.Object, "operation", call.Operation)
+	if call.User == "" {
+		session, _ := v.Session(call.Session)
 		seen.user, seen.active = session.User, v.Above(seen.granted, session.Active)
-		seen.own = v.Names("sessionRoles", "session", q.session)
+		seen.own = v.Names("sessionRoles", "session", call.Session)
 	} else {
-		seen.isLocked, seen.own = v.IsLocked(q.user), v.Names("authorizedRoles", "user", q.user)
+		seen.isLocked, seen.own = v.IsLocked(call.User), v.Names("authorizedRoles", "user", call.User)
 		for _, role := range seen.granted {
 			if set, members := v.Blocked(role); set != "" {
 				seen.blocked[role] = blocked{members, role, set}
@@ -108,9 +104,9 @@ func factsOf(v *state.View, q query, base *api.Call) facts {
 	return seen
 }
 
-// explainedUser explains a query about a user. A session in which the user may do the operation has a role to which the permission is
+// explainedUser explains a decision about a user. A session in which the user may do the operation has a role to which the permission is
 // granted directly. It also may exist with this role alone.
-func (r *request) explainedUser(q query, seen facts) *explanation {
+func (r *request) explainedUser(q api.Arguments, seen facts) *explanation {
 	shown := &explanation{Allowed: string(seen.decision) == api.Allowed}
 	if !r.mayAsk("permissionRoles", q) || !r.mayAsk("authorizedRoles", q) || !r.mayAsk("assignedRoles", q) {
 		return shown
@@ -136,10 +132,10 @@ func (r *request) explainedUser(q query, seen facts) *explanation {
 	return shown
 }
 
-// explainedSession explains a query about a session: by which roles it has a permission, and by which it might.
-func (r *request) explainedSession(q query, seen facts) *explanation {
+// explainedSession explains a decision about a session: by which roles it has a permission, and by which it might.
+func (r *request) explainedSession(q api.Arguments, seen facts) *explanation {
 	shown := &explanation{Allowed: string(seen.decision) == api.Allowed}
-	q.user = seen.user
+	q.User = seen.user
 	if !r.mayAsk("permissionRoles", q) || !r.mayAsk("sessionRoles", q) {
 		return shown
 	}
@@ -160,7 +156,7 @@ func (r *request) explainedSession(q query, seen facts) *explanation {
 	return shown
 }
 
-// mayAsk reports whether the visitor may ask a function about what a query names.
-func (r *request) mayAsk(function string, q query) bool {
-	return r.may(api.NewOther(function, "session", q.session, "user", q.user, "operation", q.operation, "object", q.object)) == nil
+// mayAsk reports whether the caller may ask a function about what is named.
+func (r *request) mayAsk(function string, q api.Arguments) bool {
+	return r.may(&api.Call{Function: function, Kind: api.Question, Arguments: q}) == nil
 }

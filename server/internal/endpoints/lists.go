@@ -5,11 +5,11 @@ import (
 	"encoding/json"
 	"errors"
 	"net/http"
-	"net/url"
 	"strconv"
 	"strings"
 
 	"rbac-node/internal/api"
+	"rbac-node/internal/recorded"
 	"rbac-node/internal/state"
 )
 
@@ -90,7 +90,7 @@ func (e *Endpoints) lists(r *request) (int, error) {
 	if s.Numbers().Policy != before.Policy {
 		api.ForgetPolicy(r.w.Header())
 	}
-	r.done()
+	r.visit.Done()
 	return writeLines(r.w, answers), nil
 }
 
@@ -200,7 +200,13 @@ func readListLine(line []byte) (query listQuery, err error) {
 	if err != nil {
 		return query, err
 	}
-	list, values := "", url.Values{}
+	list, err := api.Text(fields.At("list"))
+	if err != nil && fields.Has("list") {
+		return query, notRead("list has to be a text")
+	}
+	if query, err = newListQuery(list); err != nil {
+		return query, err
+	}
 	for _, one := range fields.Distinct() {
 		key, text := one.Key, one.Value
 		if key != "limit" {
@@ -209,40 +215,29 @@ func readListLine(line []byte) (query listQuery, err error) {
 			}
 		}
 		if key == "list" {
-			list = text
-		} else {
-			values.Set(key, text)
+			continue
 		}
-	}
-	return newListQuery(list, values)
-}
-
-// readListQuery reads what is wanted of a list.
-func readListQuery(list, text string) (query listQuery, err error) {
-	values, err := url.ParseQuery(text)
-	if err != nil && columnsOf(list) != nil {
-		return query, errNoQuery
-	}
-	return newListQuery(list, values)
-}
-
-// newListQuery returns what the values of a query want of a list.
-func newListQuery(list string, values url.Values) (query listQuery, err error) {
-	columns := columnsOf(list)
-	if columns == nil {
-		return query, noSuch("list", list)
-	}
-	query.list, query.Query = list, state.Query{Names: map[string]string{}, Limit: usualRows}
-	for key, given := range values {
-		text, err := only(key, given)
-		if err == nil {
-			err = query.set(list, columns, key, text)
-		}
-		if err != nil {
+		if err := query.set(key, text); err != nil {
 			return query, err
 		}
 	}
 	return query, nil
+}
+
+// readListQuery reads what is wanted of a list.
+func readListQuery(list, text string) (query listQuery, err error) {
+	if query, err = newListQuery(list); err == nil {
+		err = readQuery(text, query.set)
+	}
+	return query, err
+}
+
+// newListQuery returns a query of a list that wants all rows.
+func newListQuery(list string) (query listQuery, err error) {
+	if columnsOf(list) == nil {
+		return query, noSuch("list", list)
+	}
+	return listQuery{list: list, Query: state.Query{Names: map[string]string{}, Limit: usualRows}}, nil
 }
 
 // columnsOf returns the names that the rows of a list can be chosen by.
@@ -257,7 +252,7 @@ func columnsOf(list string) []string {
 }
 
 // set sets what a key of a query means.
-func (q *listQuery) set(list string, columns []string, key, text string) (err error) {
+func (q *listQuery) set(key, text string) (err error) {
 	switch {
 	case key == "contains":
 		q.Contains = text
@@ -266,20 +261,15 @@ func (q *listQuery) set(list string, columns []string, key, text string) (err er
 	case key == "after":
 		q.After = strings.Split(text, nameSeparator)
 	case key == "limit":
-		q.Limit, err = strconv.Atoi(text)
-		if err != nil || q.Limit < 1 || q.Limit > mostRows {
-			return notRead("limit is a number from 1 to %d", mostRows)
-		}
-	case has(columns, key):
+		q.Limit, err = readLimit(text)
+	case has(columnsOf(q.list), key):
 		q.Names[key] = text
-	case list == "permissions" && (key == "user" || key == "role") && q.holder != nil:
+	case q.list != "permissions" || key != "user" && key != "role":
+		return notRead("the list %s has no key %s", q.list, echoed(key))
+	case q.holder != nil:
 		return notRead("user and role exclude each other")
-	case list == "permissions" && key == "user":
-		q.holder, err = api.NewCall("userPermissions", "user", text)
-	case list == "permissions" && key == "role":
-		q.holder, err = api.NewCall("rolePermissions", "role", text)
 	default:
-		return notRead("the list %s has no key %s", list, echoed(key))
+		q.holder, err = api.NewCall(key+"Permissions", key, text)
 	}
 	return err
 }
@@ -307,12 +297,12 @@ func pageOfRows(list string, rows []state.Row, hasMore bool) (p page) {
 		text := []byte{}
 		for i, column := range columns {
 			if len(columns) > 1 {
-				text = append(text, "{,"[min(i, 1)], '"')
-				text = append(append(text, column...), `":`...)
+				text = api.AppendKey(text, column) // The first comma becomes a brace.
 			}
 			text = api.AppendQuoted(text, row[i])
 		}
 		if len(columns) > 1 {
+			text[0] = '{'
 			text = append(text, '}')
 		}
 		p.rows = append(p.rows, text)
@@ -324,16 +314,6 @@ func pageOfRows(list string, rows []state.Row, hasMore bool) (p page) {
 	return p
 }
 
-func min(a, b int) int {
-	if a < b {
-		return a
-	}
-	return b
-}
-
-// times are written as the record writes them.
-const timeForm = "2006-01-02T15:04:05.000Z"
-
 // pageOfSessions returns a page of sessions, in the order of their digests.
 func pageOfSessions(sessions []state.Session, query state.Query) (p page) {
 	for _, one := range sessions {
@@ -343,8 +323,8 @@ func pageOfSessions(sessions []state.Session, query state.Query) (p page) {
 		}
 		text := api.AppendTexts([]byte(`{"roles":`), one.Active)
 		text = append(api.AppendQuoted(append(text, `,"session":`...), one.Digest), `,"since":"`...)
-		text = append(append(text, one.Since.UTC().Format(timeForm)...), `","used":"`...)
-		text = append(append(text, one.Used.UTC().Format(timeForm)...), `","user":`...)
+		text = append(append(text, one.Since.UTC().Format(recorded.TimeLayout)...), `","used":"`...)
+		text = append(append(text, one.Used.UTC().Format(recorded.TimeLayout)...), `","user":`...)
 		if !p.add(append(api.AppendQuoted(text, one.User), '}'), one.Digest, query.Limit) {
 			break
 		}

@@ -5,7 +5,6 @@ import (
 	"context"
 	"fmt"
 	"net/http"
-	"net/url"
 	"os/exec"
 	"strings"
 	"time"
@@ -53,7 +52,7 @@ func (e *Endpoints) picture(r *request) (int, error) {
 	if err != nil {
 		return 0, err
 	}
-	r.done()
+	r.visit.Done()
 	drawn, err := draw(r.ctx, program, query.text(part))
 	if err != nil {
 		return 0, err
@@ -69,27 +68,20 @@ func (e *Endpoints) picture(r *request) (int, error) {
 
 // readPictureQuery reads what a picture is to show.
 func readPictureQuery(text string) (query pictureQuery, err error) {
-	values, err := url.ParseQuery(text)
-	if err != nil {
-		return query, errNoQuery
-	}
 	texts := map[string]*string{"role": &query.role, "user": &query.user, "operation": &query.operation, "object": &query.object}
-	for key, given := range values {
-		text, err := only(key, given)
-		if err != nil {
-			return query, err
-		}
+	err = readQuery(text, func(key, value string) error {
 		place, isText := texts[key]
 		switch {
 		case isText:
-			*place = text
+			*place = value
 		case key == "from":
-			query.from = strings.Split(text, nameSeparator)
+			query.from = strings.Split(value, nameSeparator)
 		default:
-			return query, notRead("a picture has no key %s", echoed(key))
+			return notRead("a picture has no key %s", echoed(key))
 		}
-	}
-	return query, nil
+		return nil
+	})
+	return query, err
 }
 
 // part returns the part of the role graph that is to be drawn.

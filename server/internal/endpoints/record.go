@@ -3,21 +3,12 @@ package endpoints
 import (
 	"context"
 	"encoding/json"
-	"net/url"
 	"strconv"
 	"strings"
 
 	"rbac-node/internal/api"
 	"rbac-node/internal/recorded"
 )
-
-// A recording office may keep a record.
-type recording interface {
-	// Recorded returns entries of the record. It returns false if nothing is recorded.
-	Recorded(ctx context.Context, query recorded.Query) (page recorded.Page, is bool, err error)
-	// Links returns the next entries after one, as their links are computed. It returns false if nothing is recorded.
-	Links(ctx context.Context, after int64) (links recorded.Links, is bool, err error)
-}
 
 // An entry is one of the record, as it is answered.
 type entry struct {
@@ -32,7 +23,7 @@ type entry struct {
 
 // record answers the newest entries of the record that are wanted.
 func (e *Endpoints) record(r *request) (int, error) {
-	office, err := e.recording(r)
+	record, err := e.recordFor(r)
 	if err != nil {
 		return 0, err
 	}
@@ -42,31 +33,28 @@ func (e *Endpoints) record(r *request) (int, error) {
 	}
 	ctx, cancel := context.WithTimeout(r.ctx, readingTimeout)
 	defer cancel()
-	page, is, err := office.Recorded(ctx, query)
+	page, err := record.Recorded(ctx, query)
 	if err != nil {
 		return 0, err
-	}
-	if !is {
-		return 0, errNotHere
 	}
 	return r.replyRecord(page)
 }
 
-// recording returns the office if it may keep a record, and the caller may read that.
-func (e *Endpoints) recording(r *request) (recording, error) {
+// recordFor returns the record, if there is one and the caller may read it.
+func (e *Endpoints) recordFor(r *request) (recorded.Reader, error) {
 	if err := r.may(api.NewOther(api.Record)); err != nil {
 		return nil, err
 	}
-	office, can := e.office.(recording)
-	if !can {
+	record := e.office.Record()
+	if record == nil {
 		return nil, errNotHere
 	}
-	return office, nil
+	return record, nil
 }
 
 // links answers the next entries after one, as their links are computed, and the head that they lead to.
 func (e *Endpoints) links(r *request) (int, error) {
-	office, err := e.recording(r)
+	record, err := e.recordFor(r)
 	if err != nil {
 		return 0, err
 	}
@@ -76,12 +64,9 @@ func (e *Endpoints) links(r *request) (int, error) {
 	}
 	ctx, cancel := context.WithTimeout(r.ctx, readingTimeout)
 	defer cancel()
-	found, is, err := office.Links(ctx, after)
+	found, err := record.Links(ctx, after)
 	if err != nil {
 		return 0, err
-	}
-	if !is {
-		return 0, errNotHere
 	}
 	return r.replyValue(struct {
 		Entries [][]string `json:"entries"`
@@ -114,21 +99,9 @@ func (r *request) replyRecord(page recorded.Page) (int, error) {
 
 // readRecordQuery reads which entries are wanted.
 func readRecordQuery(text string) (query recorded.Query, err error) {
-	values, err := url.ParseQuery(text)
-	if err != nil {
-		return query, errNoQuery
-	}
 	query.Limit = usualRows
-	for key, given := range values {
-		text, err := only(key, given)
-		if err == nil {
-			err = setFilter(&query, key, text)
-		}
-		if err != nil {
-			return query, err
-		}
-	}
-	return query, nil
+	err = readQuery(text, func(key, value string) error { return setFilter(&query, key, value) })
+	return query, err
 }
 
 // setFilter sets what a key of a query chooses.
@@ -154,10 +127,7 @@ func setFilter(query *recorded.Query, key, text string) (err error) {
 			return notRead("refused is true or false")
 		}
 	case key == "limit":
-		query.Limit, err = strconv.Atoi(text)
-		if err != nil || query.Limit < 1 || query.Limit > mostRows {
-			return notRead("limit is a number from 1 to %d", mostRows)
-		}
+		query.Limit, err = readLimit(text)
 	case key == "before":
 		query.Before, err = strconv.ParseInt(text, 10, 64)
 		if err != nil || query.Before < 1 {
@@ -166,5 +136,5 @@ func setFilter(query *recorded.Query, key, text string) (err error) {
 	default:
 		return notRead("the record has no filter %s", echoed(key))
 	}
-	return nil
+	return err
 }

@@ -4,15 +4,16 @@ import (
 	"bufio"
 	"context"
 	"fmt"
-	"net"
+	"io"
 	"net/http"
-	"net/http/httputil"
 	"strconv"
 	"strings"
 	"time"
 
 	"rbac-node/internal/api"
+	"rbac-node/internal/recorded"
 	"rbac-node/internal/reports"
+	"rbac-node/internal/web"
 )
 
 const (
@@ -60,7 +61,7 @@ func (e *Endpoints) report(r *request) (int, error) {
 		text := fmt.Sprintf(`{"code":%d,"error":"BadRequest","lines":%d}`, errNotRead.Code, made.Lines)
 		return r.reply(http.StatusRequestEntityTooLarge, []byte(text)), nil
 	}
-	name, err := e.tickets.add(&ticket{query: query, office: office, request: r.Request, visitor: r.visitor})
+	name, err := e.tickets.add(&ticket{query: query, office: office, request: r.Request, visit: r.visit})
 	if err != nil {
 		return 0, err
 	}
@@ -72,7 +73,7 @@ func (e *Endpoints) report(r *request) (int, error) {
 		Policy  int64    `json:"policy"`
 		Seconds int      `json:"seconds"`
 		Ticket  string   `json:"ticket"`
-	}{office.At.UTC().Format(timeForm), made.Columns, made.Lines, office.Numbers.Policy, int(ticketAge / time.Second), name})
+	}{office.At.UTC().Format(recorded.TimeLayout), made.Columns, made.Lines, office.Numbers.Policy, int(ticketAge / time.Second), name})
 }
 
 // readReportQuery reads which lines of a report are wanted.
@@ -139,86 +140,71 @@ func (e *Endpoints) ServeTicket(w http.ResponseWriter, r *http.Request) bool {
 	if r.Method != http.MethodGet || !strings.HasPrefix(r.URL.Path, reportsPath) {
 		return false
 	}
-	start := time.Now()
-	status, err := e.serveTicket(w, r)
-	if err != nil {
+	start, status := time.Now(), http.StatusOK
+	defer func() { e.Note("report", status, start) }()
+	if err := e.serveTicket(w, r); err != nil {
 		status = api.Refuse(w, api.RefusalOf(err))
 	}
-	e.Note("report", status, start)
 	return true
 }
 
-func (e *Endpoints) serveTicket(w http.ResponseWriter, r *http.Request) (int, error) {
+func (e *Endpoints) serveTicket(w http.ResponseWriter, r *http.Request) error {
 	name := strings.TrimPrefix(r.RequestURI, reportsPath)
 	if !e.tickets.has(name) {
-		return 0, api.UnknownFunction
-	}
-	hijacker, can := w.(http.Hijacker)
-	if !can {
-		return 0, api.BadRequest(http.StatusBadRequest)
+		return api.UnknownFunction
 	}
 	select {
 	case reporting <- struct{}{}:
 		defer func() { <-reporting }()
 	case <-time.After(slotTimeout): // The ticket may be of use later.
-		return 0, api.Unavailable
+		return api.Unavailable
 	case <-e.life.Done():
-		return 0, api.Unavailable
+		return api.Unavailable
 	}
 	one := e.tickets.take(name)
 	if one == nil {
-		return 0, api.UnknownFunction
+		return api.UnknownFunction
 	}
 	ctx, cancel := context.WithTimeout(e.life, reportTimeout)
 	defer cancel()
 	if err := one.again(); err != nil {
-		return 0, err
+		return err
 	}
 	made, err := reports.New(one.query.name, one.office, one.query.Filter)
 	if err != nil {
-		return 0, err
+		return err
 	}
-	conn, _, err := hijacker.Hijack()
-	if err != nil {
-		return 0, err
+	one.setHead(w.Header())
+	web.Unlimited(r.Context())
+	if one.write(ctx, w, made) != nil {
+		panic(http.ErrAbortHandler) // The client sees that the end is missing.
 	}
-	defer conn.Close()
-	// The times of requests are over. What is written at once has a time of its own.
-	_, _ = conn.SetReadDeadline(time.Time{}), conn.SetWriteDeadline(time.Time{})
-	if one.write(ctx, conn, made) != nil {
-		return http.StatusOK, nil // The client sees that the end is missing.
-	}
-	return http.StatusOK, nil
+	return nil
 }
 
 // again reports whether the caller may still read reports, by the callers that are in force now.
-func (t *ticket) again() error {
-	if t.visitor == nil {
-		return nil
-	}
-	return t.visitor.Again(t.request, api.Reports, func() {})
-}
+func (t *ticket) again() error { return t.visit.Again(t.request, api.Reports, func() {}) }
 
-// head returns the head of the answer. The name of the file says which report it is, of when, and of which revision of the policy.
-func (t *ticket) head() string {
+// setHead sets the head of the answer. The name of the file says which report it is, of when, and of which revision of the policy.
+func (t *ticket) setHead(head http.Header) {
 	sort, ending := "text/csv; charset=utf-8", "csv"
 	if !t.query.isCSV {
 		sort, ending = "application/jsonl", "jsonl"
 	}
 	file := fmt.Sprintf("%s-%s-revision-%d.%s", t.query.name, t.office.At.UTC().Format("2006-01-02"), t.office.Numbers.Policy, ending)
-	return "HTTP/1.1 200 OK\r\nContent-Type: " + sort + "\r\nContent-Disposition: attachment; filename=\"" + file + "\"\r\n" +
-		"Policy-Revision: " + strconv.FormatInt(t.office.Numbers.Policy, 10) + "\r\nContent-Security-Policy: default-src 'none'; sandbox\r\n" +
-		"X-Content-Type-Options: nosniff\r\nCache-Control: no-store\r\nReferrer-Policy: no-referrer\r\n" +
-		"Cross-Origin-Resource-Policy: same-origin\r\nTransfer-Encoding: chunked\r\nConnection: close\r\n\r\n"
+	api.Point{Policy: t.office.Numbers.Policy}.SetHead(head)
+	for name, value := range map[string]string{
+		"Content-Type": sort, "Content-Disposition": `attachment; filename="` + file + `"`, "Connection": "close",
+		"Content-Security-Policy": "default-src 'none'; sandbox", "X-Content-Type-Options": "nosniff", "Cache-Control": "no-store",
+		"Referrer-Policy": "no-referrer", "Cross-Origin-Resource-Policy": "same-origin",
+	} {
+		head.Set(name, value)
+	}
 }
 
-// write writes the report to a connection, piece by piece, while the right to it holds.
-func (t *ticket) write(ctx context.Context, conn net.Conn, made *reports.Report) error {
-	if _, err := conn.Write([]byte(t.head())); err != nil {
-		return err
-	}
-	chunked := httputil.NewChunkedWriter(conn)
-	pieces := bufio.NewWriterSize(&rightful{ticket: t, ctx: ctx, to: chunked, judged: time.Now()}, pieceBytes)
+// write writes the report, piece by piece, while the right to it holds.
+func (t *ticket) write(ctx context.Context, to io.Writer, made *reports.Report) error {
+	pieces := bufio.NewWriterSize(&rightful{ticket: t, ctx: ctx, to: to, judged: time.Now()}, pieceBytes)
 	write := made.WriteLines
 	if t.query.isCSV {
 		write = made.WriteCSV
@@ -226,21 +212,14 @@ func (t *ticket) write(ctx context.Context, conn net.Conn, made *reports.Report)
 	if err := write(pieces, t.query.most); err != nil {
 		return err
 	}
-	if err := pieces.Flush(); err != nil {
-		return err
-	}
-	if err := chunked.Close(); err != nil {
-		return err
-	}
-	_, err := conn.Write([]byte("\r\n"))
-	return err
+	return pieces.Flush()
 }
 
 // A rightful writer writes while the right to a report holds, and its time isn't over.
 type rightful struct {
 	ticket *ticket
 	ctx    context.Context
-	to     interface{ Write([]byte) (int, error) }
+	to     io.Writer
 	judged time.Time
 }
 

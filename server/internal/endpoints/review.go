@@ -1,7 +1,6 @@
 package endpoints
 
 import (
-	"context"
 	"encoding/hex"
 	"strconv"
 	"strings"
@@ -9,12 +8,6 @@ import (
 	"rbac-node/internal/api"
 	"rbac-node/internal/recorded"
 )
-
-// A noting office may keep a record, in which an entry can be that is no command.
-type noting interface {
-	// Note keeps an entry, and returns its number. It returns false if nothing is recorded.
-	Note(ctx context.Context, entry *api.Call) (number int64, is bool, err error)
-}
 
 const (
 	// longestReview is the most bytes of a review's name, and mostReviewed how many lines it has at most.
@@ -40,10 +33,6 @@ func (e *Endpoints) endReview(r *request) (int, error) {
 	if err := r.may(api.NewOther(api.Review)); err != nil {
 		return 0, err
 	}
-	office, can := e.office.(noting)
-	if !can {
-		return 0, errNotHere
-	}
 	ended, err := readReview(r)
 	if err != nil {
 		return 0, err
@@ -52,12 +41,9 @@ func (e *Endpoints) endReview(r *request) (int, error) {
 	if err := r.sign(entry); err != nil {
 		return 0, err
 	}
-	number, is, err := office.Note(r.ctx, entry)
+	number, err := e.office.Note(r.ctx, entry)
 	if err != nil {
 		return 0, err
-	}
-	if !is {
-		return 0, errNotHere
 	}
 	return r.replyValue(struct {
 		Number int64 `json:"number"`

@@ -95,15 +95,7 @@ func (s *slots) make(ctx context.Context, do func() error) error {
 }
 
 // slot takes a slot for the answer to a request.
-func (e *Endpoints) slot(r *request) (leave func(), err error) { return e.slots.enter(r.caller()) }
-
-// caller returns the name of the caller, which is empty if everybody may do everything.
-func (r *request) caller() string {
-	if r.visitor == nil {
-		return ""
-	}
-	return r.visitor.Name()
-}
+func (e *Endpoints) slot(r *request) (leave func(), err error) { return e.slots.enter(r.visit.Name()) }
 
 // readLarge reads the body of a request about many things, and calls a function that reads what it says. A body that is longer than one
 // about a single thing takes a slot, until leave is called.
@@ -111,7 +103,7 @@ func (e *Endpoints) readLarge(r *request, parse func(body []byte) error) (leave 
 	leave = func() {}
 	isLarge := r.ContentLength > api.MaxBodyBytes
 	if isLarge {
-		if leave, err = e.bodies.enter(r.caller()); err != nil {
+		if leave, err = e.bodies.enter(r.visit.Name()); err != nil {
 			return func() {}, err
 		}
 	}

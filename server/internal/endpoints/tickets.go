@@ -8,6 +8,7 @@ import (
 	"time"
 
 	"rbac-node/internal/api"
+	"rbac-node/internal/callers"
 	"rbac-node/internal/state"
 )
 
@@ -24,18 +25,10 @@ const (
 type ticket struct {
 	query  reportQuery
 	office *state.Frozen
-	// request is the one of the caller, by whose identity the right is judged again. visitor is nil if there are no callers.
+	// request is the one of the caller, by whose identity the right is judged again. visit is nil if there are no callers.
 	request *http.Request
-	visitor Visitor
+	visit   *callers.Visit
 	made    time.Time
-}
-
-// owner returns the name of the caller.
-func (t *ticket) owner() string {
-	if t.visitor == nil {
-		return ""
-	}
-	return t.visitor.Name()
 }
 
 // Tickets are those that have not been used.
@@ -73,7 +66,7 @@ func (t *tickets) add(one *ticket) (name string, err error) {
 	t.mutex.Lock()
 	defer t.mutex.Unlock()
 	t.expire()
-	if oldest, count := t.oldestOf(one.owner()); count == mostOfOne {
+	if oldest, count := t.oldestOf(one.visit.Name()); count == mostOfOne {
 		delete(t.byName, oldest)
 	}
 	if len(t.byName) == mostTickets {
@@ -87,7 +80,7 @@ func (t *tickets) add(one *ticket) (name string, err error) {
 // oldestOf returns the oldest ticket of a caller, and how many it has.
 func (t *tickets) oldestOf(owner string) (oldest string, count int) {
 	for name, one := range t.byName {
-		if one.owner() != owner {
+		if one.visit.Name() != owner {
 			continue
 		}
 		count++

@@ -6,18 +6,11 @@ import (
 	"time"
 
 	"rbac-node/internal/api"
+	"rbac-node/internal/callers"
 )
 
 // ofCaller returns a ticket of a caller.
-func ofCaller(name string) *ticket { return &ticket{visitor: named{name: name}} }
-
-// A named visitor has a name alone.
-type named struct {
-	Visitor
-	name string
-}
-
-func (n named) Name() string { return n.name }
+func ofCaller(name string) *ticket { return &ticket{visit: &callers.Visit{Caller: name}} }
 
 func TestTickets(t *testing.T) {
 	now := time.Unix(0, 0)

@@ -20,9 +20,8 @@ const (
 	mostWatches, mostAtOnce = 256, 500
 	// watchInterval is how often the newest number is written, and the right to watch judged again.
 	watchInterval = time.Second
-	// reachTimeout is how long a watch waits for a number that this node doesn't have yet, and reachInterval how often it looks. A node
-	// that is behind for longer is not ready.
-	reachTimeout, reachInterval = 10 * time.Second, 20 * time.Millisecond
+	// reachTimeout is how long a watch waits for a number that this node doesn't have yet. A node that is behind for longer is not ready.
+	reachTimeout = 10 * time.Second
 )
 
 // watchHead is the head of the answer. Its end is that of the connection.
@@ -37,7 +36,7 @@ func (e *Endpoints) snapshot(r *request) (int, error) {
 	if err != nil {
 		return 0, err
 	}
-	leave, err := e.slots.enterSnapshot(r.ctx, r.caller())
+	leave, err := e.slots.enterSnapshot(r.ctx, r.visit.Name())
 	if err != nil {
 		return 0, err
 	}
@@ -52,7 +51,7 @@ func (e *Endpoints) snapshot(r *request) (int, error) {
 		return 0, err
 	}
 	r.isAt(numbers)
-	r.done()
+	r.visit.Done()
 	head := r.w.Header()
 	head.Set(numberField, strconv.FormatInt(numbers.All, 10))
 	head.Set("Content-Type", "application/jsonl")
@@ -93,7 +92,7 @@ func (e *Endpoints) watch(r *request) (int, error) {
 	if err := reach(r, s, after); err != nil {
 		return 0, err
 	}
-	r.done()
+	r.visit.Done()
 	if watching.Add(1) > mostWatches {
 		watching.Add(-1)
 		return 0, api.TooManyRequests
@@ -119,8 +118,6 @@ func (e *Endpoints) watch(r *request) (int, error) {
 func reach(r *request, s *state.State, number int64) error {
 	within, cancel := context.WithTimeout(r.ctx, reachTimeout)
 	defer cancel()
-	ticker := time.NewTicker(reachInterval)
-	defer ticker.Stop()
 	for {
 		found, known := s.After(number, 0)
 		switch {
@@ -130,7 +127,7 @@ func reach(r *request, s *state.State, number int64) error {
 			return outdated
 		}
 		select {
-		case <-ticker.C: // A refused command has a number too, and wakes nobody.
+		case <-found.Changed:
 		case <-within.Done():
 		}
 	}
@@ -139,17 +136,17 @@ func reach(r *request, s *state.State, number int64) error {
 // readAfter reads the number that a client has got last: Last-Event-ID, which a browser sends, or after.
 func readAfter(r *request) (int64, error) {
 	text := r.Header.Get("Last-Event-ID")
-	query := r.URL.Query()
-	for key, values := range query {
+	err := readQuery(r.URL.RawQuery, func(key, value string) error {
 		if key != "after" {
-			return 0, notRead("a watch has no key %s", echoed(key))
+			return notRead("a watch has no key %s", echoed(key))
 		}
-		if _, err := only(key, values); err != nil {
-			return 0, err
+		if text == "" {
+			text = value
 		}
-	}
-	if text == "" {
-		text = query.Get("after")
+		return nil
+	})
+	if err != nil {
+		return 0, err
 	}
 	after, err := strconv.ParseUint(text, 10, 63)
 	if err != nil {
@@ -206,7 +203,7 @@ func (w *watch) write() bool {
 	var found state.Watched
 	known, now := true, time.Now()
 	// The commands are read while the right holds, and no later change of the callers is in force.
-	err := w.again(func() { found, known = w.state.After(w.after, mostAtOnce) })
+	err := w.visit.Again(w.Request, api.Watch, func() { found, known = w.state.After(w.after, mostAtOnce) })
 	if err != nil || !known {
 		return false
 	}
@@ -227,13 +224,4 @@ func (w *watch) write() bool {
 		_, _ = w.lines.WriteString("event: newest\ndata: " + strconv.FormatInt(found.Newest, 10) + "\nelapsed: " + elapsed + "\n\n")
 	}
 	return w.lines.Flush() == nil
-}
-
-// again does something while the visitor may watch, by the callers that are in force now.
-func (w *watch) again(do func()) error {
-	if w.visitor == nil {
-		do()
-		return nil
-	}
-	return w.visitor.Again(w.Request, api.Watch, do)
 }

@@ -19,7 +19,7 @@ func (e *Endpoints) whatIf(r *request) (int, error) {
 	if err != nil {
 		return 0, err
 	}
-	result, err := e.trials.Try(r.ctx, office, r.done, commands)
+	result, err := e.trials.Try(r.ctx, office, r.visit.Done, commands)
 	if err != nil {
 		return 0, err
 	}
@@ -34,15 +34,17 @@ func readTried(r *request) ([]*api.Call, error) {
 		return nil, err
 	}
 	calls, err := api.ParseBatch(body)
-	for i := range calls {
-		if calls[i].Kind != api.Command {
-			refused := api.BadRequestSince(http.StatusBadRequest, "%s is no command, and changes nothing", calls[i].Function)
-			err = &api.LineError{Number: api.LineOf(body, i), Refusal: refused}
-			break
+	if err != nil {
+		return nil, err
+	}
+	for _, call := range calls {
+		if call.Kind != api.Command {
+			refused := api.BadRequestSince(http.StatusBadRequest, "%s is no command, and changes nothing", call.Function)
+			return nil, &api.LineError{Number: call.Number, Refusal: refused}
 		}
 	}
-	if err == nil && len(calls) == 0 {
-		err = notRead("the body has no command")
+	if len(calls) == 0 {
+		return nil, notRead("the body has no command")
 	}
-	return calls, err
+	return calls, nil
 }

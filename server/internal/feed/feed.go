@@ -1,18 +1,19 @@
-// Package feed passes the lines of many clients to one replay of the program, in one order, and starts it again if it ends.
+// Package feed passes the commands of many clients to one replay of the program, in one order, and starts it again if it ends.
 //
-// What a client asks for at once is a unit: its lines follow one another, with nothing between them. One goroutine writes all
-// lines. Answers come in the same order, to a goroutine that never waits. If the replay ends, whoever waits for an answer gets
-// none: nobody knows which of the lines were done.
+// What a client asks for at once is a unit: its lines follow one another, with nothing between them. A keeper gets each unit before the
+// replay, and its answers before whoever asks. One goroutine does both and writes all lines. Answers come in the same order, to a
+// goroutine that never waits. If the replay ends, whoever waits for an answer gets none: nobody knows which of the lines were done.
 package feed
 
 import (
-	"bytes"
 	"context"
 	"errors"
 	"fmt"
 	"sync"
 	"sync/atomic"
 	"time"
+
+	"github.com/prometheus/client_golang/prometheus"
 
 	"rbac-node/internal/api"
 	"rbac-node/internal/logs"
@@ -30,21 +31,22 @@ const (
 	endTimeout = 10 * time.Second
 )
 
+// opening is the line that a replay has to accept before it gets any other.
+var opening = []byte(`{"fn":"ssdRoleSets"}`)
+
 // Options are what a feed needs.
 type Options struct {
 	// Name is what the replay is called in logs and metrics.
 	Name string
 	// Start starts a replay.
 	Start func() (*office.Replay, error)
-	// First has the lines, at least one, that a replay has to accept before it gets any other.
-	First [][]byte
 	// Reads is after how many reads of its input a replay is started anew, as soon as nobody waits. It ends by itself after
 	// 1,000,000,000 reads.
 	Reads   int64
 	Log     *logs.Logger
-	Figures *Figures
+	Metrics prometheus.Registerer
 	// Before is called before each start of a replay, except after one that has answered all. No replay runs then, and all answers of
-	// the one before have been observed and kept. It may be nil, as the observer and the keeper may.
+	// the one before have been observed and kept.
 	Before   func(ctx context.Context) error
 	Observer Observer
 	Keeper   Keeper
@@ -53,13 +55,13 @@ type Options struct {
 // A Feed has one replay, or tries to start one.
 type Feed struct {
 	Options
-	units chan *Unit
-	alive chan struct{}
-	// keeping is nil if there is no keeper.
-	keeping *keeping
-	// sent has the units that the replay has got and not answered, in their order.
-	sent   chan *Unit
-	replay *office.Replay
+	figures
+	keeping
+	// asked has the units that the keeper hasn't got, and sent those that the replay has got and not answered, in their order. There is
+	// always room in sent: so many are never at the replay.
+	asked, sent chan *Unit
+	alive       chan struct{}
+	replay      *office.Replay
 	// newest is the replay that was started last, for other goroutines.
 	newest atomic.Pointer[office.Replay]
 	// reads is the most times that the replay can have read its input. Only the goroutine of Run uses it.
@@ -68,46 +70,29 @@ type Feed struct {
 	resting sync.Mutex
 	// life counts the replays, except those that follow one that has answered everything.
 	life atomic.Int64
-	// starting says that a replay is being started.
-	starting atomic.Bool
+	// isBusy says that a replay is being started, or that the keeper writes.
+	isBusy atomic.Bool
 	// why says why there is no replay, or is empty.
 	why atomic.Value
 }
 
-// A RefusedError reports which of the first lines was refused.
-type RefusedError struct {
-	Index  int
-	Answer string
-}
+// IsAccepted reports whether the office accepted what it answers.
+func IsAccepted(answer []byte) bool { return api.IsAccepted(answer) }
 
-func (e *RefusedError) Error() string { return fmt.Sprintf("line %d: %s", e.Index+1, e.Answer) }
-
-// Open returns a feed whose replay has accepted the first lines.
+// Open returns a feed whose replay answers.
 func Open(ctx context.Context, options Options) (*Feed, error) {
-	f := &Feed{Options: options, units: make(chan *Unit, maxWaiting), alive: make(chan struct{}), sent: make(chan *Unit, maxWaiting)}
+	f := &Feed{Options: options, asked: make(chan *Unit, maxWaiting), sent: make(chan *Unit, maxWaiting), alive: make(chan struct{})}
+	f.wake = make(chan struct{}, 1)
 	f.why.Store("")
+	f.figures = newFigures(f.Metrics, f.Name, f.waiting)
 	if err := f.start(ctx); err != nil {
 		return nil, err
 	}
-	if f.Keeper != nil {
-		f.keeping = newKeeping(f.Keeper, f.units, &f.resting)
-		go f.keeping.run()
-	}
-	f.Figures.begin(f.Name, f.waiting)
 	return f, nil
 }
 
-// IsAccepted reports whether the office accepted what it answers.
-func IsAccepted(answer []byte) bool { return bytes.HasPrefix(answer, []byte(`{"ok":true`)) }
-
 // waiting returns how many units wait for the replay, or for its answers.
-func (f *Feed) waiting() int {
-	count := len(f.units) + len(f.sent)
-	if f.keeping != nil {
-		count += len(f.keeping.asked)
-	}
-	return count
-}
+func (f *Feed) waiting() int { return len(f.asked) + len(f.sent) }
 
 // Why returns why no line is answered now, or an empty text.
 func (f *Feed) Why() string {
@@ -118,16 +103,16 @@ func (f *Feed) Why() string {
 	return why
 }
 
-// Do returns the answers to the lines of a unit, unless the context ends first. A unit that hasn't been sent or kept by then never
-// is.
+// Do returns the answers to the lines of a unit, unless the context ends first or there is no replay. A unit that hasn't been kept by
+// then never is.
 func (f *Feed) Do(ctx context.Context, u *Unit) ([][]byte, error) {
 	u.begin(ctx)
-	queue := f.units
-	if f.keeping != nil && len(u.Calls) > 0 {
-		queue = f.keeping.asked
+	if why, _ := f.why.Load().(string); why != "" {
+		u.lose() // There is no replay.
+		return nil, api.Unavailable
 	}
 	select {
-	case queue <- u:
+	case f.asked <- u:
 	case <-ctx.Done():
 		u.lose()
 		return nil, api.Unavailable
@@ -148,8 +133,8 @@ func (f *Feed) Life() int64 { return f.life.Load() }
 
 // IsAlive reports whether the goroutine that passes lines goes on, before the context ends.
 func (f *Feed) IsAlive(ctx context.Context) bool {
-	if f.starting.Load() {
-		return true // It is killed if it answers nothing for too long.
+	if f.isBusy.Load() {
+		return true // A replay is killed if it answers nothing for too long.
 	}
 	select {
 	case f.alive <- struct{}{}:
@@ -164,21 +149,19 @@ func (f *Feed) Run(ctx context.Context) error {
 	for {
 		err := f.pass(ctx)
 		if ctx.Err() != nil {
-			f.answerRest()
-			return f.Quietly(f.end)
+			return f.finish()
 		}
-		if err != nil {
-			f.why.Store("the replay has ended")
-			f.Log.Error("the replay has ended", "replay", f.Name, "why", err)
-		} else if f.anew(ctx) {
+		if err == nil && f.anew(ctx) {
 			continue
+		}
+		f.why.Store("the replay has ended")
+		if err != nil {
+			f.Log.Error("the replay has ended", "replay", f.Name, "why", err)
 		}
 		f.halt()
 		if err := f.startAgain(ctx); err != nil {
-			f.endKeeping()
 			return nil
 		}
-		f.resume()
 	}
 }
 
@@ -194,132 +177,89 @@ func (f *Feed) anew(ctx context.Context) bool {
 	return f.open(ctx) == nil
 }
 
-// pass passes lines until the context or the replay ends, or until it is time for a new one, for which there is no error.
+// pass passes units and their answers until the context or the replay ends, or until it is time for a new replay, for which there is no
+// error.
 func (f *Feed) pass(ctx context.Context) error {
-	ticker := time.NewTicker(restartInterval)
-	defer ticker.Stop()
-	for f.reads < f.Reads+f.Reads/10 {
-		select {
-		case u := <-f.units:
-			f.send(u)
-		case <-ticker.C:
-			if f.reads >= f.Reads && len(f.units)+len(f.sent) == 0 {
-				return nil
-			}
-		case <-f.alive:
-		case <-f.replay.Ended():
-			return f.replay.Close()
-		case <-ctx.Done():
+	for f.reads < f.Reads || f.reads < f.Reads+f.Reads/10 && f.waiting() > 0 {
+		if f.step(ctx.Done()) {
+			continue
+		}
+		if ctx.Err() != nil {
 			return ctx.Err()
 		}
-		if len(f.units) == 0 {
-			f.replay.Flush()
-		}
+		return f.replay.Close()
 	}
 	return nil
 }
 
-// send passes the lines of a unit to the replay, unless nobody waits for them any more.
-func (f *Feed) send(u *Unit) {
-	if !u.isKept && (u.ctx.Err() != nil || u.Life != 0 && u.Life != f.life.Load()) {
-		u.lose()
-		return
+// finish passes what waits after the last request was accepted, and ends the replay.
+func (f *Feed) finish() error {
+	for len(f.asked)+f.count(0) > 0 && f.step(nil) {
+	}
+	err := f.Quietly(f.end)
+	f.halt()
+	return err
+}
+
+// step waits for what comes next, and does it. It returns false when a channel is closed, or the replay has ended.
+func (f *Feed) step(over <-chan struct{}) bool {
+	more, open := f.room()
+	if open == 0 && more == nil {
+		f.rest()
+		return true
 	}
 	select {
-	case f.sent <- u:
+	case u := <-more:
+		f.keep(f.takeAnswered(), append([]*Unit{u}, take(more, open+len(u.Lines))...))
+	case <-f.wake:
+		f.keep(f.takeAnswered(), take(more, open))
+	case <-f.failed:
+		f.keep(nil, nil) // The keeper has the answers that it couldn't keep.
+	case <-f.alive:
 	case <-f.replay.Ended():
-		u.lose()
-		return
+		return false
+	case <-over:
+		return false
 	}
-	sent := time.Now()
-	for i, line := range u.Lines {
-		i := i
-		f.reads += office.ReadsOf(line)
-		f.replay.Send(line, func(answer []byte) {
-			if u.Answers[i] = answer; i == len(u.Lines)-1 {
-				<-f.sent // It is this unit, since answers come in order.
-				f.Figures.seconds.WithLabelValues(f.Name).Observe(time.Since(sent).Seconds())
-				f.answered(u)
-			}
-		})
-	}
+	return true
 }
 
-// answered passes on a unit that the replay has answered.
-func (f *Feed) answered(u *Unit) {
-	if f.Observer != nil && len(u.Calls) > 0 {
-		f.Observer.Answered(u)
+// send passes the lines of units to the replay.
+func (f *Feed) send(units []*Unit) {
+	for _, u := range units {
+		u, sent := u, time.Now()
+		f.count(len(u.Lines))
+		f.sent <- u
+		for i, line := range u.Lines {
+			i := i
+			f.reads += office.ReadsOf(line)
+			f.replay.Send(line, func(answer []byte) {
+				if u.Answers[i] = answer; i == len(u.Lines)-1 {
+					<-f.sent // It is this unit, since answers come in order.
+					f.seconds.Observe(time.Since(sent).Seconds())
+					f.Observer.Answered(u)
+					f.answered(u)
+				}
+			})
+		}
 	}
-	if u.isKept {
-		f.keeping.answer(u)
-		return
-	}
-	u.release()
+	f.replay.Flush()
 }
 
-// halt lets the keeper have the answers of a replay that has ended, and nothing more. What it has kept is not sent.
+// halt lets the keeper have the answers of a replay that has ended, and nothing more: what waits is lost.
 func (f *Feed) halt() {
-	if f.keeping == nil {
-		return
-	}
 	<-f.replay.Ended() // All answers have come.
-	f.keeping.tell(f.keeping.halts)
-	for n := len(f.units); n > 0; n-- {
-		u := <-f.units
-		if !u.isKept {
-			select {
-			case f.units <- u:
-				continue
-			default:
-			}
-		}
-		u.lose()
+	f.count(-f.count(0))
+	if answered := f.takeAnswered(); len(answered) > 0 {
+		f.keep(answered, nil)
 	}
+	lose(f.asked)
 }
 
-// resume lets commands pass to a new replay.
-func (f *Feed) resume() {
-	if f.keeping != nil {
-		f.keeping.tell(f.keeping.resumes)
-	}
-}
-
-// lose tells those that wait for a replay that has ended that they get no answer.
-func (f *Feed) lose() {
-	for len(f.sent) > 0 {
-		(<-f.sent).lose()
-	}
-}
-
-// answerRest passes the lines that wait, after the last request was accepted.
-func (f *Feed) answerRest() {
-	for len(f.units) > 0 {
-		f.send(<-f.units)
-	}
-	f.endKeeping()
-}
-
-// endKeeping lets the keeper have the last commands and their answers.
-func (f *Feed) endKeeping() {
-	if f.keeping == nil {
-		return
-	}
-	close(f.keeping.ends)
-	ended := f.replay.Ended()
-	for {
-		if len(f.units) == 0 {
-			f.replay.Flush()
-		}
-		select {
-		case u := <-f.units:
-			f.send(u)
-		case <-ended:
-			ended = nil
-			f.halt()
-			f.lose()
-		case <-f.keeping.ended:
-			return
-		}
+// lose tells those that wait for units that they get no answer.
+func lose(units <-chan *Unit) {
+	for len(units) > 0 {
+		(<-units).lose()
 	}
 }
 
@@ -338,12 +278,12 @@ func (f *Feed) end() error {
 	defer time.AfterFunc(endTimeout, f.replay.Kill).Stop()
 	err := f.replay.Close()
 	if err != nil {
-		f.lose()
+		lose(f.sent)
 	}
 	return err
 }
 
-// startAgain starts a replay, again and again until one accepts the first lines. It fails only if the context ends.
+// startAgain starts a replay, again and again until one answers. It fails only if the context ends.
 func (f *Feed) startAgain(ctx context.Context) error {
 	for last := ""; ; {
 		err := f.start(ctx)
@@ -359,7 +299,7 @@ func (f *Feed) startAgain(ctx context.Context) error {
 		}
 		for timer, waiting := time.After(restartInterval), true; waiting; {
 			select {
-			case u := <-f.units:
+			case u := <-f.asked:
 				u.lose()
 			case <-f.alive:
 			case <-timer:
@@ -371,10 +311,10 @@ func (f *Feed) startAgain(ctx context.Context) error {
 	}
 }
 
-// start starts a replay, which has to accept the first lines.
+// start starts a replay, which has to answer.
 func (f *Feed) start(ctx context.Context) error {
-	f.starting.Store(true)
-	defer f.starting.Store(false)
+	f.isBusy.Store(true)
+	defer f.isBusy.Store(false)
 	f.resting.Lock()
 	defer f.resting.Unlock()
 	f.life.Add(1)
@@ -387,40 +327,31 @@ func (f *Feed) start(ctx context.Context) error {
 // before does what comes before a start. Then it tells those who wait for the last replay that they get no answer: by then it is known
 // which of their lines were done, so nothing of them shows later that doesn't show at once.
 func (f *Feed) before(ctx context.Context) error {
-	defer f.lose()
-	if f.Before == nil {
-		return nil
-	}
+	defer lose(f.sent)
 	return f.Before(ctx)
 }
 
 // open is start without what comes before it.
 func (f *Feed) open(ctx context.Context) error {
-	f.starting.Store(true)
-	defer f.starting.Store(false)
+	f.isBusy.Store(true)
+	defer f.isBusy.Store(false)
 	replay, err := f.Start()
 	if err != nil {
 		return err
 	}
-	f.Figures.starts.WithLabelValues(f.Name).Inc()
-	f.replay, f.reads = replay, 0
+	f.starts.Inc()
+	f.replay, f.reads = replay, office.ReadsOf(opening)
 	f.newest.Store(replay)
-	done, refused := make(chan struct{}), (*RefusedError)(nil)
-	for i, line := range f.First {
-		i := i
-		f.reads += office.ReadsOf(line)
-		replay.Send(line, func(answer []byte) {
-			if refused == nil && !IsAccepted(answer) {
-				refused = &RefusedError{i, string(answer)}
-			}
-			if i == len(f.First)-1 {
-				close(done)
-			}
-		})
-	}
+	opened := make(chan []byte, 1)
+	replay.Send(opening, func(answer []byte) { opened <- answer })
 	replay.Flush()
 	select {
-	case <-done:
+	case answer := <-opened:
+		if api.IsAccepted(answer) {
+			return nil
+		}
+		_ = replay.Close() // What was refused says more.
+		return fmt.Errorf("it answers %s to %s", answer, opening)
 	case <-replay.Ended():
 		if err := replay.Close(); err != nil {
 			return err
@@ -430,9 +361,4 @@ func (f *Feed) open(ctx context.Context) error {
 		replay.Kill()
 		return ctx.Err()
 	}
-	if refused != nil {
-		_ = replay.Close() // What was refused says more.
-		return refused
-	}
-	return nil
 }

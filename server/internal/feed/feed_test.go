@@ -3,7 +3,6 @@ package feed
 import (
 	"bytes"
 	"context"
-	"errors"
 	"fmt"
 	"net/http"
 	"net/http/httptest"
@@ -23,16 +22,16 @@ import (
 )
 
 // A fake answers each line with the line itself in quotes, after what a word in the line makes it do. It is started as the
-// program is. The file counts how often it was started.
+// program is. The file counts how often it was started. A file beside it makes it refuse the opening line, or not start.
 const fake = `#!/bin/sh
 echo >> "$2.starts"
 [ ! -e "$2.refuses" ] || exit 3
 while read -r line; do
     case $line in
+    *ssdRoleSets*) [ -e "$2.wrong" ] && echo '{"code":2,"error":"NoUser"}' || echo '{"ok":true}' ;;
     *die*) exit 4 ;;
     *leave*) exit 0 ;;
     *hang*) exec sleep 1000 ;;
-    *no*) echo '{"code":2,"error":"NoUser"}' ;;
     *) echo '{"ok":true,"value":'"$line"'}' ;;
     esac
 done
@@ -75,10 +74,11 @@ func optionsOf(t *testing.T, file string, hangTimeout time.Duration, log *logs.L
 	if err := os.WriteFile(program, []byte(fake), 0o700); err != nil {
 		t.Fatal(err)
 	}
+	n := &notebook{}
 	return Options{
 		Name: "office", Start: func() (*office.Replay, error) { return office.Start(program, file, hangTimeout) },
-		First: [][]byte{[]byte("1"), []byte("2")}, Reads: many, Log: log,
-		Figures: NewFigures(prometheus.NewRegistry()),
+		Reads: many, Log: log, Metrics: prometheus.NewRegistry(),
+		Before: func(context.Context) error { return nil }, Observer: n, Keeper: n,
 	}
 }
 
@@ -171,10 +171,10 @@ func TestEndOfReplay(t *testing.T) {
 			if _, err := ask(b, limit, []byte("a"), []byte(test.word), []byte("b")); err != api.Unavailable || limit.Err() != nil {
 				t.Errorf("%v and not %v, %v", err, api.Unavailable, limit.Err())
 			}
-			answers, err := ask(b, within(t, 20*time.Second), []byte("7"))
-			if err != nil || string(answers[0]) != `{"ok":true,"value":7}` {
-				t.Errorf("after the end: %s, %v", answers, err)
-			}
+			until(t, "it answers again", func() bool {
+				answers, err := ask(b, within(t, 20*time.Second), []byte("7"))
+				return err == nil && string(answers[0]) == `{"ok":true,"value":7}`
+			})
 			if !b.log.has(test.says) || b.starts() != 2 {
 				t.Errorf("%d starts; the log: %s", b.starts(), b.log)
 			}
@@ -263,21 +263,43 @@ func TestStartAnew(t *testing.T) {
 	}
 }
 
-func TestFirstLines(t *testing.T) {
-	for _, test := range []struct {
-		name  string
-		first string
-		index int
-	}{{"the first", "no 2 3", 0}, {"a later one", "1 no no", 1}, {"the last", "1 2 no", 2}} {
-		t.Run(test.name, func(t *testing.T) {
-			options := optionsOf(t, filepath.Join(t.TempDir(), "office"), time.Minute, logs.New(&bytes.Buffer{}))
-			options.First = bytes.Fields([]byte(test.first))
-			_, err := Open(context.Background(), options)
-			refused := (*RefusedError)(nil)
-			if !errors.As(err, &refused) || refused.Index != test.index || refused.Answer != `{"code":2,"error":"NoUser"}` {
-				t.Errorf("%v", err)
+// A feed that always has something to do says that it goes on, and ends.
+func TestAliveUnderLoad(t *testing.T) {
+	b := open(t, many, time.Minute)
+	ctx, cancel := context.WithCancel(context.Background())
+	var all sync.WaitGroup
+	for client := 0; client < 50; client++ {
+		all.Add(1)
+		go func() {
+			defer all.Done()
+			for ctx.Err() == nil {
+				_, _ = ask(b, ctx, []byte("1"))
 			}
-		})
+		}()
+	}
+	for i := 0; i < 20; i++ {
+		if !b.IsAlive(within(t, 10*time.Second)) {
+			t.Fatal("it doesn't go on")
+		}
+	}
+	b.stop()
+	time.AfterFunc(100*time.Millisecond, cancel)
+	if err := <-b.end; err != nil {
+		t.Error(err)
+	}
+	cancel()
+	all.Wait()
+}
+
+// A replay that refuses the opening line is none.
+func TestOpening(t *testing.T) {
+	file := filepath.Join(t.TempDir(), "office")
+	if err := os.WriteFile(file+".wrong", nil, 0o600); err != nil {
+		t.Fatal(err)
+	}
+	_, err := Open(context.Background(), optionsOf(t, file, time.Minute, logs.New(&bytes.Buffer{})))
+	if err == nil || !strings.Contains(err.Error(), `it answers {"code":2,"error":"NoUser"}`) {
+		t.Errorf("%v", err)
 	}
 }
 
@@ -309,12 +331,9 @@ func TestTimeout(t *testing.T) {
 // The figures say how long the replay took, how often it was started, and how much waits for it, by the name of the feed.
 func TestFigures(t *testing.T) {
 	registry := prometheus.NewRegistry()
-	figures := NewFigures(registry)
-	waiting := 3
-	figures.begin("office", func() int { return 7 })
-	figures.begin("office", func() int { return waiting }) // As after a reload.
-	figures.starts.WithLabelValues("office").Inc()
-	figures.seconds.WithLabelValues("office").Observe(0.0001)
+	f := newFigures(registry, "office", func() int { return 3 })
+	f.starts.Inc()
+	f.seconds.Observe(0.0001)
 	answer := httptest.NewRecorder()
 	promhttp.HandlerFor(registry, promhttp.HandlerOpts{}).ServeHTTP(answer, httptest.NewRequest(http.MethodGet, "/", nil))
 	for _, wanted := range []string{

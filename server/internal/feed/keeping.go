@@ -14,41 +14,26 @@ const (
 	retry = time.Second
 )
 
-// A keeping passes units of commands from those who ask to the keeper and then to the replay, and their answers back.
+// A keeping has what is between the replay and the keeper.
 type keeping struct {
-	keeper Keeper
-	// asked has the units that the keeper hasn't got, and units those that it has kept.
-	asked chan *Unit
-	units chan<- *Unit
 	mutex sync.Mutex
-	// answered has the units whose answers the keeper hasn't got, in their order. open is how many lines are at the replay.
-	answered []*Unit
-	open     int
-	wake     chan struct{}
-	// halts says that the replay has ended, and resumes that there is one again. ends says that nothing more will be asked.
-	halts, resumes chan chan struct{}
-	ends, ended    chan struct{}
-	// resting is locked while the keeper rests. The file of the office must not change then.
-	resting *sync.Mutex
-	// isOver says that nothing more will be asked, and that there is no replay. Only the goroutine of run uses it.
-	isOver bool
+	// done has the units whose answers the keeper hasn't got, in their order. unanswered is how many lines are at the replay.
+	done       []*Unit
+	unanswered int
+	// wake has an element if there are such units.
+	wake chan struct{}
+	// failed is when the keeper is given again what it couldn't keep, or nil. Only the goroutine of Run uses it.
+	failed <-chan time.Time
 }
 
-func newKeeping(keeper Keeper, units chan<- *Unit, resting *sync.Mutex) *keeping {
-	return &keeping{
-		keeper: keeper, units: units, resting: resting, asked: make(chan *Unit, maxWaiting), wake: make(chan struct{}, 1),
-		halts: make(chan chan struct{}), resumes: make(chan chan struct{}), ends: make(chan struct{}), ended: make(chan struct{}),
-	}
-}
-
-// answer takes a unit that the replay has answered. It doesn't wait.
-func (k *keeping) answer(u *Unit) {
+// answered takes a unit that the replay has answered. It doesn't wait.
+func (k *keeping) answered(u *Unit) {
 	k.mutex.Lock()
-	k.answered = append(k.answered, u)
-	if last := len(k.answered) - 1; faults.Has(faults.MixesUp) {
-		k.answered[0], k.answered[last] = k.answered[last], k.answered[0]
+	k.done = append(k.done, u)
+	if last := len(k.done) - 1; faults.Has(faults.MixesUp) {
+		k.done[0], k.done[last] = k.done[last], k.done[0]
 	}
-	k.open -= len(u.Lines)
+	k.unanswered -= len(u.Lines)
 	k.mutex.Unlock()
 	select {
 	case k.wake <- struct{}{}:
@@ -56,112 +41,72 @@ func (k *keeping) answer(u *Unit) {
 	}
 }
 
-// takeAnswered returns the units that have been answered, and how many lines are at the replay.
-func (k *keeping) takeAnswered() (answered []*Unit, open int) {
+// takeAnswered returns the units that have been answered.
+func (k *keeping) takeAnswered() (answered []*Unit) {
 	k.mutex.Lock()
 	defer k.mutex.Unlock()
-	answered, k.answered = k.answered, nil
-	return answered, k.open
+	answered, k.done = k.done, nil
+	return answered
 }
 
-func (k *keeping) opened(lines int) {
+// count adds to how many lines are at the replay, and returns it.
+func (k *keeping) count(lines int) int {
 	k.mutex.Lock()
 	defer k.mutex.Unlock()
-	k.open += lines
+	k.unanswered += lines
+	return k.unanswered
 }
 
-// run keeps and passes on until end is called.
-func (k *keeping) run() {
-	defer close(k.ended)
-	var failed <-chan time.Time
-	for !k.isOver {
-		answered, open := k.takeAnswered()
-		asked := k.take(open)
-		if len(answered)+len(asked) > 0 {
-			if k.keep(answered, asked) != nil {
-				failed = time.After(retry)
-			}
-			continue
-		}
-		if open == 0 && k.keeper.IsDue() {
-			k.rest()
-			continue
-		}
-		more, ends := k.asked, k.ends
-		if open >= mostKept || k.keeper.IsDue() {
-			more = nil
-		}
-		if open > 0 || len(k.asked) > 0 {
-			ends = nil
-		}
-		select {
-		case u := <-more:
-			if k.keep(nil, k.more(u, open)) != nil {
-				failed = time.After(retry)
-			}
-		case <-k.wake:
-		case <-failed:
-			failed = nil
-			if k.keeper.Keep(nil, nil) != nil { // It has the answers that it couldn't keep.
-				failed = time.After(retry)
-			}
-		case done := <-k.halts:
-			k.halt(done)
-		case <-ends:
-			return
-		}
+// room returns where units come from that the replay may get, or nil if it may get none, and how many lines are there. If the keeper has to
+// rest, the replay gets none.
+func (f *Feed) room() (more <-chan *Unit, open int) {
+	if open = f.count(0); open < mostKept && !f.Keeper.IsDue() {
+		more = f.asked
 	}
+	return more, open
 }
 
-func (k *keeping) rest() {
-	k.resting.Lock()
-	defer k.resting.Unlock()
-	k.keeper.Rest()
-}
-
-// take returns units that the keeper is to get next, as many as the replay may have.
-func (k *keeping) take(open int) []*Unit {
-	if open >= mostKept || k.keeper.IsDue() {
-		return nil
-	}
-	select {
-	case u := <-k.asked:
-		return k.more(u, open)
-	default:
-		return nil
-	}
-}
-
-// more returns a unit with those behind it, as many as the replay may have.
-func (k *keeping) more(u *Unit, open int) []*Unit {
-	units := []*Unit{u}
-	for lines := open + len(u.Lines); lines < mostKept; lines += len(u.Lines) {
-		select {
-		case u = <-k.asked:
-			units = append(units, u)
-		default:
-			return units
-		}
+// take returns units that wait, as many as the replay may have besides some lines.
+func take(more <-chan *Unit, lines int) (units []*Unit) {
+	for lines < mostKept && len(more) > 0 {
+		u := <-more
+		units, lines = append(units, u), lines+len(u.Lines)
 	}
 	return units
 }
 
+// rest gives the keeper the last answers, and lets it rest. The file of the office doesn't change meanwhile.
+func (f *Feed) rest() {
+	if answered := f.takeAnswered(); len(answered) > 0 {
+		f.keep(answered, nil)
+	}
+	f.isBusy.Store(true)
+	defer f.isBusy.Store(false)
+	f.resting.Lock()
+	defer f.resting.Unlock()
+	f.Keeper.Rest()
+}
+
 // keep gives the keeper answers and commands, and passes on what it has kept.
-func (k *keeping) keep(answered, asked []*Unit) error {
+func (f *Feed) keep(answered, asked []*Unit) {
 	var wanted []*Unit
 	for _, u := range asked {
-		if u.ctx.Err() != nil {
-			u.lose() // Nobody waits any more, and the replay hasn't got it.
+		if u.ctx.Err() != nil || u.Life != 0 && u.Life != f.Life() {
+			u.lose() // Nobody waits any more, or another replay was to get it.
 			continue
 		}
 		wanted = append(wanted, u)
 	}
-	left := wanted
 	if faults.Has(faults.SendsEarly) {
-		left = k.pass(wanted)
+		f.send(wanted)
 		time.Sleep(500 * time.Microsecond)
 	}
-	err := k.keeper.Keep(answered, wanted)
+	f.isBusy.Store(true)
+	err := f.Keeper.Keep(answered, wanted)
+	f.isBusy.Store(false)
+	if f.failed = nil; err != nil {
+		f.failed = time.After(retry)
+	}
 	for _, u := range answered {
 		if err != nil {
 			u.lose()
@@ -169,62 +114,13 @@ func (k *keeping) keep(answered, asked []*Unit) error {
 		}
 		u.release()
 	}
-	if err == nil && !faults.Has(faults.SendsEarly) {
-		left = k.pass(wanted)
-	}
-	for _, u := range left {
-		u.lose()
-	}
-	return err
-}
-
-// pass passes units on to the replay, and returns those that are left when it ends. There is room, unless there are very many
-// questions.
-func (k *keeping) pass(units []*Unit) []*Unit {
-	for i, u := range units {
-		u.isKept = true
-		k.opened(len(u.Lines))
-		select {
-		case k.units <- u:
-		case done := <-k.halts:
-			k.halt(done)
-			return units[i:]
-		}
-	}
-	return nil
-}
-
-// halt keeps the answers that have come, and refuses all that is asked until there is a replay again.
-func (k *keeping) halt(done chan struct{}) {
-	if answered, _ := k.takeAnswered(); len(answered) > 0 {
-		_ = k.keep(answered, nil)
-	}
-	k.mutex.Lock()
-	k.open = 0
-	k.mutex.Unlock()
-	close(done)
-	for {
-		select {
-		case u := <-k.asked:
+	switch {
+	case faults.Has(faults.SendsEarly):
+	case err == nil:
+		f.send(wanted)
+	default:
+		for _, u := range wanted {
 			u.lose()
-		case again := <-k.halts:
-			close(again)
-		case done := <-k.resumes:
-			close(done)
-			return
-		case <-k.ends:
-			k.isOver = true
-			return
 		}
-	}
-}
-
-// tell tells the goroutine of run something, and waits until it has done what follows from that.
-func (k *keeping) tell(what chan<- chan struct{}) {
-	done := make(chan struct{})
-	select {
-	case what <- done:
-		<-done
-	case <-k.ended:
 	}
 }

@@ -72,7 +72,10 @@ func kept(t *testing.T, n *notebook, reads int64, before func(context.Context) e
 	t.Helper()
 	b := &bench{file: filepath.Join(t.TempDir(), "office"), log: &syncBuffer{}, end: make(chan error, 1)}
 	options := optionsOf(t, b.file, time.Minute, logs.New(b.log))
-	options.Reads, options.Keeper, options.Observer, options.Before = reads, n, n, before
+	options.Reads, options.Keeper, options.Observer = reads, n, n
+	if before != nil {
+		options.Before = before
+	}
 	var err error
 	if b.Feed, err = Open(context.Background(), options); err != nil {
 		t.Fatal(err)
@@ -142,9 +145,6 @@ func TestFullKeeper(t *testing.T) {
 	if given := b.do("1"); given != "lost" {
 		t.Errorf("without room: %s", given)
 	}
-	if answers, err := b.Do(context.Background(), &Unit{Lines: [][]byte{[]byte("2")}}); err != nil || string(answers[0]) != `{"ok":true,"value":2}` {
-		t.Errorf("a question: %s, %v", answers, err)
-	}
 	n.set(func() { n.isFull = false })
 	if given := b.do("3"); given != `{"ok":true,"value":3}` {
 		t.Errorf("with room: %s", given)
@@ -211,4 +211,25 @@ func TestLossIsToldLast(t *testing.T) {
 	if given != "lost" || starts.Load() != 2 {
 		t.Errorf("%s, %d starts", given, starts.Load())
 	}
+}
+
+// TestRefusesMeanwhile asks while a replay is being started. The answer doesn't wait for that.
+func TestRefusesMeanwhile(t *testing.T) {
+	var starts atomic.Int32
+	begun, release := make(chan struct{}), make(chan struct{})
+	b := kept(t, &notebook{}, many, func(context.Context) error {
+		if starts.Add(1) == 2 {
+			close(begun)
+			<-release
+		}
+		return nil
+	})
+	go b.do("die")
+	<-begun
+	start := time.Now()
+	if given := b.do("1"); given != "lost" || time.Since(start) > 10*time.Second {
+		t.Errorf("%s after %v", given, time.Since(start))
+	}
+	close(release)
+	until(t, "it answers again", func() bool { return b.do("1") == `{"ok":true,"value":1}` })
 }

@@ -10,10 +10,9 @@ import (
 // A Unit is some lines that are asked at once: nothing comes between them.
 type Unit struct {
 	Lines [][]byte
-	// Calls has what the lines ask for if there is a command among them, and is empty otherwise. Keepers and observers get only units
-	// with commands.
+	// Calls has what the lines ask for.
 	Calls []*api.Call
-	// Recorded has the lines as the keeper writes them down. Whoever makes the unit sets it, if there is a keeper.
+	// Recorded has the lines as the keeper writes them down. Whoever makes the unit sets it.
 	Recorded [][]byte
 	// Numbers has the numbers of the entries that the keeper has made of the commands.
 	Numbers []int64
@@ -26,10 +25,9 @@ type Unit struct {
 	// Finally is called when the replay has answered all, or when it never will: also if nobody waits any more. It may be nil.
 	Finally func()
 	ctx     context.Context
-	// lost says that nobody knows all answers. isKept says that the keeper has the commands, so that they have to be sent.
-	lost   atomic.Bool
-	isKept bool
-	done   chan struct{}
+	// lost says that nobody knows all answers.
+	lost atomic.Bool
+	done chan struct{}
 }
 
 // NewUnit returns a unit of commands.
@@ -85,7 +83,7 @@ type Keeper interface {
 	// Keep keeps the answers to some units, in their order, and makes others durable, which the replay gets next. If it fails, the
 	// replay gets none of the latter, and whoever waits for any of them is told that there is no answer.
 	Keep(answered, asked []*Unit) error
-	// IsDue reports whether Rest is to be called. Then commands wait until the replay has none, and questions go on.
+	// IsDue reports whether Rest is to be called. Then commands wait until the replay has none.
 	IsDue() bool
 	Rest()
 }

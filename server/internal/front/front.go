@@ -75,7 +75,6 @@ type Front struct {
 	isLocal bool
 	// refusedAt is since when the files of the callers aren't those in force, in nanoseconds of Unix, or 0.
 	refusedAt atomic.Int64
-	handler   *api.Handler
 	endpoints *endpoints.Endpoints
 	office    endpoints.Office
 	listeners []net.Listener
@@ -205,11 +204,11 @@ func (f *Front) configAt(i int) *tls.Config {
 
 // Serve answers clients from an office.
 func (f *Front) Serve(life context.Context, start func(func() error), office endpoints.Office) {
-	f.office, f.handler = office, api.NewHandler(life, office, f.Metrics)
+	options := endpoints.Options{PublicURL: f.PublicURL, Denied: f.denied, Metrics: f.Metrics}
 	if f.logged != nil {
-		f.handler.LogDecision = f.logged.Note
+		options.LogDecision = f.logged.Note
 	}
-	f.serveEndpoints(life)
+	f.office, f.endpoints = office, endpoints.New(life, office, options)
 	f.isServing.Store(true)
 	if len(f.servers) == 0 {
 		f.Begin(start)

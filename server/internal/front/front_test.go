@@ -6,7 +6,6 @@ import (
 	"crypto/sha256"
 	"fmt"
 	"io"
-	"net/http"
 	"net/http/httptest"
 	"os"
 	"path/filepath"
@@ -18,14 +17,16 @@ import (
 
 	"rbac-node/internal/api"
 	"rbac-node/internal/callers"
+	"rbac-node/internal/endpoints"
 	"rbac-node/internal/logs"
 	"rbac-node/internal/state"
 )
 
 // An echo is an office that answers each call with its line, and the opening question with nothing special.
 type echo struct {
+	endpoints.Office
 	asked  []string
-	health string
+	health api.Health
 }
 
 func (e *echo) Do(_ context.Context, b api.Batch) (api.Answers, error) {
@@ -39,9 +40,9 @@ func (e *echo) State() *state.State { return nil }
 
 func (e *echo) IsReady() bool { return true }
 
-func (e *echo) ServeHealth(w http.ResponseWriter, _ *http.Request) {
-	_, _ = io.WriteString(w, e.health)
-}
+func (e *echo) Health() api.Health { return e.health }
+
+func (e *echo) Settle(context.Context) error { return nil }
 
 const rules = `{"fn":"addUser","user":"token:desk"}
 {"fn":"addUser","user":"unix:0"}
@@ -81,7 +82,7 @@ func newFront(t *testing.T, rules string, change func(*Options)) (*Front, *echo,
 		t.Fatal(err)
 	}
 	t.Cleanup(f.Close)
-	office := &echo{health: `{"ready":"healthy"}`}
+	office := &echo{health: api.Health{Ready: true}}
 	f.Serve(context.Background(), func(func() error) {}, office)
 	return f, office, log
 }
@@ -130,14 +131,14 @@ func TestRequests(t *testing.T) {
 		{"open, an own origin", "", "POST", assign, clerk, head{"Origin": "https://console.example"}, 200, `{"ok":true}`},
 		{"open, an own origin in another case", "", "POST", assign, clerk, head{"Origin": "https://Console.example"}, 403, "ForeignOrigin"},
 		{"open, a question about an origin", "", "OPTIONS", assign, "", head{"Origin": "https://evil.example"}, 403, "ForeignOrigin"},
-		{"open, health", "", "GET", "/healthz", "", nil, 200, "healthy"},
+		{"open, health", "", "GET", "/healthz", "", nil, 200, `{"ready":true}`},
 		{"open, metrics", "", "GET", "/metrics", "", nil, 200, "rbac_node_open 1\n"},
 		{"open, POST of the metrics", "", "POST", "/metrics", "{}", nil, 404, "UnknownFunction"},
 		{"no identity", rules, "POST", assign, clerk, nil, 401, `{"code":62,"error":"Unauthorized"}`},
 		{"a wrong token", rules, "POST", assign, clerk, head{"Authorization": "Bearer secre"}, 401, "Unauthorized"},
 		{"no identity and no function", rules, "POST", "/v1/fly", "{}", nil, 401, "Unauthorized"},
-		{"health without identity", rules, "GET", "/healthz", "", nil, 200, "healthy"},
-		{"health with a wrong token", rules, "GET", "/healthz", "", head{"Authorization": "x"}, 200, "healthy"},
+		{"health without identity", rules, "GET", "/healthz", "", nil, 200, `{"ready":true}`},
+		{"health with a wrong token", rules, "GET", "/healthz", "", head{"Authorization": "x"}, 200, `{"ready":true}`},
 		{"metrics without identity", rules, "GET", "/metrics", "", nil, 401, "Unauthorized"},
 		{"metrics without the right", rules, "GET", "/metrics", "", token, 403, "Forbidden"},
 		{"metrics with the right", withMetrics, "GET", "/metrics", "", token, 200, "rbac_node_open 0\n"},
@@ -180,12 +181,17 @@ func TestRequests(t *testing.T) {
 
 // Who doesn't show who asks learns that something doesn't work, and no paths.
 func TestHealth(t *testing.T) {
-	for _, test := range []struct{ name, rules, token, health, want string }{
-		{"a stranger", rules, "", `{"ready":false,"why":"open /var/lib/x"}`, `{"ready":false,"why":"the office doesn't answer"}`},
-		{"a wrong token", rules, "x", `{"ready":true,"record":"/x is full"}`, `{"ready":true,"record":"commands can't be recorded"}`},
-		{"a stranger, and nothing is wrong", rules, "", `{"ready":true}`, `{"ready":true}`},
-		{"a caller", rules, "secret", `{"ready":false,"why":"open /var/lib/x"}`, `{"ready":false,"why":"open /var/lib/x"}`},
-		{"anybody, if that may do everything", "", "", `{"ready":false,"why":"open /var/lib/x"}`, `{"ready":false,"why":"open /var/lib/x"}`},
+	fails, isFull := api.Health{Why: "open /var/lib/x"}, api.Health{Ready: true, Record: "/x is full"}
+	for _, test := range []struct {
+		name, rules, token string
+		health             api.Health
+		want               string
+	}{
+		{"a stranger", rules, "", fails, `{"ready":false,"why":"the office doesn't answer"}`},
+		{"a wrong token", rules, "x", isFull, `{"ready":true,"record":"commands can't be recorded"}`},
+		{"a stranger, and nothing is wrong", rules, "", api.Health{Ready: true}, `{"ready":true}`},
+		{"a caller", rules, "secret", fails, `{"ready":false,"why":"open /var/lib/x"}`},
+		{"anybody, if that may do everything", "", "", fails, `{"ready":false,"why":"open /var/lib/x"}`},
 	} {
 		f, office, _ := newFront(t, test.rules, nil)
 		office.health = test.health
@@ -199,6 +205,24 @@ func TestHealth(t *testing.T) {
 		if given := strings.TrimSpace(w.Body.String()); given != test.want {
 			t.Errorf("%s: %s and not %s", test.name, given, test.want)
 		}
+	}
+}
+
+// A body that isn't small isn't read if no call of the function may be done.
+func TestUnread(t *testing.T) {
+	f, office, _ := newFront(t, rules, nil)
+	for function, isRead := range map[string]bool{"addUser": false, "assignUser": true} {
+		body := strings.NewReader(strings.Repeat(" ", api.SmallBody) + clerk)
+		r := httptest.NewRequest("POST", "/v1/"+function, body)
+		r.Header.Set("Authorization", "Bearer secret")
+		w := httptest.NewRecorder()
+		f.ServeHTTP(w, r)
+		if (w.Code == 200) != isRead || (body.Len() == 0) != isRead {
+			t.Errorf("%s: %d, and %d bytes are left", function, w.Code, body.Len())
+		}
+	}
+	if len(office.asked) != 1 {
+		t.Errorf("the office was asked %q", office.asked)
 	}
 }
 

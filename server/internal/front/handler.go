@@ -1,7 +1,6 @@
 package front
 
 import (
-	"encoding/json"
 	"errors"
 	"net"
 	"net/http"
@@ -50,7 +49,7 @@ func (f *Front) ServeHTTP(w http.ResponseWriter, r *http.Request) {
 	}
 	if console.Has(r) {
 		start := time.Now()
-		f.handler.Note("page", console.Serve(w, r), start)
+		f.endpoints.Note("page", console.Serve(w, r), start)
 		return
 	}
 	if f.guard == nil {
@@ -83,47 +82,16 @@ func (f *Front) serveStart(w http.ResponseWriter, r *http.Request) {
 		return
 	}
 	stage, _ := f.stage.Load().(string)
-	replyUnready(w, "starting: "+stage)
+	api.Health{Why: "starting: " + stage}.Reply(w)
 }
 
-// serveHealth reports the condition of the office. Strangers learn no more than what doesn't work: the reasons have paths of files and
-// what programs have said.
+// serveHealth reports the condition of the office. Strangers learn no more than what doesn't work.
 func (f *Front) serveHealth(w http.ResponseWriter, r *http.Request) {
+	health := f.office.Health()
 	if f.guard != nil && !f.guard.Knows(r) {
-		w = &discreet{ResponseWriter: w}
+		health = health.Discreet()
 	}
-	f.office.ServeHealth(w, r)
-}
-
-// A discreet writer passes a condition on without reasons. Each is written at once.
-type discreet struct{ http.ResponseWriter }
-
-func (d *discreet) Write(text []byte) (int, error) {
-	var condition map[string]any
-	if json.Unmarshal(text, &condition) != nil {
-		return len(text), nil
-	}
-	if condition["why"] == nil && condition["record"] == nil {
-		return d.ResponseWriter.Write(text)
-	}
-	for key, instead := range map[string]string{"why": "the office doesn't answer", "record": "commands can't be recorded"} {
-		if _, has := condition[key]; has {
-			condition[key] = instead
-		}
-	}
-	said, _ := json.Marshal(condition) // It was JSON.
-	if _, err := d.ResponseWriter.Write(append(said, '\n')); err != nil {
-		return 0, err
-	}
-	return len(text), nil
-}
-
-// replyUnready reports why nothing can be answered.
-func replyUnready(w http.ResponseWriter, why string) {
-	text, _ := json.Marshal(map[string]any{"ready": false, "why": why})
-	w.Header().Set("Content-Type", "application/json")
-	w.WriteHeader(http.StatusServiceUnavailable)
-	_, _ = w.Write(append(text, '\n')) // If it fails, the client is gone.
+	health.Reply(w)
 }
 
 // answer answers a request of a caller, or of anybody if there is no visit.
@@ -132,64 +100,20 @@ func (f *Front) answer(w http.ResponseWriter, r *http.Request, visit *callers.Vi
 		f.answerMetrics(w, r, visit)
 		return
 	}
-	if f.endpoints.Has(r) {
-		f.answerEndpoint(w, r, visit)
-		return
-	}
-	if visit == nil {
-		f.handler.Serve(w, r, anybody{r}, func() {})
-		return
-	}
-	f.handler.Serve(w, r, &judge{f, r, visit}, visit.Done)
+	f.endpoints.Serve(w, r, visit)
 }
 
-// Anybody may do everything.
-type anybody struct{ *http.Request }
-
-func (a anybody) MayAny(string) error      { return nil }
-func (a anybody) May(call *api.Call) error { return sign(a.Request, nil, call) }
-func (a anybody) Caller() string           { return callerOf(a.Request, nil) }
-
-// A judge lets a caller do what it may do, and notes what else it asks for.
-type judge struct {
-	front *Front
-	*http.Request
-	visit *callers.Visit
-}
-
-func (j *judge) MayAny(function string) error {
-	return j.front.denied(j.Request, j.visit, j.visit.MayAny(function))
-}
-
-func (j *judge) Caller() string { return j.visit.Caller }
-
-func (j *judge) May(call *api.Call) error {
-	if err := sign(j.Request, j.visit, call); err != nil {
-		return err
-	}
-	return j.front.denied(j.Request, j.visit, j.visit.May(call))
-}
-
-// denied notes that a caller may not do what it asks for, unless there is no error. What it still sends may come late.
-func (f *Front) denied(r *http.Request, visit *callers.Visit, err error) error {
-	if err == nil {
-		return nil
-	}
-	refusal := api.RefusalOf(err)
-	if refusal == api.Forbidden {
-		web.Refused(r.Context())
-	}
-	f.note(r, visit.Caller, errDenied, refusal)
-	return err
+// denied notes that a caller may not do what it asks for. What it still sends may come late.
+func (f *Front) denied(r *http.Request, visit *callers.Visit) {
+	web.Refused(r.Context())
+	f.note(r, visit.Caller, errDenied, api.Forbidden)
 }
 
 // answerMetrics reports the metrics to a caller who may read them.
 func (f *Front) answerMetrics(w http.ResponseWriter, r *http.Request, visit *callers.Visit) {
-	if visit != nil {
-		if err := visit.MayRead(callers.Metrics); err != nil {
-			f.refuse(w, r, visit.Caller, errDenied, api.RefusalOf(err))
-			return
-		}
+	if err := visit.May(&api.Call{Function: callers.Metrics}); err != nil {
+		f.refuse(w, r, visit.Name(), errDenied, api.RefusalOf(err))
+		return
 	}
 	f.metrics.ServeHTTP(w, r)
 }

@@ -52,16 +52,9 @@ func (f *Front) ask(ctx context.Context) error {
 	if err != nil {
 		return err
 	}
-	if ordered, can := f.office.(settler); can {
-		if err := ordered.Settle(ctx); err != nil {
-			return err
-		}
+	if err := f.office.Settle(ctx); err != nil {
+		return err
 	}
 	_, err = f.office.Do(ctx, api.NewBatch(api.Question, call))
 	return err
-}
-
-// A settler also waits for commands that nobody waits for any more.
-type settler interface {
-	Settle(ctx context.Context) error
 }

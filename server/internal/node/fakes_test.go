@@ -35,6 +35,8 @@ type fakeLog struct {
 	lives   []ledger.Life
 	unnamed error
 	entries chan ledger.Entry
+	// held holds up what is appended until it is closed, unless it is nil.
+	held chan struct{}
 }
 
 func newFakeLog() *fakeLog { return &fakeLog{entries: make(chan ledger.Entry, 100)} }
@@ -42,6 +44,9 @@ func newFakeLog() *fakeLog { return &fakeLog{entries: make(chan ledger.Entry, 10
 var errFull = errors.New("no space")
 
 func (l *fakeLog) Append(_ context.Context, id string, units []ledger.Unit) (entry ledger.Entry, before int64, err error) {
+	if l.held != nil {
+		<-l.held
+	}
 	l.mutex.Lock()
 	defer l.mutex.Unlock()
 	if l.isFull {

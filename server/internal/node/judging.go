@@ -7,6 +7,7 @@ import (
 	"path/filepath"
 	"strings"
 
+	"rbac-node/internal/disk"
 	"rbac-node/internal/ledger"
 	"rbac-node/internal/office"
 )
@@ -34,18 +35,7 @@ func (n *Node) keepOutvoted() error {
 	if n.outvoted == "" || n.isOutvotedKept {
 		return nil
 	}
-	file, err := os.OpenFile(filepath.Join(n.options.Data, outvotedName), os.O_WRONLY|os.O_CREATE|os.O_TRUNC, 0o600)
-	if err != nil {
-		return fmt.Errorf("outvoted: %w", err)
-	}
-	_, err = fmt.Fprintln(file, n.outvoted)
-	if err == nil {
-		err = file.Sync()
-	}
-	if closing := file.Close(); err == nil {
-		err = closing
-	}
-	if err != nil {
+	if err := disk.Write(filepath.Join(n.options.Data, outvotedName), n.outvoted+"\n"); err != nil {
 		return fmt.Errorf("outvoted: %w", err)
 	}
 	n.isOutvotedKept = true

@@ -80,7 +80,7 @@ func TestRefusesWithOtherSettings(t *testing.T) {
 	if err := n.trimLog(context.Background()); err != nil {
 		t.Fatal(err)
 	}
-	if why := n.status().Why; !strings.Contains(why, "--every 7") || !strings.Contains(why, "the same") {
+	if why := n.Health().Why; !strings.Contains(why, "--every 7") || !strings.Contains(why, "the same") {
 		t.Errorf("%q", why)
 	}
 	if _, err := n.Do(context.Background(), of(api.Command, "c")); !errors.Is(err, api.Diverged) {
@@ -132,7 +132,7 @@ func TestStaysOutvoted(t *testing.T) {
 		if err := n.trimLog(context.Background()); err != nil {
 			t.Fatal(err)
 		}
-		return n.status().Why
+		return n.Health().Why
 	}
 	own(other(at(9)))
 	log.state.Members = members(member("b", at(9)), member("c", at(9)))
@@ -154,7 +154,7 @@ func TestStaysOutvoted(t *testing.T) {
 	if err != nil {
 		t.Fatal(err)
 	}
-	if why := again.status().Why; !strings.Contains(why, "revision 9") {
+	if why := again.Health().Why; !strings.Contains(why, "revision 9") {
 		t.Errorf("after a start: %q", why)
 	}
 	n.options.Data = t.TempDir()

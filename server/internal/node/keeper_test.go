@@ -153,7 +153,7 @@ func TestNoSnapshotWithoutRoom(t *testing.T) {
 	n, _ := newNode(t)
 	n.options.SnapshotCommands, n.options.Record = 1, waitingRecord{}
 	n.apply(entry(1, "a"))
-	if n.err != nil || !n.isFailing.Load() || len(n.frozen) > 0 || n.status().Record == "" {
+	if n.err != nil || !n.isFailing.Load() || len(n.frozen) > 0 || n.Health().Record == "" {
 		t.Errorf("%v, %d offices", n.err, len(n.frozen))
 	}
 }

@@ -12,6 +12,7 @@ import (
 	"strings"
 	"time"
 
+	"rbac-node/internal/disk"
 	"rbac-node/internal/ledger"
 )
 
@@ -28,14 +29,14 @@ const (
 func (n *Node) beginLife() error {
 	path := filepath.Join(n.options.Data, identityName)
 	text, err := os.ReadFile(path)
-	// After a crash of the machine it may be empty.
+	// A crash of the machine may have left it empty.
 	if errors.Is(err, os.ErrNotExist) || err == nil && len(text) == 0 {
 		random := make([]byte, 16)
 		if _, err := rand.Read(random); err != nil {
 			return fmt.Errorf("identity: %w", err)
 		}
 		text = []byte(hex.EncodeToString(random) + "\n")
-		err = os.WriteFile(path, text, 0o600)
+		err = disk.Write(path, string(text))
 	}
 	if err != nil {
 		return fmt.Errorf("identity: %w", err)

@@ -36,7 +36,7 @@ func TestEnterWithOtherSettings(t *testing.T) {
 	other := ledger.Settings{Every: 7}
 	log.state.Lives = []ledger.Life{{Name: "b", Settings: other}, {Name: "c", Settings: other}}
 	done := entering(n)
-	eventually(t, "it says what to do", func() bool { return strings.Contains(n.status().Why, "start all nodes with the same") })
+	eventually(t, "it says what to do", func() bool { return strings.Contains(n.Health().Why, "start all nodes with the same") })
 	if log.registrations() > 0 {
 		t.Error("it is registered")
 	}
@@ -53,7 +53,7 @@ func TestEnterWithTakenName(t *testing.T) {
 	n, log := newNode(t)
 	log.unnamed = ledger.ErrNameTaken
 	done := entering(n)
-	eventually(t, "it says why", func() bool { return strings.Contains(n.status().Why, "give each node another --name") })
+	eventually(t, "it says why", func() bool { return strings.Contains(n.Health().Why, "give each node another --name") })
 	change(log, func() { log.unnamed = nil })
 	if err := <-done; err != nil {
 		t.Error(err)

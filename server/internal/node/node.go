@@ -87,6 +87,8 @@ type Node struct {
 	start   time.Time
 	// asked has the requests that wait to be sent, by their kinds.
 	asked map[api.Kind]chan *request
+	// appending has an element while a batch is on its way into the log.
+	appending chan struct{}
 	// frozen has the offices that are to become snapshots.
 	frozen chan frozen
 	// pending has the batches of this node that may come from the log, by their names.
@@ -152,7 +154,7 @@ func New(options Options, shared Log, log *logs.Logger, registry prometheus.Regi
 	}
 	n := &Node{
 		options: options, store: store, shared: shared, log: log, start: time.Now(),
-		frozen: make(chan frozen, 1), tasks: make(chan task, maxBatchLines),
+		appending: make(chan struct{}, 1), frozen: make(chan frozen, 1), tasks: make(chan task, maxBatchLines),
 		asked: map[api.Kind]chan *request{
 			api.Command:  make(chan *request, maxBatchLines),
 			api.Question: make(chan *request, maxBatchLines),

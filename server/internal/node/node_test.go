@@ -22,7 +22,7 @@ import (
 func TestAgeOfAnswers(t *testing.T) {
 	n, log := newNode(t)
 	running(t, n.feed, n.confirm)
-	eventually(t, "it is ready", func() bool { return n.status().Ready })
+	eventually(t, "it is ready", func() bool { return n.Health().Ready })
 	change(log, func() { log.lost = errFull })
 	time.Sleep(2 * readInterval)
 	before := boottime.Now()
@@ -62,7 +62,7 @@ func TestFailedOffice(t *testing.T) {
 	n, _ := newNode(t)
 	n.hear(boottime.Now())
 	n.state.Forget()
-	if s := n.status(); s.Ready || !strings.Contains(s.Why, "has failed") {
+	if s := n.Health(); s.Ready || !strings.Contains(s.Why, "has failed") {
 		t.Errorf("%+v", s)
 	}
 	if _, err := n.Do(context.Background(), of(api.Local, question)); !errors.Is(err, api.Unavailable) {

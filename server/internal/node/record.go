@@ -3,6 +3,7 @@ package node
 import (
 	"context"
 	"errors"
+	"net/http"
 
 	"rbac-node/internal/api"
 	"rbac-node/internal/faults"
@@ -62,22 +63,17 @@ func (noRecord) Why() string                                { return "" }
 func (noRecord) Failed() <-chan struct{}                    { return nil }
 func (noRecord) Close() error                               { return nil }
 
-// Recorded returns entries of the record. It returns false if nothing is recorded.
-func (n *Node) Recorded(ctx context.Context, query recorded.Query) (page recorded.Page, is bool, err error) {
+// Record returns the record, or nil if the node has none.
+func (n *Node) Record() recorded.Reader {
 	if !n.options.Record.HasBegun() {
-		return page, false, nil
+		return nil
 	}
-	page, err = n.options.Record.Recorded(ctx, query)
-	return page, true, err
+	return n.options.Record
 }
 
-// Links returns the next entries after one, as their links are computed. It returns false if nothing is recorded.
-func (n *Node) Links(ctx context.Context, after int64) (links recorded.Links, is bool, err error) {
-	if !n.options.Record.HasBegun() {
-		return links, false, nil
-	}
-	links, err = n.options.Record.Links(ctx, after)
-	return links, true, err
+// Note keeps no entry: the log has commands alone.
+func (n *Node) Note(context.Context, *api.Call) (int64, error) {
+	return 0, api.BadRequest(http.StatusNotFound)
 }
 
 var errNotRecorded = errors.New("it was made by a node without a record")

@@ -157,7 +157,18 @@ func (n *Node) Await(ctx context.Context, kind api.Kind) (api.Point, error) {
 func (n *Node) State() *state.State { return n.state }
 
 // IsReady reports whether the node answers.
-func (n *Node) IsReady() bool { return n.status().Ready }
+func (n *Node) IsReady() bool { return n.Health().Ready }
+
+// Settle returns when no command is on its way into the log that nobody waits for any more.
+func (n *Node) Settle(ctx context.Context) error {
+	select {
+	case n.appending <- struct{}{}:
+		<-n.appending
+		return nil
+	case <-ctx.Done():
+		return api.Unavailable
+	}
+}
 
 // expire ends sessions that are too old.
 func (n *Node) expire(ctx context.Context) error {
@@ -204,6 +215,16 @@ type batch struct {
 	done     chan struct{}
 }
 
+// awaited returns the requests that somebody still waits for.
+func awaited(requests []*request) (found []*request) {
+	for _, r := range requests {
+		if r.ctx.Err() == nil {
+			found = append(found, r)
+		}
+	}
+	return found
+}
+
 // appendCommands puts commands into the log. Those that come while a batch is on its way go into the next one. If they
 // are few, they wait for the clients that have just been answered, which usually ask again at once: a small batch costs
 // etcd as much as a larger one.
@@ -233,6 +254,12 @@ func (n *Node) appendCommands(ctx context.Context) error {
 
 // appendBatch appends a batch and does it. It needn't be read from the log if the entries before it are done.
 func (n *Node) appendBatch(ctx context.Context, id string, b *batch) error {
+	n.appending <- struct{}{}
+	defer func() { <-n.appending }()
+	if b.requests = awaited(b.requests); len(b.requests) == 0 {
+		close(b.done)
+		return nil
+	}
 	units, at := make([]ledger.Unit, len(b.requests)), time.Now().UTC().Format(recorded.TimeLayout)
 	for i, r := range b.requests {
 		units[i] = r.unit

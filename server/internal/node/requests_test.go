@@ -79,3 +79,26 @@ func TestGatherReasons(t *testing.T) {
 		}
 	}
 }
+
+// What nobody waits for any more is in the log, or never comes there, when the node has settled.
+func TestSettle(t *testing.T) {
+	n, log := newNode(t)
+	log.held = make(chan struct{})
+	running(t, n.feed, n.appendCommands)
+	soon, cancel := context.WithTimeout(context.Background(), 20*time.Millisecond)
+	defer cancel()
+	if _, err := n.Do(soon, of(api.Command, `{"fn":"addUser","user":"ann"}`)); err != error(api.Unavailable) {
+		t.Fatalf("a log that is held up: %v", err)
+	}
+	settled := make(chan error, 1)
+	go func() { settled <- n.Settle(context.Background()) }()
+	select {
+	case <-settled:
+		t.Fatal("a command is on its way")
+	case <-time.After(50 * time.Millisecond):
+	}
+	close(log.held)
+	if err := <-settled; err != nil || log.revision != 1 {
+		t.Errorf("%v, %d entries", err, log.revision)
+	}
+}

@@ -19,6 +19,8 @@ import (
 	"strings"
 	"syscall"
 	"time"
+
+	"rbac-node/internal/disk"
 )
 
 const (
@@ -274,8 +276,8 @@ func (s *Store) Make(ctx context.Context, lines []byte, snapshot Snapshot, hangT
 // Leave makes an office of lines, and leaves it in a file.
 func (s *Store) Leave(ctx context.Context, lines []byte, file string, hangTimeout time.Duration) error {
 	return s.build(ctx, lines, hangTimeout, func(made string) error {
-		if err := copyTo(file+".making", made); err != nil {
-			return err
+		if err := disk.Copy(made, file+".making"); err != nil {
+			return fmt.Errorf("office: %w", err)
 		}
 		return os.Rename(file+".making", file)
 	})
@@ -321,10 +323,7 @@ func (s *Store) save(from io.Reader) (string, error) {
 	if err == nil {
 		err = file.Sync()
 	}
-	if closing := file.Close(); err == nil {
-		err = closing
-	}
-	if err != nil {
+	if err := disk.Close(file, err); err != nil {
 		_ = os.Remove(file.Name()) // A full disk gets its room back.
 		return "", fmt.Errorf("snapshot: %w", err)
 	}
@@ -382,16 +381,7 @@ func (s *Store) Restore(ctx context.Context, snapshot Snapshot, file string) err
 	if digest != snapshot.Digest {
 		return other(snapshot, digest)
 	}
-	return copyTo(file, s.Path(snapshot))
-}
-
-// copyTo makes a file with what another one has.
-func copyTo(file, from string) error {
-	text, err := os.ReadFile(from)
-	if err == nil {
-		err = os.WriteFile(file, text, 0o600)
-	}
-	if err != nil {
+	if err := disk.Copy(s.Path(snapshot), file); err != nil {
 		return fmt.Errorf("office: %w", err)
 	}
 	return nil

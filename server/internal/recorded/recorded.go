@@ -88,8 +88,16 @@ type Command struct {
 	IsBounded bool
 }
 
+// A Reader reads a record.
+type Reader interface {
+	// Recorded returns entries, and Links the next ones after an entry, up to the head.
+	Recorded(ctx context.Context, query Query) (Page, error)
+	Links(ctx context.Context, after int64) (Links, error)
+}
+
 // A Follower is the record of a node, which gets the commands of the log in their order.
 type Follower interface {
+	Reader
 	// Resume goes on after the head that the office in the file has, which a snapshot gave. That may have been fetched from another node.
 	Resume(ctx context.Context, head string, isFetched bool) error
 	// HasBegun reports whether there is a record, and Begin begins one with the office as it was at Resume.
@@ -110,9 +118,6 @@ type Follower interface {
 	// Failed is closed when the record can't go on, and Failure says why.
 	Failed() <-chan struct{}
 	Failure() error
-	// Recorded returns entries, and Links the next ones after an entry, up to the head.
-	Recorded(ctx context.Context, query Query) (Page, error)
-	Links(ctx context.Context, after int64) (Links, error)
 	// Close writes what was added. Nothing is added afterwards.
 	Close() error
 }

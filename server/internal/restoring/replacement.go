@@ -120,20 +120,13 @@ func (r replacement) write(p plan) error {
 	if err != nil {
 		return err
 	}
-	making := r.planPath() + ".new"
-	if err := os.WriteFile(making, text, 0o600); err != nil {
-		return err
-	}
 	if err = disk.SyncAll(r.folder()); err == nil {
 		err = disk.Sync(filepath.Dir(r.office))
 	}
-	if err == nil {
-		err = os.Rename(making, r.planPath())
+	if err != nil {
+		return err
 	}
-	if err == nil {
-		err = disk.Sync(r.folder())
-	}
-	return err
+	return disk.Write(r.planPath(), string(text))
 }
 
 // finish does what a plan says, as far as it wasn't done before.

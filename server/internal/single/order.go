@@ -4,16 +4,21 @@ import (
 	"context"
 	"sync"
 
+	"golang.org/x/sync/semaphore"
+
 	"rbac-node/internal/api"
 	"rbac-node/internal/feed"
 	"rbac-node/internal/state"
 )
 
+// wholeGate is more than how many commands there may be at once.
+const wholeGate = 1 << 30
+
 // An order is what is known of the one order of commands: the state that they have led to, and who has a part of the order alone.
 type order struct {
 	state *state.State
-	// gate is read by each command until it has been done, and locked by a turn.
-	gate sync.RWMutex
+	// gate is passed by each command until it has been done, and by a turn alone. Nobody overtakes one who waits.
+	gate *semaphore.Weighted
 	// unread says why the state couldn't be read at the first start.
 	unread    error
 	numbering numbering
@@ -32,10 +37,8 @@ func (o *Office) before(ctx context.Context) error {
 
 // read is before without its end.
 func (o *Office) read(ctx context.Context) error {
-	if o.record != nil {
-		if err := o.record.Before(ctx); err != nil {
-			return err
-		}
+	if err := o.record.Before(ctx); err != nil {
+		return err
 	}
 	o.Say("the rows of the office are read")
 	err := o.state.Load(ctx, o.File)
@@ -79,10 +82,10 @@ func (o *Office) Do(ctx context.Context, b api.Batch) (api.Answers, error) {
 	if err != nil {
 		return api.Answers{}, err
 	}
-	if err := o.enter(within); err != nil {
-		return api.Answers{}, err
+	if err := o.gate.Acquire(within, 1); err != nil {
+		return api.Answers{}, api.Unavailable
 	}
-	u.Finally = o.gate.RUnlock
+	u.Finally = func() { o.gate.Release(1) }
 	texts, err := o.feed.Do(within, u)
 	if err != nil {
 		return api.Answers{}, err
@@ -103,15 +106,12 @@ func (o *Office) admit(calls []*api.Call) (*feed.Unit, error) {
 	if err := o.numbering.require(o.numbers().All); err != nil {
 		return nil, err
 	}
-	if o.record == nil {
-		return u, nil
-	}
 	return u, o.record.Admit(u)
 }
 
 // doInTurn is Do while no command of others is done.
 func (o *Office) doInTurn(ctx context.Context, b api.Batch) (api.Answers, error) {
-	var answers api.Answers // The function may outlive the request.
+	var answers api.Answers
 	err := o.inTurn(ctx, func(t *turn) (err error) {
 		if b.Rule.Policy > 0 && b.Rule.Policy != o.numbers().Policy {
 			return api.Outdated
@@ -120,47 +120,12 @@ func (o *Office) doInTurn(ctx context.Context, b api.Batch) (api.Answers, error)
 		answers.Policy = o.numbers().Policy
 		return err
 	})
-	if err != nil {
-		return api.Answers{}, err
-	}
-	return answers, nil
+	return answers, err
 }
 
 // Settle returns when all commands are done that were asked before, also those that nobody waits for any more.
 func (o *Office) Settle(ctx context.Context) error {
 	return o.inTurn(ctx, func(*turn) error { return nil })
-}
-
-// enter waits until nobody has or awaits a turn.
-func (o *Office) enter(ctx context.Context) error {
-	if o.gate.TryRLock() {
-		return nil
-	}
-	entered := make(chan struct{})
-	go func() {
-		o.gate.RLock()
-		close(entered)
-	}()
-	select {
-	case <-entered:
-		return nil
-	case <-ctx.Done():
-		go func() {
-			<-entered
-			o.gate.RUnlock()
-		}()
-		return api.Unavailable
-	}
-}
-
-// haveCommand reports whether one of some calls is a command.
-func haveCommand(calls []*api.Call) bool {
-	for _, call := range calls {
-		if call.Kind == api.Command {
-			return true
-		}
-	}
-	return false
 }
 
 // A turn is a part of the order in which no command of others is done.
@@ -177,36 +142,27 @@ type turn struct {
 // its answers. It isn't called if the context has ended before.
 func (o *Office) inTurn(ctx context.Context, do func(*turn) error) error {
 	within, cancel := context.WithTimeout(ctx, o.AnswerTimeout)
-	done := make(chan error, 1)
-	go func() {
-		defer cancel()
-		o.gate.Lock()
-		defer o.gate.Unlock()
-		t := &turn{office: o, ctx: within, life: o.feed.Life()}
-		err := error(api.Unavailable)
-		if within.Err() == nil {
-			err = do(t)
-		}
-		done <- err
-		t.asked.Wait() // Nobody may wait any more for what was asked last.
-	}()
-	select {
-	case err := <-done:
-		return err
-	case <-within.Done():
-	}
-	select {
-	case err := <-done: // It was done before.
-		return err
-	default:
+	defer cancel()
+	if err := o.gate.Acquire(within, wholeGate); err != nil {
 		return api.Unavailable
 	}
+	t := &turn{office: o, ctx: within, life: o.feed.Life()}
+	defer func() {
+		go func() {
+			t.asked.Wait() // Nobody may wait any more for what was asked last.
+			o.gate.Release(wholeGate)
+		}()
+	}()
+	if within.Err() != nil {
+		return api.Unavailable
+	}
+	return do(t)
 }
 
 // ask returns the answers to some calls, with nothing of others between them.
 func (t *turn) ask(calls ...*api.Call) ([][]byte, error) {
 	o := t.office
-	if !haveCommand(calls) {
+	if api.NewBatch(api.Question, calls...).Kind != api.Command {
 		answers, _, err := o.state.Ask(calls...)
 		return answers, err
 	}

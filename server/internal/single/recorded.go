@@ -2,48 +2,50 @@ package single
 
 import (
 	"context"
+	"net/http"
 
 	"rbac-node/internal/api"
 	"rbac-node/internal/feed"
 	"rbac-node/internal/recorded"
 )
 
-// Recorded returns entries of the record. It returns false if nothing is recorded.
-func (o *Office) Recorded(ctx context.Context, query recorded.Query) (page recorded.Page, is bool, err error) {
-	if o.record == nil {
-		return page, false, nil
+// A noRecord is in place of the record of an office that keeps none. Nobody reads it.
+type noRecord struct{ recorded.Reader }
+
+func (noRecord) Admit(*feed.Unit) error                { return nil }
+func (noRecord) Keep([]*feed.Unit, []*feed.Unit) error { return nil }
+func (noRecord) IsDue() bool                           { return false }
+func (noRecord) Rest()                                 {}
+func (noRecord) Before(context.Context) error          { return nil }
+func (noRecord) Why() string                           { return "" }
+func (noRecord) Close(bool) error                      { return nil }
+
+// Record returns the record, or nil if nothing is recorded.
+func (o *Office) Record() recorded.Reader {
+	if _, isNone := o.record.(noRecord); isNone {
+		return nil
 	}
-	page, err = o.record.Recorded(ctx, query)
-	return page, true, err
+	return o.record
 }
 
-// Links returns the next entries after one, as their links are computed. It returns false if nothing is recorded.
-func (o *Office) Links(ctx context.Context, after int64) (links recorded.Links, is bool, err error) {
-	if o.record == nil {
-		return links, false, nil
-	}
-	links, err = o.record.Links(ctx, after)
-	return links, true, err
-}
-
-// Note keeps an entry in the record that is no command, and returns its number. It returns false if nothing is recorded.
-func (o *Office) Note(ctx context.Context, entry *api.Call) (number int64, is bool, err error) {
-	if o.record == nil {
-		return 0, false, nil
+// Note keeps an entry in the record that is no command, and returns its number.
+func (o *Office) Note(ctx context.Context, entry *api.Call) (number int64, err error) {
+	if o.Record() == nil {
+		return 0, api.BadRequest(http.StatusNotFound)
 	}
 	// The replay gets a question, so that the entry has its place among the commands.
 	place, err := api.NewCall("ssdRoleSets")
 	if err != nil {
-		return 0, true, err
+		return 0, err
 	}
 	within, cancel := context.WithTimeout(ctx, o.AnswerTimeout)
 	defer cancel()
 	u := &feed.Unit{Lines: [][]byte{place.Line}, Calls: []*api.Call{entry}}
 	if err := o.record.Admit(u); err != nil {
-		return 0, true, err
+		return 0, err
 	}
 	if _, err := o.feed.Do(within, u); err != nil {
-		return 0, true, err
+		return 0, err
 	}
-	return u.Numbers[0], true, nil
+	return u.Numbers[0], nil
 }

@@ -5,15 +5,15 @@ package single
 
 import (
 	"context"
-	"encoding/json"
 	"errors"
 	"fmt"
-	"net/http"
 	"os"
-	"os/exec"
 	"path/filepath"
 	"syscall"
 	"time"
+
+	"github.com/prometheus/client_golang/prometheus"
+	"golang.org/x/sync/semaphore"
 
 	"rbac-node/internal/api"
 	"rbac-node/internal/disk"
@@ -38,7 +38,7 @@ type Options struct {
 	AnswerTimeout, HangTimeout time.Duration
 	Reads                      int64
 	Log                        *logs.Logger
-	Figures                    *feed.Figures
+	Metrics                    prometheus.Registerer
 	// IsOpen says that everybody who can connect may do everything.
 	IsOpen bool
 	// SessionAge is after how much time a session ends, and SessionIdle after how much in which it isn't named. Zero is never.
@@ -55,15 +55,13 @@ type Options struct {
 // A Recorder keeps the commands of an office with their answers.
 type Recorder interface {
 	feed.Keeper
+	recorded.Reader
 	// Admit writes the lines of a unit as they are recorded, or refuses it.
 	Admit(u *feed.Unit) error
 	// Before finds out which of the commands without an answer were done. No replay runs meanwhile.
 	Before(ctx context.Context) error
 	// Why says why no command is recorded now, or is empty.
 	Why() string
-	// Recorded returns entries, and Links the next ones after an entry, up to the head.
-	Recorded(ctx context.Context, query recorded.Query) (recorded.Page, error)
-	Links(ctx context.Context, after int64) (recorded.Links, error)
 	// Close ends the record. No replay runs any more, and the last one has ended in order or not.
 	Close(isInOrder bool) error
 }
@@ -72,9 +70,8 @@ type Recorder interface {
 type Office struct {
 	Options
 	order
-	feed *feed.Feed
-	lock *os.File
-	// record is nil if nothing is recorded.
+	feed   *feed.Feed
+	lock   *os.File
 	record Recorder
 }
 
@@ -84,11 +81,9 @@ func Open(ctx context.Context, options Options) (*Office, error) {
 	if err != nil {
 		return nil, err
 	}
-	o := &Office{Options: options, lock: lock}
+	o := &Office{Options: options, order: order{gate: semaphore.NewWeighted(wholeGate)}, lock: lock, record: noRecord{}}
 	if err := o.open(ctx); err != nil {
-		if o.record != nil {
-			_ = o.record.Close(false) // What has failed before says more.
-		}
+		_ = o.record.Close(false) // What has failed before says more.
 		_ = lock.Close()
 		return nil, err
 	}
@@ -129,8 +124,16 @@ func (o *Office) open(ctx context.Context) error {
 	if err := o.Locked(); err != nil {
 		return err
 	}
+	var err error
+	if o.OpenRecord != nil {
+		record, err := o.OpenRecord(ctx)
+		if err != nil {
+			return err
+		}
+		o.record = record
+	}
 	options := feed.Options{
-		Name: "office", Before: o.before, Observer: o,
+		Name: "office", Before: o.before, Observer: o, Keeper: o.record,
 		// The replay inherits the lock. So whoever gets it knows that no replay of an earlier front writes the file any more.
 		Start: func() (*office.Replay, error) {
 			if faults.Has(faults.Unlocked) {
@@ -138,15 +141,7 @@ func (o *Office) open(ctx context.Context) error {
 			}
 			return office.Start(o.Program, o.File, o.HangTimeout, o.lock)
 		},
-		First: [][]byte{[]byte(`{"fn":"ssdRoleSets"}`)},
-		Reads: o.Reads, Log: o.Log, Figures: o.Figures,
-	}
-	var err error
-	if o.OpenRecord != nil {
-		if o.record, err = o.OpenRecord(ctx); err != nil {
-			return err
-		}
-		options.Keeper = o.record
+		Reads: o.Reads, Log: o.Log, Metrics: o.Metrics,
 	}
 	if o.feed, err = feed.Open(ctx, options); err != nil {
 		return fmt.Errorf("the office %s doesn't open: %w", o.File, err)
@@ -193,8 +188,8 @@ func makeIfMissing(ctx context.Context, program, path string) error {
 			return fmt.Errorf("make an office: %w", err)
 		}
 	}
-	if said, err := exec.CommandContext(ctx, program, "init", making).CombinedOutput(); err != nil {
-		return fmt.Errorf("make an office: %s init %s: %w: %s", program, making, err, said)
+	if err := office.Run(ctx, program, "init", making); err != nil {
+		return fmt.Errorf("make an office: %w", err)
 	}
 	if err := os.Rename(making, path); err != nil {
 		return fmt.Errorf("make an office: %w", err)
@@ -213,9 +208,6 @@ func (o *Office) Run(ctx context.Context) error {
 	go o.compareOften(ctx)
 	err := o.feed.Run(ctx)
 	o.state.Forget()
-	if o.record == nil {
-		return err
-	}
 	if closing := o.record.Close(err == nil); err == nil {
 		err = closing
 	}
@@ -232,36 +224,15 @@ func (o *Office) Close() error {
 // IsAlive reports whether the goroutine that feeds the replay goes on, before the context ends.
 func (o *Office) IsAlive(ctx context.Context) bool { return o.feed.IsAlive(ctx) }
 
-// A health is the condition of an office.
-type health struct {
-	Ready bool   `json:"ready"`
-	Why   string `json:"why,omitempty"`
-	Open  bool   `json:"open,omitempty"`
-	// Record says why commands are refused although questions are answered.
-	Record string `json:"record,omitempty"`
-}
-
-func (o *Office) health() health {
-	h := health{Why: o.feed.Why(), Open: o.IsOpen}
+// Health returns the condition of the office.
+func (o *Office) Health() api.Health {
+	h := api.Health{Why: o.feed.Why(), Open: o.IsOpen}
 	if h.Why == "" && !o.state.IsKnown() {
 		h.Why = "the office is read from its file again"
 	}
-	h.Ready = h.Why == ""
-	if o.record != nil {
-		h.Record = o.record.Why()
-	}
+	h.Ready, h.Record = h.Why == "", o.record.Why()
 	return h
 }
 
 // IsReady reports whether the office answers questions, which needs no replay.
 func (o *Office) IsReady() bool { return o.state.IsKnown() }
-
-// ServeHealth reports the condition of the office, with 200 if it answers and 503 if not.
-func (o *Office) ServeHealth(w http.ResponseWriter, _ *http.Request) {
-	w.Header().Set("Content-Type", "application/json")
-	h := o.health()
-	if !h.Ready {
-		w.WriteHeader(http.StatusServiceUnavailable)
-	}
-	_ = json.NewEncoder(w).Encode(h) // If it fails, the client is gone.
-}

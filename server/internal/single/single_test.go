@@ -14,7 +14,6 @@ import (
 	"github.com/prometheus/client_golang/prometheus"
 
 	"rbac-node/internal/api"
-	"rbac-node/internal/feed"
 	"rbac-node/internal/logs"
 	"rbac-node/internal/programtest"
 )
@@ -23,7 +22,7 @@ func optionsOf(t *testing.T, file string) Options {
 	return Options{
 		Locked: func() error { return nil }, Say: func(string) {},
 		File: file, Program: programtest.Path(t), AnswerTimeout: 20 * time.Second, HangTimeout: time.Minute, Reads: MostReads, Log: logs.New(&bytes.Buffer{}),
-		Figures: feed.NewFigures(prometheus.NewRegistry()),
+		Metrics: prometheus.NewRegistry(),
 	}
 }
 

@@ -23,7 +23,7 @@ type Event struct {
 func (s *State) keep(call *api.Call) {
 	line := call.Line
 	if isAboutSession(call.Function) {
-		line = lineWithDigest(call)
+		line, _ = call.LineWith("session", digest(call.Session)) // An accepted one is short.
 	}
 	if cap(line) > len(line)+mostSpare {
 		line = append(make([]byte, 0, len(line)), line...)
@@ -45,24 +45,6 @@ func (s *State) forgetOldest() {
 		s.forgotten = s.events[count-1].Number
 		s.events = append(make([]Event, 0, mostEvents+1), s.events[count:]...) // The lines of the others can be collected.
 	}
-}
-
-// lineWithDigest returns the line of a command about a session, with the digest of its name.
-func lineWithDigest(call *api.Call) []byte {
-	w := &writer{}
-	w.begin(call.Function)
-	for _, key := range api.Keys(call.Function) {
-		switch key {
-		case "session":
-			w.text(key, digest(call.Text(key)))
-		case "roles":
-			w.texts(key, call.Roles)
-		default:
-			w.text(key, call.Text(key))
-		}
-	}
-	w.WriteByte('}')
-	return w.Bytes()
 }
 
 // forget forgets the commands that were kept.

@@ -7,7 +7,6 @@ import (
 	"encoding/hex"
 	"errors"
 	"fmt"
-	"io"
 	"net/url"
 	"os"
 	"runtime/debug"
@@ -19,6 +18,8 @@ import (
 	"golang.org/x/crypto/sha3"
 
 	"rbac/clients/go/rbacoffice"
+
+	"rbac-node/internal/disk"
 )
 
 // digestBytes is how many bytes of the SHA3-256 of a session's name are its name outside the office.
@@ -160,9 +161,9 @@ func readRows(ctx context.Context, db *sql.DB) (all []rbacoffice.Row, hasLocks b
 // Copy copies the file of an office that no program writes now, and the log beside it if there is one: SQLite would change them.
 func Copy(path, copied string) error {
 	RemoveCopy(copied)
-	err := copyFile(path, copied)
+	err := disk.Copy(path, copied)
 	if err == nil {
-		err = copyFile(path+"-wal", copied+"-wal")
+		err = disk.Copy(path+"-wal", copied+"-wal")
 		if errors.Is(err, os.ErrNotExist) {
 			err = nil
 		}
@@ -172,23 +173,6 @@ func Copy(path, copied string) error {
 		return fmt.Errorf("rows: %w", err)
 	}
 	return nil
-}
-
-func copyFile(path, copied string) error {
-	from, err := os.Open(path)
-	if err != nil {
-		return err
-	}
-	defer from.Close()
-	to, err := os.OpenFile(copied, os.O_WRONLY|os.O_CREATE|os.O_EXCL, 0o600)
-	if err != nil {
-		return err
-	}
-	if _, err := io.Copy(to, from); err != nil {
-		_ = to.Close()
-		return err
-	}
-	return to.Close()
 }
 
 // RemoveCopy removes a copy and what SQLite has made beside it.

@@ -164,6 +164,7 @@ func (s *State) Advance(numbers Numbers) {
 	s.lock()
 	defer s.unlock()
 	s.numbers = numbers
+	s.wake()
 }
 
 // accept does an accepted command, which has the number of now, and compares the answer with that of the program. The state is locked.

@@ -59,7 +59,7 @@ func (s *State) Answer(call *api.Call) ([]byte, error) {
 }
 
 // The answers of a decision.
-var allowed, denied = []byte(api.Allowed), []byte(`{"ok":true,"value":false}`)
+var allowed, denied = []byte(api.Allowed), []byte(api.Denied)
 
 // answer returns the answer to a question. Nobody changes the office meanwhile.
 func (s *State) answer(call *api.Call) ([]byte, error) {

@@ -29,7 +29,6 @@ type Changes struct {
 // A view is what users can do in some session, as decideByUser decides it: by the roles that they are authorized for and that can be
 // activated, unless they are locked.
 type view struct {
-	permissions []state.Row
 	// users has the permissions of each user, as bits for their places.
 	users map[string]*big.Int
 	// sessions are those that there are, and isThere has their names.
@@ -37,15 +36,31 @@ type view struct {
 	isThere  map[string]bool
 }
 
+// Places are those of permissions, the same in all views of a trial.
+type places struct {
+	all []state.Row
+	of  map[state.Row]int
+}
+
+// place returns the place of a permission.
+func (p *places) place(permission state.Row) int {
+	place, isThere := p.of[permission]
+	if !isThere {
+		place = len(p.all)
+		p.of[permission], p.all = place, append(p.all, permission)
+	}
+	return place
+}
+
 // look asks the clone what users can do, or all users if none are named, and which sessions there are. The roles of each permission and of
 // each user are its answers.
-func look(ctx context.Context, clone *state.State, users []string) (seen *view, err error) {
+func look(ctx context.Context, clone *state.State, users []string, places *places) (seen *view, err error) {
 	failed := clone.Look(func(v *state.View) {
-		seen = &view{permissions: v.Permissions(), users: map[string]*big.Int{}, sessions: v.Sessions(), isThere: map[string]bool{}}
+		seen = &view{users: map[string]*big.Int{}, sessions: v.Sessions(), isThere: map[string]bool{}}
 		for _, one := range seen.sessions {
 			seen.isThere[one.Name] = true
 		}
-		granted := seen.grants(v)
+		granted := grants(v, places)
 		if users == nil {
 			users = v.Users()
 		}
@@ -81,14 +96,14 @@ func look(ctx context.Context, clone *state.State, users []string) (seen *view, 
 const separator = "\t"
 
 // grants returns the permissions that are granted to each role itself, except the roles that no session can have.
-func (seen *view) grants(v *state.View) map[string]*big.Int {
+func grants(v *state.View, places *places) map[string]*big.Int {
 	granted := map[string]*big.Int{}
-	for i, one := range seen.permissions {
+	for _, one := range v.Permissions() {
 		for _, role := range v.Names("permissionRoles", "object", one[0], "operation", one[1]) {
 			if granted[role] == nil {
 				granted[role] = new(big.Int)
 			}
-			granted[role].SetBit(granted[role], i, 1)
+			granted[role].SetBit(granted[role], places.place(one), 1)
 		}
 	}
 	for role := range granted {
@@ -100,13 +115,12 @@ func (seen *view) grants(v *state.View) map[string]*big.Int {
 }
 
 // changes returns what users can do in the second view and not in the first, and the other way round.
-func changes(before, after *view) (gained, lost Changes) {
+func changes(before, after *view, permissions []state.Row) (gained, lost Changes) {
 	gained.Rows, lost.Rows = []Change{}, []Change{}
-	first := placesIn(after.permissions, before.permissions)
 	for _, user := range usersIn(before, after) {
-		had, has := first.translate(orNone(before.users[user])), orNone(after.users[user])
-		gained.add(user, new(big.Int).AndNot(has, had), first.all)
-		lost.add(user, new(big.Int).AndNot(had, has), first.all)
+		had, has := orNone(before.users[user]), orNone(after.users[user])
+		gained.add(user, new(big.Int).AndNot(has, had), permissions)
+		lost.add(user, new(big.Int).AndNot(had, has), permissions)
 	}
 	return gained, lost
 }
@@ -126,51 +140,12 @@ func usersIn(views ...*view) (users []string) {
 	return users
 }
 
-// Places say where the permissions of an earlier view are in all, which begin with those of the later one.
-type places struct {
-	all    []state.Row
-	of     []int
-	isSame bool
-}
-
-func placesIn(later, earlier []state.Row) places {
-	p := places{all: append([]state.Row(nil), later...), of: make([]int, len(earlier)), isSame: true}
-	at := make(map[state.Row]int, len(later))
-	for i, one := range later {
-		at[one] = i
-	}
-	for i, one := range earlier {
-		place, isThere := at[one]
-		if !isThere {
-			place = len(p.all)
-			p.all = append(p.all, one)
-		}
-		p.of[i] = place
-		p.isSame = p.isSame && place == i
-	}
-	return p
-}
-
 // orNone returns some permissions, or none.
 func orNone(permissions *big.Int) *big.Int {
 	if permissions == nil {
 		return new(big.Int)
 	}
 	return permissions
-}
-
-// translate returns permissions of the earlier view by the places in all.
-func (p places) translate(had *big.Int) *big.Int {
-	if p.isSame {
-		return had
-	}
-	found := new(big.Int)
-	for i, place := range p.of {
-		if had.Bit(i) == 1 {
-			found.SetBit(found, place, 1)
-		}
-	}
-	return found
 }
 
 // add counts what a user has gained or lost, and lists it if there is room.

@@ -72,7 +72,8 @@ func (t Turn) Try(ctx context.Context, office *state.State, cloned func(), comma
 // try does commands over the clone of an office.
 func try(ctx context.Context, clone *state.State, commands []*api.Call) (*Result, error) {
 	users, result := usersOf(commands), &Result{Ended: []Session{}, Revision: clone.Numbers().Policy}
-	before, err := look(ctx, clone, users)
+	permissions := &places{of: map[state.Row]int{}}
+	before, err := look(ctx, clone, users, permissions)
 	if err != nil {
 		return nil, fmt.Errorf("before the commands: %w", err)
 	}
@@ -83,7 +84,7 @@ func try(ctx context.Context, clone *state.State, commands []*api.Call) (*Result
 	for _, answer := range answers {
 		result.Answers = append(result.Answers, answer)
 	}
-	after, err := look(ctx, clone, users)
+	after, err := look(ctx, clone, users, permissions)
 	if err != nil {
 		return nil, fmt.Errorf("after the commands: %w", err)
 	}
@@ -92,7 +93,7 @@ func try(ctx context.Context, clone *state.State, commands []*api.Call) (*Result
 			result.Ended = append(result.Ended, Session{one.Digest, one.User})
 		}
 	}
-	result.Gained, result.Lost = changes(before, after)
+	result.Gained, result.Lost = changes(before, after, permissions.all)
 	return result, nil
 }
 

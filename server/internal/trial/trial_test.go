@@ -121,17 +121,16 @@ func TestTryEnds(t *testing.T) {
 
 func TestChangesAreListedUpToALimit(t *testing.T) {
 	before, after := &view{users: map[string]*big.Int{}}, &view{users: map[string]*big.Int{}}
-	for i := 0; i < 300; i++ {
-		after.permissions = append(after.permissions, state.Row{fmt.Sprintf("o%03d", i), "p"})
-	}
+	var permissions []state.Row
 	all := new(big.Int)
-	for i := range after.permissions {
+	for i := 0; i < 300; i++ {
+		permissions = append(permissions, state.Row{fmt.Sprintf("o%03d", i), "p"})
 		all.SetBit(all, i, 1)
 	}
 	for i := 0; i < 4; i++ {
 		after.users[fmt.Sprintf("u%d", i)] = all
 	}
-	gained, lost := changes(before, after)
+	gained, lost := changes(before, after, permissions)
 	if gained.Count != 1200 || len(gained.Rows) != mostRows || lost.Count != 0 {
 		t.Errorf("%d, %d listed, %d lost", gained.Count, len(gained.Rows), lost.Count)
 	}

@@ -137,19 +137,12 @@ func MaxConnections() int {
 
 // Limits are those of the connections of a server.
 type Limits struct {
-	// Connections is how many there may be at once. The one that has been idle for longest makes room for another one.
-	Connections int
 	// AnswerTimeout is how long an answer may take to be made and to be read by the client, from the head of its request.
 	AnswerTimeout time.Duration
 	// Connected returns the context of the requests of a connection. It may be nil.
 	Connected func(ctx context.Context, conn net.Conn) context.Context
 	// Errors gets what goes wrong with connections. Without it that goes to standard error.
 	Errors *log.Logger
-}
-
-// Serve starts a server in a goroutine.
-func Serve(start func(func() error), listener net.Listener, handler http.Handler, limits Limits) *http.Server {
-	return ServeIn(NewRoom(limits.Connections), start, listener, handler, limits)
 }
 
 // ServeIn starts a server in a goroutine. Servers may share a room. HTTP/2 is off: Go 1.19 lacks what was mended in it since.
@@ -247,7 +240,7 @@ type Room struct {
 	fresh, idle queue
 }
 
-// NewRoom returns a room for some connections.
+// NewRoom returns a room for some connections. The one that has been idle for longest makes room for another one.
 func NewRoom(connections int) *Room {
 	return &Room{
 		taken: make(chan struct{}, connections),
@@ -324,6 +317,13 @@ func Refused(ctx context.Context) {
 		at.room.mutex.Lock()
 		defer at.room.mutex.Unlock()
 		at.room.fresh.add(at.conn)
+	}
+}
+
+// Unlimited lets the answer to the request with this context take as long as the client takes in time what is written at once.
+func Unlimited(ctx context.Context) {
+	if at, has := ctx.Value(placeKey{}).(place); has {
+		_ = at.conn.SetWriteDeadline(time.Time{}) // If it fails, nothing can be written.
 	}
 }
 

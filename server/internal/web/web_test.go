@@ -12,13 +12,13 @@ import (
 )
 
 // served returns the address of a server, which ends with the test.
-func served(t *testing.T, limits Limits, handler http.HandlerFunc) string {
+func served(t *testing.T, connections int, limits Limits, handler http.HandlerFunc) string {
 	listener, err := Listen("127.0.0.1:0", TLS{})
 	if err != nil {
 		t.Fatal(err)
 	}
 	ended := make(chan error, 1)
-	server := Serve(func(work func() error) { go func() { ended <- work() }() }, listener, handler, limits)
+	server := ServeIn(NewRoom(connections), func(work func() error) { go func() { ended <- work() }() }, listener, handler, limits)
 	t.Cleanup(func() {
 		over, cancel := context.WithCancel(context.Background())
 		cancel()
@@ -59,7 +59,7 @@ func ask(t *testing.T, conn net.Conn) bool {
 func TestNeverReading(t *testing.T) {
 	answer := strings.Repeat("x", 1<<20)
 	left := make(chan struct{})
-	address := served(t, Limits{Connections: 10, AnswerTimeout: 200 * time.Millisecond}, func(w http.ResponseWriter, _ *http.Request) {
+	address := served(t, 10, Limits{AnswerTimeout: 200 * time.Millisecond}, func(w http.ResponseWriter, _ *http.Request) {
 		for i := 0; i < 64; i++ { // More than any socket holds.
 			if _, err := io.WriteString(w, answer); err != nil {
 				close(left)
@@ -80,7 +80,7 @@ func TestNeverReading(t *testing.T) {
 // If there are as many connections as may be, an idle one makes room.
 func TestConnections(t *testing.T) {
 	stuck, busy := make(chan struct{}), make(chan struct{}, 10)
-	address := served(t, Limits{Connections: 3, AnswerTimeout: time.Minute}, func(w http.ResponseWriter, r *http.Request) {
+	address := served(t, 3, Limits{AnswerTimeout: time.Minute}, func(w http.ResponseWriter, r *http.Request) {
 		if r.URL.Path == "/stuck" {
 			busy <- struct{}{}
 			<-stuck
@@ -208,7 +208,7 @@ func TestRefused(t *testing.T) {
 // Connections that wait for their answers are not closed: others wait until there is room.
 func TestConnectionsBusy(t *testing.T) {
 	stuck, busy := make(chan struct{}), make(chan struct{}, 10)
-	address := served(t, Limits{Connections: 2, AnswerTimeout: time.Minute}, func(w http.ResponseWriter, _ *http.Request) {
+	address := served(t, 2, Limits{AnswerTimeout: time.Minute}, func(w http.ResponseWriter, _ *http.Request) {
 		busy <- struct{}{}
 		<-stuck
 	})

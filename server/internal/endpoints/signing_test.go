@@ -1,4 +1,4 @@
-package front
+package endpoints
 
 import (
 	"net/http/httptest"
@@ -29,10 +29,10 @@ func TestSign(t *testing.T) {
 			r := httptest.NewRequest("POST", "/v1/addUser", nil)
 			r.Header[reasonField] = test.reasons
 			call := &api.Call{Kind: api.Command}
-			if err := sign(r, nil, call); (err != nil) != test.isRefused || call.Reason != test.wanted || call.Caller != openCaller {
+			if err := (&request{Request: r}).sign(call); (err != nil) != test.isRefused || call.Reason != test.wanted || call.Caller != openCaller {
 				t.Errorf("%v, %+v", err, call)
 			}
-			if err := sign(r, nil, &api.Call{Kind: api.Question}); err != nil {
+			if err := (&request{Request: r}).sign(&api.Call{Kind: api.Question}); err != nil {
 				t.Errorf("a question: %v", err)
 			}
 		})

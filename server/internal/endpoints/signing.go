@@ -1,4 +1,4 @@
-package front
+package endpoints
 
 import (
 	"net/http"
@@ -19,11 +19,11 @@ const (
 var badReason = api.Refusal{Status: http.StatusBadRequest, Code: 34, Name: "BadRequest"}
 
 // sign writes on a command who asks for it and why.
-func sign(r *http.Request, visit *callers.Visit, call *api.Call) error {
+func (r *request) sign(call *api.Call) error {
 	if call.Kind != api.Command && call.Kind != api.Entry {
 		return nil
 	}
-	call.Caller = callerOf(r, visit)
+	call.Caller = r.caller()
 	reasons := r.Header[reasonField]
 	if len(reasons) == 0 {
 		return nil
@@ -35,12 +35,12 @@ func sign(r *http.Request, visit *callers.Visit, call *api.Call) error {
 	return nil
 }
 
-// callerOf returns who asks.
-func callerOf(r *http.Request, visit *callers.Visit) string {
-	if visit != nil {
-		return visit.Caller
+// caller returns who asks.
+func (r *request) caller() string {
+	if r.visit != nil {
+		return r.visit.Caller
 	}
-	if user := callers.PeerOf(r); user != "" {
+	if user := callers.PeerOf(r.Request); user != "" {
 		return user
 	}
 	return openCaller
