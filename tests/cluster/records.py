@@ -272,7 +272,7 @@ def judge_shown(bench, cluster):
     wanted = [str(entry.n) for entry in entries if entry.caller == "token:boss"]
     bench.same("show", (status, [line.split("\t")[0] for line in out.splitlines()], said), (0, wanted, ""))
     status, out, said = tool(cluster.node, "verify", "--data", data, "--head", head)
-    says = f"entries 1 to {entries[-1].n}: the chain holds, and the program gives the same answers"
+    says = f"entries 1 to {entries[-1].n}: the chain holds, and librbac gives the same answers"
     bench.judge("verify", [] if status == 0 and says in out and "the newest snapshot has the rows" in out else [out + said])
     cluster.until(lambda: "rbac_node_record_head{" in cluster.get(0, "/metrics", 8081)[1].decode(), "the head was logged")
     text = cluster.get(0, "/metrics", 8081)[1].decode()

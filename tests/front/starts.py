@@ -11,6 +11,7 @@ import sqlite3
 import subprocess
 import threading
 import time
+from contextlib import closing
 
 import pytest
 
@@ -20,8 +21,12 @@ from program.web import listening
 
 from .identities import CERTIFICATES, openssl, rules, secured, tls_words
 from .program import HOST, Front, Unix, refused_start, until
+from .recorded import entries, link, path_of
 
 OK = '{"ok":true}'
+
+# How many commands a start does again while it is looked at.
+AGAIN = 200_000
 
 # What a front leaves in the folder of its office, with the log of the test.
 LEFT = ["office", "office.lock", "office.log", "office.numbers", "office.record", "office.run"]
@@ -173,22 +178,33 @@ def check_first_start(bench):
     bench.same("rbac check", done.stdout, "good\n")
 
 
+def lengthen(office):
+    """Adds commands to a record that were refused, so that a start has to do many again."""
+    last = entries(office)[-1]
+    added, request, answer = [], '{"fn":"addUser","user":"u0"}', '{"code":3,"error":"UserExists"}'
+    for n in range(last.n + 1, last.n + 1 + AGAIN):
+        entry = last._replace(n=n, request=request, answer=answer)
+        last = entry._replace(chain=link(last.chain, entry))
+        added.append(last)
+    with closing(sqlite3.connect(path_of(office))) as opened:
+        opened.executemany("INSERT INTO entry VALUES (?, ?, ?, ?, ?, ?, ?, ?)", added)
+        opened.commit()
+
+
 def check_starting(bench):
     """While a start does commands again, /healthz says how many, and all else gets 503. Then the front answers."""
-    slow = bench.path("slow")
-    bench.write("slow", f'#!/bin/sh\n[ "$1" != replay ] || sleep 2\nexec "{RBAC}" "$@"\n'.encode())
-    os.chmod(slow, 0o755)
     with Front(bench) as front:
         for number in range(3):
             bench.same("a command", front.ask("addUser", {"user": f"u{number}"}), (200, OK))
         front.kill()
-        front.more = ("--program", slow)
+        lengthen(front.office)
         front.process = front.start_without_waiting()
         until(lambda: "is done again" in at_start(front, "GET", "/healthz")[1], "/healthz says what is done")
-        status, text = at_start(front, "GET", "/healthz")
-        why = "starting: command 0 of 3 since the last copy of the office is done again"
-        bench.same("health", (status, json.loads(text)), (503, {"ready": False, "why": why}))
         asked = at_start(front, "POST", "/v1/assignedRoles", '{"user":"u1"}')
+        status, text = at_start(front, "GET", "/healthz")
+        said = json.loads(text)
+        why = f"^starting: command [0-9]+00 of {AGAIN + 3} since the last copy of the office is done again$"
+        bench.same("health", (status, said["ready"], bool(re.match(why, said["why"]))), (503, False, True))
         bench.same("a question", asked, (503, '{"code":60,"error":"Unavailable"}'))
         until(front.is_listening, "the front listens")
         bench.same("a question", front.ask("assignedRoles", {"user": "u1"}), (200, '{"ok":true,"value":[]}'))

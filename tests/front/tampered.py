@@ -259,6 +259,9 @@ REFUSED = {
     "an entry 0": lambda f: f.append(0, EVE, file=f.first),
     "an entry with a negative number": lambda f: f.append(-5, EVE, file=f.first),
     "an entry of the first part in the second": lambda f: f.append(2, EVE),
+    "an entry forged in the first part before a copy of one of the second": lambda f: (
+        f.append(SECOND_BEGIN, EVE, file=f.first),
+        f.sql(f.first, f"ATTACH '{f.current}' AS other", f"INSERT INTO entry SELECT * FROM other.entry WHERE n = {ACCEPTED}")),
     "an entry after the last one without a link": lambda f: f.append(LAST + 1, EVE),
     "an entry far after the last one": lambda f: f.append(LAST + 100, EVE),
     # All later links are computed anew.

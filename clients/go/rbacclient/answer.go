@@ -1,10 +1,10 @@
 package rbacclient
 
 import (
-	"bytes"
+	"context"
+	"encoding/json"
 	"errors"
 	"fmt"
-	"strconv"
 	"strings"
 	"unicode/utf8"
 )
@@ -14,7 +14,6 @@ const (
 	allowedText = `{"ok":true,"value":true}`
 	deniedText  = `{"ok":true,"value":false}`
 	doneText    = `{"ok":true}`
-	valueStart  = `{"ok":true,"value":`
 )
 
 // longestAnswer is how many bytes a body may have.
@@ -50,230 +49,152 @@ func body(function string, arguments []argument) ([]byte, error) {
 	if strings.HasPrefix(function, endsSession) {
 		return nil, nil
 	}
-	text, isText := []byte{'{'}, true
+	text := []byte{'{'}
 	for i, argument := range arguments {
 		if i > 0 {
 			text = append(text, ',')
 		}
-		text = append(append(text, '"'), argument.key...)
-		text = append(text, '"', ':')
-		switch value := argument.value.(type) {
-		case string:
-			text, isText = appendText(text, value), isText && utf8.ValidString(value)
-		case []string:
-			text = append(text, '[')
-			for j, name := range value {
-				if j > 0 {
-					text = append(text, ',')
-				}
-				text, isText = appendText(text, name), isText && utf8.ValidString(name)
-			}
-			text = append(text, ']')
-		case uint32:
-			text = strconv.AppendUint(text, uint64(value), 10)
+		text = append(append(append(text, '"'), argument.key...), `":`...)
+		name, isText := argument.value.(string)
+		switch {
+		case isText && strings.IndexFunc(name, isSpecial) < 0:
+			text = append(append(append(text, '"'), name...), '"')
+		case utf8.ValidString(fmt.Sprint(argument.value)):
+			text = append(text, written(argument.value)...)
+		default:
+			return nil, failed(InvalidRequest, false, errors.New("a name is not UTF-8"))
 		}
-	}
-	if !isText {
-		return nil, failed(InvalidRequest, false, errors.New("a name is not UTF-8"))
 	}
 	return append(text, '}'), nil
 }
 
-// appendText appends a text as JSON.
-func appendText(text []byte, name string) []byte {
-	text = append(text, '"')
-	for i := 0; i < len(name); i++ {
-		switch one := name[i]; {
-		case one == '"' || one == '\\':
-			text = append(text, '\\', one)
-		case one < 0x20:
-			text = append(text, fmt.Sprintf(`\u%04x`, one)...)
-		default:
-			text = append(text, one)
+// isSpecial reports whether a letter in a name may need an escape, or may be none.
+func isSpecial(letter rune) bool {
+	return letter < ' ' || letter == '"' || letter == '\\' || letter == utf8.RuneError
+}
+
+// separators are letters that JSON of Go has escaped, and that of rbac hasn't.
+var separators = strings.NewReplacer(`\\`, `\\`, `\u2028`, "\u2028", `\u2029`, "\u2029")
+
+// written returns a value as rbac writes it in JSON.
+func written(value interface{}) string {
+	var text strings.Builder
+	encoder := json.NewEncoder(&text)
+	encoder.SetEscapeHTML(false)
+	_ = encoder.Encode(value) // What is written here has a form in JSON.
+	return separators.Replace(strings.TrimSuffix(text.String(), "\n"))
+}
+
+// isExactly reads a value, and reports whether a text is what rbac writes for that value.
+func isExactly(text []byte, value interface{}) bool {
+	return json.Unmarshal(text, value) == nil && written(value) == string(text)
+}
+
+// list is a list in an answer, which may be empty, but is there.
+type list[T any] []T
+
+var errNoList = errors.New("there is no list")
+
+func (l *list[T]) UnmarshalJSON(text []byte) error {
+	if string(text) == "null" {
+		return errNoList
+	}
+	return json.Unmarshal(text, (*[]T)(l))
+}
+
+// reportText is what an import did.
+type reportText struct {
+	Already  uint32 `json:"already"`
+	Assigned uint32 `json:"assigned"`
+	Refused  list[struct {
+		Code   uint32 `json:"code"`
+		Record uint32 `json:"record"`
+	}] `json:"refused"`
+}
+
+// sessionText is what the front answers about a session that it has opened.
+type sessionText struct {
+	Left list[struct {
+		Code  uint32  `json:"code"`
+		Error string  `json:"error"`
+		Kind  *string `json:"kind,omitempty"`
+		Role  string  `json:"role"`
+		Set   *string `json:"set,omitempty"`
+	}] `json:"left"`
+	Roles   list[string] `json:"roles"`
+	Session string       `json:"session"`
+}
+
+// isRight reports whether the session has a name, and each role one reason to be left out.
+func (s *sessionText) isRight() bool {
+	for _, one := range s.Left {
+		if one.Kind != nil && one.Set != nil {
+			return false
 		}
 	}
-	return append(text, '"')
+	return s.Session != ""
 }
 
-// reader reads an answer that is exactly as rbac writes it. Once something else was found it stays bad.
-type reader struct {
-	rest  []byte
-	isBad bool
-}
-
-// skip reports whether the rest begins with a text, and skips it then.
-func (r *reader) skip(text string) bool {
-	if !bytes.HasPrefix(r.rest, []byte(text)) {
-		return false
+// left returns the roles that were left out.
+func (s *sessionText) left() []LeftOut {
+	left := []LeftOut{}
+	for _, one := range s.Left {
+		left = append(left, LeftOut{one.Role, int(one.Code), one.Error, detailsOf(map[string]*string{"kind": one.Kind, "set": one.Set}, nil)})
 	}
-	r.rest = r.rest[len(text):]
-	return true
+	return left
 }
 
-// need skips a text, which has to be there.
-func (r *reader) need(text string) {
-	if !r.skip(text) {
-		r.isBad = true
+// detailsOf returns those further keys of a refusal that are there, or nil.
+func detailsOf(texts map[string]*string, numbers map[string]*uint32) (details map[string]interface{}) {
+	add := func(key string, value interface{}) {
+		if details == nil {
+			details = map[string]interface{}{}
+		}
+		details[key] = value
 	}
-}
-
-// text reads a text in quotes. Only quotes and backslashes are escaped.
-func (r *reader) text() string {
-	r.need(`"`)
-	var name []byte
-	for i := 0; i < len(r.rest) && !r.isBad; i++ {
-		switch one := r.rest[i]; {
-		case one == '"':
-			r.rest = r.rest[i+1:]
-			r.isBad = !utf8.Valid(name)
-			return string(name)
-		case one == '\\' && i+1 < len(r.rest) && (r.rest[i+1] == '"' || r.rest[i+1] == '\\'):
-			i++
-			name = append(name, r.rest[i])
-		case one == '\\' || one < 0x20:
-			r.isBad = true
-		default:
-			name = append(name, one)
+	for key, text := range texts {
+		if text != nil {
+			add(key, *text)
 		}
 	}
-	r.isBad = true
-	return ""
-}
-
-// number reads a whole number of at most 32 bits.
-func (r *reader) number() uint32 {
-	digits := 0
-	for digits < len(r.rest) && r.rest[digits] >= '0' && r.rest[digits] <= '9' {
-		digits++
-	}
-	value, err := strconv.ParseUint(string(r.rest[:digits]), 10, 32)
-	if err != nil || digits > 1 && r.rest[0] == '0' {
-		r.isBad = true
-	}
-	r.rest = r.rest[digits:]
-	return uint32(value)
-}
-
-// list reads a list, each item by a function.
-func (r *reader) list(item func()) {
-	r.need("[")
-	if r.skip("]") {
-		return
-	}
-	for !r.isBad {
-		item()
-		if r.skip("]") {
-			return
+	for key, number := range numbers {
+		if number != nil {
+			add(key, int(*number))
 		}
-		r.need(",")
 	}
+	return details
 }
 
-// names reads a list of names.
-func (r *reader) names() []string {
-	found := []string{}
-	r.list(func() { found = append(found, r.text()) })
-	return found
-}
-
-// permissions reads a list of permissions.
-func (r *reader) permissions() []Permission {
-	found := []Permission{}
-	r.list(func() {
-		r.need("[")
-		object := r.text()
-		r.need(",")
-		found = append(found, Permission{object, r.text()})
-		r.need("]")
+// ask calls a function whose answer has a value of a type.
+func ask[T any](ctx context.Context, c *Client, function string, arguments ...argument) (value T, err error) {
+	err = c.call(ctx, function, 0, arguments, func(status int, text []byte) *Error {
+		var answer struct {
+			OK    bool `json:"ok"`
+			Value *T   `json:"value"`
+		}
+		if status != 200 || !isExactly(text, &answer) || !answer.OK || answer.Value == nil {
+			return readRefusal(status, text)
+		}
+		value = *answer.Value
+		return nil
 	})
-	return found
-}
-
-// report reads what an import did.
-func (r *reader) report() ImportReport {
-	var found ImportReport
-	r.need(`{"already":`)
-	found.Already = int(r.number())
-	r.need(`,"assigned":`)
-	found.Assigned = int(r.number())
-	r.need(`,"refused":`)
-	r.list(func() {
-		r.need(`{"code":`)
-		code := int(r.number())
-		r.need(`,"record":`)
-		found.Refused = append(found.Refused, RefusedRecord{Record: int(r.number()), Code: code})
-		r.need("}")
-	})
-	r.need("}")
-	return found
-}
-
-// opened reads what the front answers about a session that it has opened.
-func (r *reader) opened() (name string, roles []string, left []LeftOut) {
-	r.need(`{"left":`)
-	left = []LeftOut{}
-	r.list(func() {
-		var one LeftOut
-		r.need(`{"code":`)
-		one.Code = int(r.number())
-		r.need(`,"error":`)
-		one.Name = r.text()
-		if r.skip(`,"kind":`) {
-			one.Details = map[string]interface{}{"kind": r.text()}
-		}
-		r.need(`,"role":`)
-		one.Role = r.text()
-		if one.Details == nil && r.skip(`,"set":`) {
-			one.Details = map[string]interface{}{"set": r.text()}
-		}
-		r.need("}")
-		left = append(left, one)
-	})
-	r.need(`,"roles":`)
-	roles = r.names()
-	r.need(`,"session":`)
-	name = r.text()
-	r.need("}")
-	r.isBad = r.isBad || name == ""
-	return name, roles, left
-}
-
-// readValue reads an answer with a value. The value is right only if no error is returned.
-func readValue(status int, text []byte, read func(*reader)) *Error {
-	r := reader{rest: text}
-	r.need(valueStart)
-	if status == 200 && !r.isBad {
-		read(&r)
-		r.need("}")
-		if !r.isBad && len(r.rest) == 0 {
-			return nil
-		}
-	}
-	return readRefusal(status, text)
+	return value, err
 }
 
 // readRefusal returns the refusal that an answer is, or an error that says that it is none.
 func readRefusal(status int, text []byte) *Error {
-	r := reader{rest: text}
-	r.need(`{"code":`)
-	code := int(r.number())
-	r.need(`,"error":`)
-	name := r.text()
-	var details map[string]interface{}
-	for _, key := range []string{"set", "kind", "record", "version"} {
-		if r.skip(`,"` + key + `":`) {
-			if key == "set" || key == "kind" {
-				details = map[string]interface{}{key: r.text()}
-			} else {
-				details = map[string]interface{}{key: int(r.number())}
-			}
-			break
-		}
+	var r struct {
+		Code    uint32  `json:"code"`
+		Error   string  `json:"error"`
+		Set     *string `json:"set,omitempty"`
+		Kind    *string `json:"kind,omitempty"`
+		Record  *uint32 `json:"record,omitempty"`
+		Version *uint32 `json:"version,omitempty"`
 	}
-	r.need("}")
-	wanted, isKnown := refusalNames[code]
-	if !r.isBad && len(r.rest) == 0 && isStatusOf(status, code) && (name == wanted || !isKnown) {
-		return refusal(code, name, details)
+	isRight, code := isExactly(text, &r), int(r.Code)
+	details := detailsOf(map[string]*string{"set": r.Set, "kind": r.Kind}, map[string]*uint32{"record": r.Record, "version": r.Version})
+	if isRight && len(details) <= 1 && refusals[code].isFrom(status, r.Error) {
+		return refusal(code, r.Error, details)
 	}
 	reason, isListed := reasonsOfStatuses[status]
 	if !isListed {
@@ -282,15 +203,20 @@ func readRefusal(status int, text []byte) *Error {
 	return failed(reason, true, fmt.Errorf("no answer of rbac: status %d, %d bytes", status, len(text)))
 }
 
-// isStatusOf reports whether a refusal with a code has a status.
-func isStatusOf(status, code int) bool {
-	wanted, isListed := statuses[code]
-	if !isListed {
+// refusalKind is what is known of a refusal: its name, and the statuses of its answers.
+type refusalKind struct {
+	name     string
+	statuses []int
+}
+
+// isFrom reports whether an answer that refuses with a status and a name is such a refusal. One that isn't known has the status 409.
+func (k refusalKind) isFrom(status int, name string) bool {
+	if k.name == "" {
 		return status == 409
 	}
-	for _, one := range wanted {
+	for _, one := range k.statuses {
 		if one == status {
-			return true
+			return name == k.name
 		}
 	}
 	return false

@@ -12,7 +12,6 @@ import (
 	"log"
 	"net/http"
 	"strings"
-	"sync"
 	"sync/atomic"
 	"time"
 )
@@ -60,9 +59,7 @@ type Client struct {
 	// createsUntil is until when sessions are made by createSession, in nanoseconds, since the server opens none.
 	createsUntil atomic.Int64
 
-	lines  LogLines
-	mu     sync.Mutex
-	counts map[Reason]uint64
+	tally Tally
 }
 
 // New makes a client. It connects when it is first used.
@@ -80,7 +77,6 @@ func New(config Config) (*Client, error) {
 		pause:     config.Pause,
 		noRepeats: config.NoRepeats,
 		log:       config.Log,
-		counts:    map[Reason]uint64{},
 	}
 	for _, text := range config.Addresses {
 		read, err := readAddress(text, config.TLS)
@@ -168,27 +164,16 @@ func (c *Client) May(ctx context.Context, session, operation, object string) boo
 }
 
 // Counts returns how many decisions there were, by their reasons.
-func (c *Client) Counts() map[Reason]uint64 {
-	c.mu.Lock()
-	defer c.mu.Unlock()
-	copied := make(map[Reason]uint64, len(c.counts))
-	for reason, count := range c.counts {
-		copied[reason] = count
-	}
-	return copied
-}
+func (c *Client) Counts() map[Reason]uint64 { return c.tally.Counts() }
 
 // decide returns a decision that isn't counted yet.
 func (c *Client) decide(ctx context.Context, session, operation, object string) Decision {
 	return DecisionOf(c.CheckAccess(ctx, session, operation, object))
 }
 
-// keep counts a decision, and logs it if the office hasn't made it. The log has no names of sessions.
+// keep counts a decision, and logs it if the office hasn't made it.
 func (c *Client) keep(decision Decision, operation, object string) Decision {
-	c.mu.Lock()
-	c.counts[decision.Reason]++
-	c.mu.Unlock()
-	c.lines.Report(c.log, decision, operation, object)
+	c.tally.Keep(c.log, decision, operation, object)
 	return decision
 }
 
@@ -207,27 +192,23 @@ func (c *Client) doneAgain(ctx context.Context, again int, function string, argu
 	})
 }
 
-// names calls a question whose value is a list of names.
-func (c *Client) names(ctx context.Context, function string, arguments ...argument) (found []string, err error) {
-	err = c.value(ctx, function, arguments, func(r *reader) { found = r.names() })
-	return found, err
-}
-
 // permissions calls a question whose value is a list of permissions.
-func (c *Client) permissions(ctx context.Context, function string, arguments ...argument) (found []Permission, err error) {
-	err = c.value(ctx, function, arguments, func(r *reader) { found = r.permissions() })
-	return found, err
-}
-
-// count calls a question whose value is a number.
-func (c *Client) count(ctx context.Context, function string, arguments ...argument) (found uint32, err error) {
-	err = c.value(ctx, function, arguments, func(r *reader) { found = r.number() })
+func (c *Client) permissions(ctx context.Context, function string, arguments ...argument) ([]Permission, error) {
+	pairs, err := ask[[][2]string](ctx, c, function, arguments...)
+	found := make([]Permission, len(pairs))
+	for i, pair := range pairs {
+		found[i] = Permission{pair[0], pair[1]}
+	}
 	return found, err
 }
 
 // imported calls importAssignments.
-func (c *Client) imported(ctx context.Context, function string, arguments ...argument) (found ImportReport, err error) {
-	err = c.value(ctx, function, arguments, func(r *reader) { found = r.report() })
+func (c *Client) imported(ctx context.Context, function string, arguments ...argument) (ImportReport, error) {
+	text, err := ask[reportText](ctx, c, function, arguments...)
+	found := ImportReport{Already: int(text.Already), Assigned: int(text.Assigned)}
+	for _, one := range text.Refused {
+		found.Refused = append(found.Refused, RefusedRecord{Record: int(one.Record), Code: int(one.Code)})
+	}
 	return found, err
 }
 
@@ -241,13 +222,6 @@ func (c *Client) access(ctx context.Context, function string, arguments ...argum
 		return readRefusal(status, text)
 	})
 	return isAllowed && err == nil, err
-}
-
-// value calls a function whose answer has a value.
-func (c *Client) value(ctx context.Context, function string, arguments []argument, read func(*reader)) error {
-	return c.call(ctx, function, 0, arguments, func(status int, text []byte) *Error {
-		return readValue(status, text, read)
-	})
 }
 
 // call sends a request until it is answered, as often as its course wants.

@@ -115,11 +115,11 @@ func TestLines(t *testing.T) {
 // TestLine writes one line of printable ASCII.
 func TestLine(t *testing.T) {
 	var said bytes.Buffer
-	var lines LogLines
+	var tally Tally
 	decision := Decision{Reason: Unanswered, Detail: "it took too long"}
-	lines.Report(log.New(&said, "", 0), decision, "open\n\x1b[31m\u2028", strings.Repeat("safe", 1_000))
-	lines.Report(log.New(&said, "", 0), decision, "open", "safe")
-	lines.Report(log.New(&said, "", 0), Decision{Reason: Denied}, "open", "safe")
+	tally.Keep(log.New(&said, "", 0), decision, "open\n\x1b[31m\u2028", strings.Repeat("safe", 1_000))
+	tally.Keep(log.New(&said, "", 0), decision, "open", "safe")
+	tally.Keep(log.New(&said, "", 0), Decision{Reason: Denied}, "open", "safe")
 	want := `no decision about "open\n\x1b[31m\u2028" on "` + strings.Repeat("safe", 20) + "\": unanswered: it took too long\n"
 	if said.String() != want {
 		t.Errorf("got %q", said.String())

@@ -7,6 +7,9 @@ import (
 	"time"
 )
 
+// never is in place of a code for a command that may not be repeated.
+const never = -1
+
 // mostAttempts is how often a command is sent at most.
 const mostAttempts = 4
 
@@ -31,16 +34,16 @@ func newCourse(ctx context.Context, c *Client, function string, again int) *cour
 	if own := time.Now().Add(c.timeout); !hasDeadline || own.Before(deadline) {
 		deadline = own
 	}
-	code, isRepeatable := repeatable[function]
+	code, isKnown := commands[function]
 	if again != 0 {
-		code, isRepeatable = again, true
+		code, isKnown = again, true
 	}
 	r := &course{client: c, ctx: ctx, deadline: deadline, isQuestion: !isCommand(function), again: code, left: 1}
 	r.unreached, r.at = len(c.addresses)-1, int(c.first.Load())
 	switch {
 	case r.isQuestion:
 		r.left = len(c.addresses)
-	case isRepeatable && !c.noRepeats:
+	case isKnown && code != never && !c.noRepeats:
 		r.left = mostAttempts
 	}
 	return r
@@ -48,7 +51,8 @@ func newCourse(ctx context.Context, c *Client, function string, again int) *cour
 
 // isCommand reports whether a function changes the office, as all do that only the front does.
 func isCommand(function string) bool {
-	return commands[function] || strings.Contains(function, " ")
+	_, isCommand := commands[function]
+	return isCommand || strings.Contains(function, " ")
 }
 
 // address is the one that is asked now.

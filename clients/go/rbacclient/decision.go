@@ -59,8 +59,8 @@ func (e *Error) Error() string {
 		return fmt.Sprintf("rbacclient: %s: %v", e.Reason, e.Err)
 	}
 	// What a server sends is no text of a log: the name is that of docs/reference/api.md, and the name of a set is only in Details.
-	name, isKnown := refusalNames[e.Code]
-	if !isKnown {
+	name := refusals[e.Code].name
+	if name == "" {
 		name = "(a later refusal)"
 	}
 	text := fmt.Sprintf("rbacclient: refused: %d %s", e.Code, name)

@@ -4,132 +4,97 @@ package rbacclient
 
 import "context"
 
-// statuses: the statuses of the refusals that have another one than 409, by their codes.
-var statuses = map[int][]int{
-	1:  {400},
-	34: {400, 405, 411, 413, 431, 501},
-	35: {404},
-	36: {400},
-	40: {503},
-	41: {500},
-	42: {500},
-	60: {503},
-	61: {503},
-	62: {401},
-	63: {403},
-	64: {429},
-	65: {403},
-	66: {421},
-	67: {412},
+// refusals: the refusals by their codes, each with its name and the statuses of its answers.
+var refusals = map[int]refusalKind{
+	1:  {"BadName", []int{400}},
+	2:  {"NoUser", []int{409}},
+	3:  {"UserExists", []int{409}},
+	4:  {"NoRole", []int{409}},
+	5:  {"RoleExists", []int{409}},
+	6:  {"NoObject", []int{409}},
+	7:  {"ObjectExists", []int{409}},
+	8:  {"NoPermission", []int{409}},
+	9:  {"PermissionExists", []int{409}},
+	10: {"AlreadyAssigned", []int{409}},
+	11: {"NotAssigned", []int{409}},
+	12: {"AlreadyGranted", []int{409}},
+	13: {"NotGranted", []int{409}},
+	14: {"EdgeExists", []int{409}},
+	15: {"NoEdge", []int{409}},
+	16: {"Cycle", []int{409}},
+	17: {"RoleInUse", []int{409}},
+	18: {"ObjectInUse", []int{409}},
+	19: {"SetExists", []int{409}},
+	20: {"NoSet", []int{409}},
+	21: {"MemberExists", []int{409}},
+	22: {"NoMember", []int{409}},
+	23: {"BadCardinality", []int{409}},
+	24: {"StaticSeparation", []int{409}},
+	25: {"DynamicSeparation", []int{409}},
+	26: {"NoSession", []int{409}},
+	27: {"SessionExists", []int{409}},
+	28: {"NotOwner", []int{409}},
+	29: {"NotAuthorized", []int{409}},
+	30: {"AlreadyActive", []int{409}},
+	31: {"NotActive", []int{409}},
+	32: {"TooMany", []int{409}},
+	33: {"NoOperation", []int{409}},
+	34: {"BadRequest", []int{400, 405, 411, 413, 431, 501}},
+	35: {"UnknownFunction", []int{404}},
+	36: {"BadCsv", []int{400}},
+	37: {"UserLocked", []int{409}},
+	40: {"Memory", []int{503}},
+	41: {"Store", []int{500}},
+	42: {"Closed", []int{500}},
+	50: {"NotAnOffice", []int{409}},
+	51: {"Version", []int{409}},
+	52: {"Damaged", []int{409}},
+	60: {"Unavailable", []int{503}},
+	61: {"Diverged", []int{503}},
+	62: {"Unauthorized", []int{401}},
+	63: {"Forbidden", []int{403}},
+	64: {"TooManyRequests", []int{429}},
+	65: {"ForeignOrigin", []int{403}},
+	66: {"ForeignHost", []int{421}},
+	67: {"Outdated", []int{412}},
 }
 
-// refusalNames: the names of the refusals, by their codes.
-var refusalNames = map[int]string{
-	1:  "BadName",
-	2:  "NoUser",
-	3:  "UserExists",
-	4:  "NoRole",
-	5:  "RoleExists",
-	6:  "NoObject",
-	7:  "ObjectExists",
-	8:  "NoPermission",
-	9:  "PermissionExists",
-	10: "AlreadyAssigned",
-	11: "NotAssigned",
-	12: "AlreadyGranted",
-	13: "NotGranted",
-	14: "EdgeExists",
-	15: "NoEdge",
-	16: "Cycle",
-	17: "RoleInUse",
-	18: "ObjectInUse",
-	19: "SetExists",
-	20: "NoSet",
-	21: "MemberExists",
-	22: "NoMember",
-	23: "BadCardinality",
-	24: "StaticSeparation",
-	25: "DynamicSeparation",
-	26: "NoSession",
-	27: "SessionExists",
-	28: "NotOwner",
-	29: "NotAuthorized",
-	30: "AlreadyActive",
-	31: "NotActive",
-	32: "TooMany",
-	33: "NoOperation",
-	34: "BadRequest",
-	35: "UnknownFunction",
-	36: "BadCsv",
-	37: "UserLocked",
-	40: "Memory",
-	41: "Store",
-	42: "Closed",
-	50: "NotAnOffice",
-	51: "Version",
-	52: "Damaged",
-	60: "Unavailable",
-	61: "Diverged",
-	62: "Unauthorized",
-	63: "Forbidden",
-	64: "TooManyRequests",
-	65: "ForeignOrigin",
-	66: "ForeignHost",
-	67: "Outdated",
-}
-
-// repeatable: the commands that may be repeated if their answer was lost. The code, if it isn't 0, then says that it
-// was done.
-var repeatable = map[string]int{
+// commands: the functions that change the office, each with the code that says that it was done if it is repeated since
+// its answer was lost: 0 if it is accepted again, and never if it may not be repeated.
+var commands = map[string]int{
+	"addUser":              never,
+	"deleteUser":           never,
+	"addRole":              never,
+	"deleteRole":           never,
+	"addPermObj":           never,
+	"deletePermObj":        never,
 	"addPermission":        9,
+	"deletePermission":     never,
 	"grantPermission":      12,
+	"revokePermission":     never,
 	"assignUser":           10,
+	"deassignUser":         never,
 	"addInheritance":       14,
+	"deleteInheritance":    never,
+	"addAscendant":         never,
+	"addDescendant":        never,
+	"createSsdSet":         never,
 	"addSsdRoleMember":     21,
+	"deleteSsdRoleMember":  never,
 	"setSsdSetCardinality": 0,
+	"deleteSsdSet":         never,
+	"createDsdSet":         never,
 	"addDsdRoleMember":     21,
+	"deleteDsdRoleMember":  never,
 	"setDsdSetCardinality": 0,
+	"deleteDsdSet":         never,
+	"createSession":        never,
+	"deleteSession":        never,
 	"addActiveRole":        30,
+	"dropActiveRole":       never,
 	"lockUserAccount":      0,
 	"unlockUserAccount":    0,
 	"importAssignments":    0,
-}
-
-// commands: the functions that change the office.
-var commands = map[string]bool{
-	"addUser":              true,
-	"deleteUser":           true,
-	"addRole":              true,
-	"deleteRole":           true,
-	"addPermObj":           true,
-	"deletePermObj":        true,
-	"addPermission":        true,
-	"deletePermission":     true,
-	"grantPermission":      true,
-	"revokePermission":     true,
-	"assignUser":           true,
-	"deassignUser":         true,
-	"addInheritance":       true,
-	"deleteInheritance":    true,
-	"addAscendant":         true,
-	"addDescendant":        true,
-	"createSsdSet":         true,
-	"addSsdRoleMember":     true,
-	"deleteSsdRoleMember":  true,
-	"setSsdSetCardinality": true,
-	"deleteSsdSet":         true,
-	"createDsdSet":         true,
-	"addDsdRoleMember":     true,
-	"deleteDsdRoleMember":  true,
-	"setDsdSetCardinality": true,
-	"deleteDsdSet":         true,
-	"createSession":        true,
-	"deleteSession":        true,
-	"addActiveRole":        true,
-	"dropActiveRole":       true,
-	"lockUserAccount":      true,
-	"unlockUserAccount":    true,
-	"importAssignments":    true,
 }
 
 // AddUser adds the user `user`, who is assigned no role.
@@ -409,28 +374,28 @@ func (c *Client) CheckAccess(ctx context.Context, session string, operation stri
 //
 // Refused: 4 NoRole for `role`.
 func (c *Client) AssignedUsers(ctx context.Context, role string) ([]string, error) {
-	return c.names(ctx, "assignedUsers", argument{"role", role})
+	return ask[[]string](ctx, c, "assignedUsers", argument{"role", role})
 }
 
 // AssignedRoles returns the roles that the user `user` is assigned to.
 //
 // Refused: 2 NoUser for `user`.
 func (c *Client) AssignedRoles(ctx context.Context, user string) ([]string, error) {
-	return c.names(ctx, "assignedRoles", argument{"user", user})
+	return ask[[]string](ctx, c, "assignedRoles", argument{"user", user})
 }
 
 // AuthorizedUsers returns the users who are assigned to the role `role` or to a senior of it.
 //
 // Refused: 4 NoRole for `role`.
 func (c *Client) AuthorizedUsers(ctx context.Context, role string) ([]string, error) {
-	return c.names(ctx, "authorizedUsers", argument{"role", role})
+	return ask[[]string](ctx, c, "authorizedUsers", argument{"role", role})
 }
 
 // AuthorizedRoles returns the roles that the user `user` is assigned to, and their juniors.
 //
 // Refused: 2 NoUser for `user`.
 func (c *Client) AuthorizedRoles(ctx context.Context, user string) ([]string, error) {
-	return c.names(ctx, "authorizedRoles", argument{"user", user})
+	return ask[[]string](ctx, c, "authorizedRoles", argument{"user", user})
 }
 
 // RolePermissions returns the permissions that are granted to the role `role` or to a junior of it.
@@ -451,7 +416,7 @@ func (c *Client) UserPermissions(ctx context.Context, user string) ([]Permission
 //
 // Refused: 26 NoSession for `session`.
 func (c *Client) SessionRoles(ctx context.Context, session string) ([]string, error) {
-	return c.names(ctx, "sessionRoles", argument{"session", session})
+	return ask[[]string](ctx, c, "sessionRoles", argument{"session", session})
 }
 
 // SessionPermissions returns the permissions that are granted to the roles of the session `session`.
@@ -465,57 +430,57 @@ func (c *Client) SessionPermissions(ctx context.Context, session string) ([]Perm
 //
 // Refused: 4 NoRole for `role`; 6 NoObject for `object`.
 func (c *Client) RoleOperationsOnObject(ctx context.Context, role string, object string) ([]string, error) {
-	return c.names(ctx, "roleOperationsOnObject", argument{"role", role}, argument{"object", object})
+	return ask[[]string](ctx, c, "roleOperationsOnObject", argument{"role", role}, argument{"object", object})
 }
 
 // UserOperationsOnObject returns the operations on the object `object` among the permissions of the user `user`.
 //
 // Refused: 2 NoUser for `user`; 6 NoObject for `object`.
 func (c *Client) UserOperationsOnObject(ctx context.Context, user string, object string) ([]string, error) {
-	return c.names(ctx, "userOperationsOnObject", argument{"user", user}, argument{"object", object})
+	return ask[[]string](ctx, c, "userOperationsOnObject", argument{"user", user}, argument{"object", object})
 }
 
 // SsdRoleSets returns the static separation of duty sets.
 func (c *Client) SsdRoleSets(ctx context.Context) ([]string, error) {
-	return c.names(ctx, "ssdRoleSets")
+	return ask[[]string](ctx, c, "ssdRoleSets")
 }
 
 // SsdRoleSetRoles returns the members of the static set `set`.
 //
 // Refused: 20 NoSet for `set`.
 func (c *Client) SsdRoleSetRoles(ctx context.Context, set string) ([]string, error) {
-	return c.names(ctx, "ssdRoleSetRoles", argument{"set", set})
+	return ask[[]string](ctx, c, "ssdRoleSetRoles", argument{"set", set})
 }
 
 // SsdRoleSetCardinality returns the cardinality of the static set `set`.
 //
 // Refused: 20 NoSet for `set`.
 func (c *Client) SsdRoleSetCardinality(ctx context.Context, set string) (uint32, error) {
-	return c.count(ctx, "ssdRoleSetCardinality", argument{"set", set})
+	return ask[uint32](ctx, c, "ssdRoleSetCardinality", argument{"set", set})
 }
 
 // DsdRoleSets returns the dynamic separation of duty sets.
 func (c *Client) DsdRoleSets(ctx context.Context) ([]string, error) {
-	return c.names(ctx, "dsdRoleSets")
+	return ask[[]string](ctx, c, "dsdRoleSets")
 }
 
 // DsdRoleSetRoles returns the members of the dynamic set `set`.
 //
 // Refused: 20 NoSet for `set`.
 func (c *Client) DsdRoleSetRoles(ctx context.Context, set string) ([]string, error) {
-	return c.names(ctx, "dsdRoleSetRoles", argument{"set", set})
+	return ask[[]string](ctx, c, "dsdRoleSetRoles", argument{"set", set})
 }
 
 // DsdRoleSetCardinality returns the cardinality of the dynamic set `set`.
 //
 // Refused: 20 NoSet for `set`.
 func (c *Client) DsdRoleSetCardinality(ctx context.Context, set string) (uint32, error) {
-	return c.count(ctx, "dsdRoleSetCardinality", argument{"set", set})
+	return ask[uint32](ctx, c, "dsdRoleSetCardinality", argument{"set", set})
 }
 
 // PermissionRoles returns the roles to which the permission for `operation` on `object` is granted directly.
 //
 // Refused: 6 NoObject for `object`; 8 NoPermission for the two.
 func (c *Client) PermissionRoles(ctx context.Context, object string, operation string) ([]string, error) {
-	return c.names(ctx, "permissionRoles", argument{"object", object}, argument{"operation", operation})
+	return ask[[]string](ctx, c, "permissionRoles", argument{"object", object}, argument{"operation", operation})
 }

@@ -50,14 +50,38 @@ func (l *LogLines) Due(now time.Time, reason Reason) (end string, isDue bool) {
 	return end, true
 }
 
-// Report logs a decision that the office hasn't made. The log has no names of sessions.
-func (l *LogLines) Report(to *log.Logger, decision Decision, operation, object string) {
+// Tally counts decisions by their reasons, and logs those that the office hasn't made. Its zero value is ready.
+type Tally struct {
+	lines  LogLines
+	mu     sync.Mutex
+	counts map[Reason]uint64
+}
+
+// Keep counts a decision, and logs it if the office hasn't made it. The log has no names of sessions.
+func (t *Tally) Keep(to *log.Logger, decision Decision, operation, object string) {
+	t.mu.Lock()
+	if t.counts == nil {
+		t.counts = map[Reason]uint64{}
+	}
+	t.counts[decision.Reason]++
+	t.mu.Unlock()
 	if decision.IsDecided() {
 		return
 	}
-	if end, isDue := l.Due(time.Now(), decision.Reason); isDue {
+	if end, isDue := t.lines.Due(time.Now(), decision.Reason); isDue {
 		to.Printf("no decision about %s on %s: %s: %s%s", shown(operation), shown(object), decision.Reason, decision.Detail, end)
 	}
+}
+
+// Counts returns how many decisions there were, by their reasons.
+func (t *Tally) Counts() map[Reason]uint64 {
+	t.mu.Lock()
+	defer t.mu.Unlock()
+	copied := make(map[Reason]uint64, len(t.counts))
+	for reason, count := range t.counts {
+		copied[reason] = count
+	}
+	return copied
 }
 
 // shown is a name as a line shows it: in quotes, in printable ASCII, and not more of it than a name of an office has.

@@ -163,11 +163,15 @@ func (s *Session) open(ctx context.Context) error {
 	}
 	var name string
 	var roles []string
-	var left []LeftOut
+	var opened sessionText
 	var err error
 	isMissing := time.Now().UnixNano() < s.client.createsUntil.Load()
 	if !isMissing {
-		err = s.client.value(ctx, opensSession, arguments, func(r *reader) { name, roles, left = r.opened() })
+		opened, err = ask[sessionText](ctx, s.client, opensSession, arguments...)
+		if err == nil && !opened.isRight() {
+			err = failed(Unexpected, true, errors.New("no answer of rbac: no session"))
+		}
+		name, roles = opened.Session, opened.Roles
 		if isMissing = IsRefused(err, noSuchPath); isMissing {
 			s.client.createsUntil.Store(time.Now().Add(creates).UnixNano())
 		}
@@ -178,7 +182,7 @@ func (s *Session) open(ctx context.Context) error {
 	if err != nil {
 		return err
 	}
-	s.name, s.roles, s.left = name, roles, left
+	s.name, s.roles, s.left = name, roles, opened.left()
 	return nil
 }
 

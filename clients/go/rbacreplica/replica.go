@@ -72,7 +72,7 @@ type Replica struct {
 	stop   context.CancelFunc
 	ended  chan struct{}
 	names  digests
-	lines  rbacclient.LogLines
+	tally  rbacclient.Tally
 
 	mu       sync.Mutex
 	office   *rbacoffice.Office // nil if there is no copy
@@ -86,7 +86,6 @@ type Replica struct {
 	isTold   bool // whether the log has a line that it is cut off, and none after it
 	failures int
 	changed  chan struct{} // closed at the next change, if somebody waits for it
-	counts   map[rbacclient.Reason]uint64
 }
 
 // Open makes a replica, which begins to follow the front. Ready waits until it decides.
@@ -106,7 +105,7 @@ func Open(config Config) (*Replica, error) {
 		config.Log = log.Default()
 	}
 	ctx, stop := context.WithCancel(context.Background())
-	r := &Replica{config: config, stop: stop, ended: make(chan struct{}), trouble: errNothing, counts: map[rbacclient.Reason]uint64{}}
+	r := &Replica{config: config, stop: stop, ended: make(chan struct{}), trouble: errNothing}
 	go r.run(ctx)
 	return r, nil
 }
@@ -148,15 +147,7 @@ func (r *Replica) Status() Status {
 }
 
 // Counts returns how many decisions there were, by their reasons.
-func (r *Replica) Counts() map[rbacclient.Reason]uint64 {
-	r.mu.Lock()
-	defer r.mu.Unlock()
-	copied := make(map[rbacclient.Reason]uint64, len(r.counts))
-	for reason, count := range r.counts {
-		copied[reason] = count
-	}
-	return copied
-}
+func (r *Replica) Counts() map[rbacclient.Reason]uint64 { return r.tally.Counts() }
 
 // Check says whether the session may do the operation on the object, why, and by which state.
 func (r *Replica) Check(ctx context.Context, session, operation, object string) Decision {
@@ -180,10 +171,7 @@ func (r *Replica) CheckAt(ctx context.Context, revision uint64, session, operati
 		isAllowed, err := r.config.Client.CheckAccess(ctx, session, operation, object)
 		decision = Decision{Decision: rbacclient.DecisionOf(isAllowed, err), Age: time.Since(asked)}
 	}
-	r.mu.Lock()
-	r.counts[decision.Reason]++
-	r.mu.Unlock()
-	r.report(decision, operation, object)
+	r.tally.Keep(r.config.Log, decision.Decision, operation, object)
 	return decision
 }
 
@@ -201,22 +189,18 @@ func (r *Replica) May(ctx context.Context, session, operation, object string) bo
 func (r *Replica) here(revision uint64, name, operation, object string) (Decision, bool) {
 	decision, isFinal := r.decide(revision, name, operation, object)
 	if isFinal {
-		r.report(decision, operation, object)
+		r.tally.Keep(r.config.Log, decision.Decision, operation, object)
 	}
 	return decision, isFinal
 }
 
-// decide is here without a report.
+// decide is here without counting.
 func (r *Replica) decide(revision uint64, name, operation, object string) (Decision, bool) {
 	r.mu.Lock()
 	defer r.mu.Unlock()
 	now := time.Now()
 	if behind := r.behind(now, revision); behind != nil {
-		isFinal := r.trouble == errClosed || r.trouble != nil && isNoRight(r.trouble.Reason)
-		if isFinal {
-			r.counts[behind.Reason]++
-		}
-		return *behind, isFinal
+		return *behind, r.trouble == errClosed || r.trouble != nil && isNoRight(r.trouble.Reason)
 	}
 	isAllowed, err := r.office.Check(name, operation, object)
 	decision := Decision{Decision: decisionOf(isAllowed, err), Age: r.fresh.age(now), Number: r.number}
@@ -227,13 +211,7 @@ func (r *Replica) decide(revision uint64, name, operation, object string) (Decis
 	if came, isYoung := r.young[name]; isYoung && decision.Reason == rbacclient.Denied && now.Sub(came) < young {
 		return decision, false
 	}
-	r.counts[decision.Reason]++
 	return decision, true
-}
-
-// report writes a line about a decision that the office hasn't made. It has no name of a session.
-func (r *Replica) report(decision Decision, operation, object string) {
-	r.lines.Report(r.config.Log, decision.Decision, operation, object)
 }
 
 // decisionOf returns the decision of the library.

@@ -7,7 +7,6 @@ import (
 	"fmt"
 	"os"
 	"strings"
-	"time"
 
 	"rbac-node/internal/logs"
 	"rbac-node/internal/record"
@@ -16,9 +15,6 @@ import (
 
 // missingStatus is the status of verify if all that is here is good, but entries are missing.
 const missingStatus = 2
-
-// toolHangTimeout is how long a replay of the record may answer nothing in a command other than serve.
-const toolHangTimeout = 10 * time.Minute
 
 // recordCommand is what a command about a record needs.
 type recordCommand struct {
@@ -58,7 +54,7 @@ func recordCommands() (all []command) {
 
 // prepareRecord defines the flags of a command about a record, and returns what does it.
 func prepareRecord(flags *flag.FlagSet, name string) func([]string) error {
-	c := &recordCommand{format: record.Text, Tool: record.Tool{HangTimeout: toolHangTimeout, Out: os.Stdout, Err: os.Stderr, Log: logs.New(os.Stderr)}}
+	c := &recordCommand{format: record.Text, Tool: record.Tool{Out: os.Stdout, Err: os.Stderr, Log: logs.New(os.Stderr)}}
 	c.define(flags, name)
 	count := 0
 	if name == "backup" {

@@ -39,7 +39,7 @@ func (s *settings) addRecord(office *single.Options, registry prometheus.Registe
 	}
 	office.OpenRecord = func(ctx context.Context) (single.Recorder, error) {
 		r, err := record.Open(ctx, record.Options{
-			Office: s.office, Program: s.program, HangTimeout: s.hangTimeout, Every: s.record.every, Log: office.Log, Metrics: registry,
+			Office: s.office, Program: s.program, Every: s.record.every, Log: office.Log, Metrics: registry,
 			VerifyEvery: s.record.verifyEvery, Say: office.Say,
 		})
 		if err != nil {
@@ -53,7 +53,7 @@ func (s *settings) addRecord(office *single.Options, registry prometheus.Registe
 // followRecord returns the record of a node, with its folder, the file of the office at a start and the entries of a part.
 func (s *settings) followRecord(data, office string, partEntries int64, log *logs.Logger, registry prometheus.Registerer) recorded.Follower {
 	return record.NewFollower(record.Options{
-		Office: office, Program: s.program, Dir: record.DirIn(data), HangTimeout: s.hangTimeout, PartEntries: partEntries, Log: log,
+		Office: office, Program: s.program, Dir: record.DirIn(data), PartEntries: partEntries, Log: log,
 		Metrics: registry,
 	})
 }
@@ -62,6 +62,6 @@ func (s *settings) followRecord(data, office string, partEntries int64, log *log
 // it returns last takes that back.
 func (s *settings) carryRecord(ctx context.Context, backup, data string) (office, head string, undo func(), err error) {
 	dir := record.DirIn(data)
-	office, last, err := record.Carry(ctx, record.Options{Program: s.program, Dir: dir, HangTimeout: s.hangTimeout, Log: logs.New(os.Stderr)}, backup)
+	office, last, err := record.Carry(ctx, record.Options{Program: s.program, Dir: dir, Log: logs.New(os.Stderr)}, backup)
 	return office, last.String(), func() { _ = os.RemoveAll(dir) }, err
 }

@@ -53,7 +53,7 @@ func (c *restoreCommand) restore(ctx context.Context) error {
 		reason = ""
 	}
 	c.Prepare = func(ctx context.Context, office string) (string, error) {
-		t := record.Tool{Office: office, Program: c.program, HangTimeout: toolHangTimeout, Out: io.Discard, Err: os.Stderr, Log: logs.New(os.Stderr)}
+		t := record.Tool{Office: office, Program: c.program, Out: io.Discard, Err: os.Stderr, Log: logs.New(os.Stderr)}
 		return t.Restore(ctx, filepath.Base(c.Backup), c.by, reason, !c.isUnrecorded)
 	}
 	if c.unit == "" {

@@ -2,12 +2,9 @@ package record
 
 import (
 	"context"
-	"database/sql"
 	"encoding/json"
 	"errors"
 	"fmt"
-	"os"
-	"path/filepath"
 )
 
 // An AccessQuery asks who had access to an object by an operation, or what a user had access to: at a time, or after an entry.
@@ -49,58 +46,41 @@ func (t *Tool) Access(ctx context.Context, query AccessQuery) error {
 	case (query.At == "") == (query.Entry == 0):
 		return errPlaceUsage
 	}
-	files, release, err := t.files(ctx)
+	p, err := t.placeOf(ctx, query)
 	if err != nil {
 		return err
 	}
-	defer release()
-	p, err := placeOf(ctx, files, query)
-	if err != nil {
-		return err
-	}
-	scratch, end, err := newScratch(t.Office+t.Data+t.Part, t.dir(), forAccess)
-	if err != nil {
-		return err
-	}
-	defer end()
-	file := filepath.Join(scratch, rerunFile)
 	judged := *t
 	judged.Out = t.Err // What verify prints isn't what is asked for.
-	verified := judged.verify(ctx, query.Heads, &stop{p.n, func(given string, e *entry) error {
+	var found []way
+	notes, isReached := p.notes(), false
+	verified := judged.verify(ctx, query.Heads, &stop{p.n, func(again *rerun, e *entry) error {
 		if e.ch != p.link {
 			return fmt.Errorf("somebody has written entry %d meanwhile", e.n)
 		}
-		return copyOffice(given, file)
+		isReached = true
+		var refused *RefusedError
+		if found, err = again.access(query); errors.As(err, &refused) {
+			notes = append(notes, refused.Error())
+			return nil
+		}
+		return err
 	}})
 	if verified != nil && !errors.Is(verified, ErrMissing) {
 		return verified
 	}
-	if _, err := os.Stat(file); err != nil {
-		return fmt.Errorf("entry %d was not reached: %w", p.n, err)
+	if !isReached {
+		return fmt.Errorf("entry %d was not reached", p.n)
 	}
-	if err := t.printAccess(ctx, file, query, p); err != nil {
+	if err := t.printAccess(query.Format, notes, found); err != nil {
 		return err
 	}
 	return verified
 }
 
-// printAccess asks the program about a copy of the office as it was at a place, and prints what it answers.
-func (t *Tool) printAccess(ctx context.Context, file string, query AccessQuery, p *place) error {
-	again, err := startOver(t.Program, file, t.HangTimeout)
-	if err != nil {
-		return err
-	}
-	defer func() { _ = again.Close() }() // What it has done is thrown away.
-	found, err := again.access(ctx, query)
-	var refused *RefusedError
-	if err != nil && !errors.As(err, &refused) {
-		return err
-	}
-	notes := p.notes()
-	if refused != nil {
-		notes = append(notes, refused.Error())
-	}
-	out, err := newPrinter(t.Out, query.Format, "user", "object", "operation", "role", "session")
+// printAccess prints who had access, and what has to be known about that.
+func (t *Tool) printAccess(format Format, notes []string, found []way) error {
+	out, err := newPrinter(t.Out, format, "user", "object", "operation", "role", "session")
 	for i := 0; err == nil && i < len(notes); i++ {
 		var has bool
 		if has, err = out.addNote(notes[i]); !has {
@@ -140,62 +120,53 @@ func (p *place) notes() []string {
 	return notes
 }
 
-// A stretch is what a file of a record has about a place: the last entry not after it, and the first one after it.
-type stretch struct{ last, after sql.NullInt64 }
+// A stretch is what a file of a record has about a place: the last entry not after it, and the first one after it, or 0.
+type stretch struct{ last, after int64 }
 
 // placeOf finds the last entry that is not after a time. It refuses a time for which there is none, or more than one since the clock
 // was set back.
-func placeOf(ctx context.Context, files []string, query AccessQuery) (*place, error) {
+func (t *Tool) placeOf(ctx context.Context, query AccessQuery) (*place, error) {
 	condition, value := "at <= ?", any(query.At)
 	if query.At == "" {
 		condition, value = "n <= ?", query.Entry
 	}
 	var found stretch
-	var views []*view
-	defer func() {
-		for _, v := range views {
-			v.Close()
-		}
-	}()
-	for _, path := range files {
-		v, err := openView(ctx, path)
-		if err != nil {
-			return nil, err
-		}
-		views = append(views, v)
+	err := t.eachView(ctx, func(v *view) error {
 		var s stretch
-		err = v.tx.QueryRowContext(ctx, "SELECT max(n) FILTER (WHERE "+condition+"), min(n) FILTER (WHERE NOT "+condition+
-			") FROM entry WHERE answer IS NOT NULL", value, value).Scan(&s.last, &s.after)
-		if err != nil {
-			return nil, fmt.Errorf("%s: %w", path, err)
-		}
-		if s.last.Valid {
+		err := v.tx.QueryRowContext(ctx, "SELECT coalesce(max(n) FILTER (WHERE "+condition+"), 0), coalesce(min(n) FILTER (WHERE NOT "+condition+
+			"), 0) FROM entry WHERE answer IS NOT NULL", value, value).Scan(&s.last, &s.after)
+		if s.last > 0 {
 			found.last = s.last
 		}
-		if !found.after.Valid {
+		if found.after == 0 {
 			found.after = s.after
 		}
+		return err
+	})
+	if err == nil {
+		err = found.judge(query)
 	}
-	if err := found.judge(query); err != nil {
+	if err != nil {
 		return nil, err
 	}
-	return newPlace(ctx, views, found)
+	p := &place{n: found.last}
+	return p, t.eachView(ctx, func(v *view) error { return p.read(ctx, v) })
 }
 
 // judge refuses what is no place.
 func (s stretch) judge(query AccessQuery) error {
-	last, after := s.last.Int64, s.after.Int64
 	switch {
-	case !s.last.Valid && !s.after.Valid:
+	case s.last == 0 && s.after == 0:
 		return errors.New("the record has no entry")
-	case !s.last.Valid:
-		return fmt.Errorf("what is here of the record begins later, with entry %d: it doesn't show what was before", after)
-	case query.At == "" && last != query.Entry:
+	case s.last == 0:
+		return fmt.Errorf("what is here of the record begins later, with entry %d: it doesn't show what was before", s.after)
+	case query.At == "" && s.last != query.Entry:
 		return fmt.Errorf("entry %d is not here", query.Entry)
-	case s.after.Valid && after < last:
-		return fmt.Errorf("the clock was set back: of the entries %d to %d some are before that time and some after it; choose one with --entry", after-1, last)
-	case s.after.Valid && after > last+1:
-		return fmt.Errorf("entries %d to %d are not here: nobody knows which of them were before that time", last+1, after-1)
+	case s.after > 0 && s.after < s.last:
+		return fmt.Errorf("the clock was set back: of the entries %d to %d some are before that time and some after it; choose one with --entry",
+			s.after-1, s.last)
+	case s.after > s.last+1:
+		return fmt.Errorf("entries %d to %d are not here: nobody knows which of them were before that time", s.last+1, s.after-1)
 	}
 	return nil
 }
@@ -209,31 +180,20 @@ func restoredFrom(e *entry) string {
 	return text.Restored
 }
 
-// newPlace reads what there is to know about a place.
-func newPlace(ctx context.Context, views []*view, found stretch) (*place, error) {
-	p := &place{n: found.last.Int64}
-	for _, v := range views {
-		parts, err := partsOf(ctx, v)
-		if err != nil {
-			return nil, err
+// read reads what a file has about the place.
+func (p *place) read(ctx context.Context, v *view) error {
+	for _, one := range v.parts {
+		if one.first <= p.n {
+			p.first = one.first
 		}
-		for _, one := range parts {
-			if one.first <= p.n {
-				p.first = one.first
-			}
-			p.isAdopted = p.isAdopted || one.first == p.n+1 && one.why == adopted
-		}
-		err = eachEntry(ctx, v.tx, "WHERE n IN (?, ?) AND answer IS NOT NULL", []any{p.n, p.n + 1}, func(e *entry) error {
-			if e.n == p.n {
-				p.at, p.link = e.at, e.ch
-			} else {
-				p.next, p.restored = e.at, restoredFrom(e)
-			}
-			return nil
-		})
-		if err != nil {
-			return nil, err
-		}
+		p.isAdopted = p.isAdopted || one.first == p.n+1 && one.why == adopted
 	}
-	return p, nil
+	return eachEntry(ctx, v.tx, "WHERE n IN (?, ?) AND answer IS NOT NULL", []any{p.n, p.n + 1}, func(e *entry) error {
+		if e.n == p.n {
+			p.at, p.link = e.at, e.ch
+		} else {
+			p.next, p.restored = e.at, restoredFrom(e)
+		}
+		return nil
+	})
 }

@@ -2,7 +2,6 @@ package record
 
 import (
 	"context"
-	"database/sql"
 	"strings"
 	"testing"
 
@@ -10,7 +9,6 @@ import (
 )
 
 func TestStretch(t *testing.T) {
-	some := func(n int64) sql.NullInt64 { return sql.NullInt64{Int64: n, Valid: n > 0} }
 	const at = "2026-11-27T09:00:00.000Z"
 	for _, test := range []struct {
 		name        string
@@ -27,7 +25,7 @@ func TestStretch(t *testing.T) {
 		{"an entry", 7, 8, AccessQuery{Entry: 7}, ""},
 		{"an entry of a part that is not here", 7, 21, AccessQuery{Entry: 9}, "entry 9 is not here"},
 	} {
-		err := stretch{some(test.last), some(test.after)}.judge(test.query)
+		err := stretch{test.last, test.after}.judge(test.query)
 		if (err == nil) != (test.says == "") || err != nil && !strings.Contains(err.Error(), test.says) {
 			t.Errorf("%s: %v", test.name, err)
 		}

@@ -6,12 +6,13 @@ import (
 	"errors"
 	"fmt"
 	"os"
-	"path/filepath"
 	"strings"
 	"unicode"
 	"unicode/utf8"
 
-	"rbac-node/internal/disk"
+	"rbac/clients/go/rbacoffice"
+
+	"rbac-node/internal/state"
 )
 
 const (
@@ -116,12 +117,12 @@ func (t *Tool) adoptFirst(ctx context.Context, by adoption, reason string) error
 	r := newRecord(t.options())
 	defer r.close()
 	p := part{first: 1, why: adopted, adoption: by, reason: reason}
-	err = r.beginWith(ctx, p, now(), func(copied string) error {
-		if has, err := hasCommands(ctx, copied); err != nil || has {
-			return err
+	err = r.beginWith(ctx, p, now(), func(hasCommands bool) error {
+		if hasCommands {
+			return nil
 		}
 		return errNothing
-	}, r.addFirstBase)
+	})
 	if err != nil {
 		return fmt.Errorf("record: %w", err)
 	}
@@ -151,91 +152,62 @@ func (r *Record) adopt(ctx context.Context, tx *sql.Tx, p part, copied string) e
 	return err
 }
 
-// changed compares a mapped copy of the office with what the entries that have an answer give, if the program can do them again.
+// changed compares a mapped copy of the office with what the entries that have an answer give, if librbac gives these answers.
 func (r *Record) changed(ctx context.Context, copied string) (*changes, error) {
-	scratch, end, err := newScratch(r.Office, r.dir, forStart)
+	scratch, end, err := newScratch(r.Office, r.dir)
 	if err != nil {
 		return nil, err
 	}
 	defer end()
-	file := filepath.Join(scratch, rerunFile)
-	n, err := startOf(ctx, r.db, r.dir, file, r.head.n)
+	n, again, err := r.rerunFrom(ctx, scratch, r.head.n)
 	if errors.Is(err, errNoStart) {
 		return nil, nil
 	}
 	if err != nil {
 		return nil, err
 	}
-	again, err := startRerun(r.Program, scratch, r.HangTimeout)
-	if err != nil {
-		return nil, err
-	}
-	err = again.each(ctx, entriesAfter(ctx, r.db, n, r.head.n))
-	err = disk.Close(again, err)
+	defer again.close()
 	var wrong *AnswerError
-	if errors.As(err, &wrong) {
+	if err := again.each(ctx, entriesAfter(ctx, r.db, n, r.head.n)); errors.As(err, &wrong) {
 		return nil, nil
+	} else if err != nil {
+		return nil, err
 	}
+	before, err := again.rows()
 	if err != nil {
 		return nil, err
 	}
-	return compared(ctx, file, copied)
-}
-
-// compared returns the rows of one mapped office that another one has not, and the other way round.
-func compared(ctx context.Context, before, after string) (*changes, error) {
-	c, err := openCopy(after, true)
+	after, err := readRows(ctx, copied, ofCopy, true)
 	if err != nil {
-		return nil, err
-	}
-	defer c.Close()
-	if _, err := c.db.ExecContext(ctx, "ATTACH ? AS given", before); err != nil {
 		return nil, err
 	}
 	found := &changes{Rows: [][]any{}}
-	for _, table := range tables {
-		var count int
-		const both = "SELECT (SELECT count(*) FROM main.sqlite_master WHERE name = ?1) + (SELECT count(*) FROM given.sqlite_master WHERE name = ?1)"
-		if err := c.db.QueryRowContext(ctx, both, table.name).Scan(&count); err != nil {
-			return nil, err
-		}
-		if count < 2 {
-			continue // One of them is of version 1.
-		}
-		for _, one := range []struct {
-			sign, has, lacks string
-			count            *int
-		}{{"-", "given", "main", &found.Removed}, {"+", "main", "given", &found.Added}} {
-			query := fmt.Sprintf("SELECT * FROM %s.%s EXCEPT SELECT * FROM %s.%s", one.has, table.name, one.lacks, table.name)
-			if err := found.add(ctx, c.db, query, one.sign, table.name, one.count); err != nil {
-				return nil, fmt.Errorf("rows of %s: %w", table.name, err)
-			}
-		}
-	}
+	found.compare(before.rows, after.rows)
 	return found, nil
 }
 
-// add counts the rows of a query, and adds the first of them.
-func (c *changes) add(ctx context.Context, db *sql.DB, query, sign, table string, count *int) error {
-	rows, err := db.QueryContext(ctx, query)
-	if err != nil {
-		return err
-	}
-	defer rows.Close()
-	names, err := rows.Columns()
-	if err != nil {
-		return err
-	}
-	for rows.Next() {
-		*count++
-		if len(c.Rows) == mostChanged {
-			continue
+// compare adds the rows that one office has and another one hasn't, and the other way round. Both are in their order.
+func (c *changes) compare(before, after []rbacoffice.Row) {
+	for len(before)+len(after) > 0 {
+		switch {
+		case len(before) > 0 && len(after) > 0 && before[0] == after[0]:
+			before, after = before[1:], after[1:]
+		case len(after) == 0 || len(before) > 0 && state.IsRowBefore(&before[0], &after[0]):
+			c.Removed++
+			c.add("-", &before[0])
+			before = before[1:]
+		default:
+			c.Added++
+			c.add("+", &after[0])
+			after = after[1:]
 		}
-		values := make([]any, len(names))
-		if err := rows.Scan(placesOf(values)...); err != nil {
-			return err
-		}
+	}
+}
+
+// add adds a row as the file of an office has it, if there are few.
+func (c *changes) add(sign string, row *rbacoffice.Row) {
+	if len(c.Rows) < mostChanged {
+		table, values := state.RowInFile(row)
 		c.Rows = append(c.Rows, append([]any{sign, table}, values...))
 	}
-	return rows.Err()
 }

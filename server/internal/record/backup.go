@@ -327,9 +327,12 @@ func copyTable(ctx context.Context, from querier, to *sql.Tx, table string) erro
 		return err
 	}
 	defer insert.Close()
-	values := make([]any, len(names))
+	values, places := make([]any, len(names)), make([]any, len(names))
+	for i := range values {
+		places[i] = &values[i]
+	}
 	for rows.Next() {
-		if err := rows.Scan(placesOf(values)...); err != nil {
+		if err := rows.Scan(places...); err != nil {
 			return err
 		}
 		if _, err := insert.ExecContext(ctx, values...); err != nil {

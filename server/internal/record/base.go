@@ -46,50 +46,45 @@ func basesIn(dir string) ([]base, error) {
 	return found, nil
 }
 
-// mapped maps the sessions of a copy of an office, merges its log, and describes its rows. The program accepts the file before and
-// after that.
-func mapped(ctx context.Context, program, path string) (sums, error) {
+// mapped maps the sessions of a copy of an office, merges its log, and returns the digest of its rows. The program accepts the file
+// before and after that.
+func mapped(ctx context.Context, program, path string) (rows string, err error) {
 	if err := office.Run(ctx, program, "check", path); err != nil {
-		return sums{}, err
+		return "", err
 	}
-	c, err := openCopy(path, false)
+	db, err := openFile(path, ofCopy)
 	if err != nil {
-		return sums{}, err
+		return "", err
 	}
-	var s sums
-	if err = c.mapSessions(ctx); err == nil {
-		s, err = c.sums(ctx)
+	if err := disk.Close(db, mapSessions(ctx, db)); err != nil {
+		return "", err
 	}
-	err = disk.Close(c, err)
+	o, err := readRows(ctx, path, ofCopy, true)
 	if err != nil {
-		return s, err
+		return "", err
 	}
-	return s, office.Run(ctx, program, "check", path)
+	return o.sums().all, office.Run(ctx, program, "check", path)
 }
 
 // addBase makes a mapped copy of the office after the entry n a base, and deletes the oldest ones.
 func addBase(dir, copied string, b base) error {
 	making := filepath.Join(dir, makingName)
-	if err := disk.Copy(copied, making); err != nil {
-		return fmt.Errorf("base copy: %w", err)
+	err := disk.Copy(copied, making)
+	if err == nil {
+		err = disk.Sync(making)
 	}
-	if err := disk.Sync(making); err != nil {
-		return fmt.Errorf("base copy: %w", err)
+	if err == nil {
+		err = os.Rename(making, filepath.Join(dir, b.name()))
 	}
-	if err := os.Rename(making, filepath.Join(dir, b.name())); err != nil {
-		return fmt.Errorf("base copy: %w", err)
+	if err == nil {
+		err = disk.Sync(dir)
 	}
-	if err := disk.Sync(dir); err != nil {
+	if err != nil {
 		return fmt.Errorf("base copy: %w", err)
 	}
 	found, err := basesIn(dir)
-	if err != nil {
-		return err
+	for i := mostBases; err == nil && i < len(found); i++ {
+		err = os.Remove(filepath.Join(dir, found[i].name()))
 	}
-	for i := mostBases; i < len(found); i++ {
-		if err := os.Remove(filepath.Join(dir, found[i].name())); err != nil {
-			return fmt.Errorf("old base copy: %w", err)
-		}
-	}
-	return nil
+	return err
 }

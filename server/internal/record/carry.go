@@ -34,7 +34,7 @@ func (t *Tool) copyNode(ctx context.Context, files []string, to string) error {
 	path := filepath.Join(DirIn(to), fileName)
 	begin, err := beginOf(ctx, path)
 	if err == nil && begin.n <= head.N {
-		err = has(ctx, path, begin, entry{n: head.N, ch: head.Chain})
+		err = has(ctx, path, head)
 	}
 	if err != nil {
 		return err

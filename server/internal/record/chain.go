@@ -27,73 +27,46 @@ func (e *breakError) Error() string { return fmt.Sprintf("the chain breaks at en
 var errBroken = errors.New("somebody has changed the record; keep its folder as it is, find out more by `rbac-node record verify`, and " +
 	"restore office and record from a backup, or move the folder away and let `rbac-node record adopt` begin another record")
 
-// beginOf returns what the first part of a file says of the entry before it.
-func beginOf(ctx context.Context, path string) (entry, error) {
-	v, err := openView(ctx, path)
-	if err != nil {
-		return entry{}, err
-	}
-	defer v.Close()
-	parts, err := partsOf(ctx, v)
-	if err != nil {
-		return entry{}, err
-	}
-	return entry{n: parts[0].first - 1, ch: parts[0].before}, nil
-}
-
 // followChain computes the links of the entries of a file after one, up to a number, and returns the last one.
 func followChain(ctx context.Context, path string, last entry, to int64, each ...func(entry)) (entry, error) {
-	v, err := openView(ctx, path)
-	if err != nil {
-		return last, err
-	}
-	defer v.Close()
-	err = entriesAfter(ctx, v.tx, last.n, to)(func(e *entry) error {
-		if e.n != last.n+1 || chained(last.ch, e) != e.ch {
-			return &breakError{last.n + 1}
-		}
-		last = *e
-		for _, do := range each {
-			do(last)
-		}
-		return nil
+	err := withView(ctx, path, func(v *view) error {
+		return follow(ctx, v.tx, &last, to, func(e *entry) error {
+			for _, do := range each {
+				do(*e)
+			}
+			return nil
+		})
 	})
 	return last, err
 }
 
-// place returns the entry up to which the chain of the file at hand was verified, if it is there.
-func (r *Record) place() (last entry) {
+// place returns the entry up to which the chain of the file at hand was verified, or the one before its first.
+func (r *Record) place(ctx context.Context, v *view) entry {
 	text, err := os.ReadFile(filepath.Join(r.dir, placeName))
 	if err != nil {
-		return last
+		return v.begin()
 	}
 	head, err := ParseHead(strings.TrimSpace(string(text)))
-	if err != nil {
-		return last
+	if link, failed := v.linkOf(ctx, head.N); err != nil || failed != nil || link != head.Chain {
+		return v.begin()
 	}
-	last, err = entryOf(r.db.QueryRow("SELECT "+columns+" FROM entry WHERE n = ?", head.N))
-	if err != nil || last.ch != head.Chain {
-		return entry{}
-	}
-	return last
+	return entry{n: head.N, ch: head.Chain}
 }
 
 // keepPlace writes up to which entry the chain was verified.
 func (r *Record) keepPlace(last entry) error {
-	return disk.Write(filepath.Join(r.dir, placeName), Head{last.n, last.ch}.String()+"\n")
+	return disk.Write(filepath.Join(r.dir, placeName), last.head().String()+"\n")
 }
 
 // verifyStart verifies the chain of the file at hand from the last verified place on.
 func (r *Record) verifyStart(ctx context.Context) (err error) {
-	path, last := filepath.Join(r.dir, fileName), r.place()
-	if last.n == 0 {
-		if last, err = beginOf(ctx, path); err != nil {
-			return err
-		}
-	}
-	r.say(fmt.Sprintf("the chain of the record is verified from entry %d on", last.n+1))
-	last, err = followChain(ctx, path, last, r.head.n)
-	if err == nil && (last.n != r.head.n || last.ch != r.head.ch) {
+	var last entry
+	err = withView(ctx, filepath.Join(r.dir, fileName), func(v *view) error {
+		last = r.place(ctx, v)
+		r.say(fmt.Sprintf("the chain of the record is verified from entry %d on", last.n+1))
+		return follow(ctx, v.tx, &last, r.head.n, func(*entry) error { return nil })
+	})
+	if err == nil && last.head() != r.head.head() {
 		err = &breakError{last.n + 1}
 	}
 	if err != nil {

@@ -7,7 +7,6 @@ import (
 	"path/filepath"
 	"strings"
 	"testing"
-	"time"
 )
 
 // answered records commands with the answers of the office.
@@ -25,7 +24,7 @@ func (b *bench) tool() (*Tool, *bytes.Buffer) {
 		b.Fatal(err)
 	}
 	out := &bytes.Buffer{}
-	return &Tool{Office: b.Office, Program: b.Program, HangTimeout: time.Minute, Out: out, Err: out}, out
+	return &Tool{Office: b.Office, Program: b.Program, Out: out, Err: out}, out
 }
 
 // linkPart gives the file at hand the name of a part, as a cut does before it makes another file.

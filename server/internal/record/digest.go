@@ -2,6 +2,7 @@ package record
 
 import (
 	"net/http"
+	"strings"
 
 	"rbac-node/internal/api"
 	"rbac-node/internal/feed"
@@ -17,13 +18,8 @@ const (
 // recordedText returns what is recorded in place of the text that names a session. The office refuses a text that is no name
 // whatever else it has, so an empty one is refused in the same way.
 func recordedText(text string) string {
-	if len(text) == 0 || len(text) > longestName {
+	if len(text) == 0 || len(text) > longestName || strings.IndexFunc(text, state.IsControl) >= 0 {
 		return ""
-	}
-	for i := 0; i < len(text); i++ {
-		if text[i] < ' ' || text[i] == 0x7f {
-			return ""
-		}
 	}
 	return state.DigestOf(text)
 }

@@ -14,7 +14,6 @@ import (
 	"rbac-node/internal/disk"
 	"rbac-node/internal/logs"
 	"rbac-node/internal/office"
-	"rbac-node/internal/recorded"
 )
 
 // patience is how long a node waits for those who read its record before it divides it at a later snapshot.
@@ -22,7 +21,7 @@ var patience = 5 * time.Second
 
 var (
 	errNodeRuns     = errors.New("a node has the folder: stop it first, or let it divide its record by itself, with --record-part")
-	errNothingToCut = errors.New("there is nothing to cut: the part at hand has no command before the newest snapshot")
+	errNothingToCut = errors.New("there is nothing to cut: the part at hand has no command, or on a node none before the newest snapshot")
 	errOthersRead   = errors.New("another program reads the record, or its disk is full: try again later")
 	errNoSnapshots  = errors.New("there is no snapshot since the record began")
 )
@@ -96,7 +95,7 @@ func cutAt(ctx context.Context, dir string, head Head, rows, copied string) (clo
 		return "", err
 	}
 	defer release()
-	next, err := newNext(ctx, dir, head, rows, copied)
+	next, err := newNext(ctx, dir, joinedAt(head, rows), "", copied)
 	if err != nil {
 		return "", err
 	}
@@ -149,26 +148,6 @@ func (f *Follower) Divide(ctx context.Context, snapshot, text string) {
 	f.Log.Info("the record was divided", "part", closed)
 }
 
-// Recorded is that of a Record, whose files stay as they are meanwhile.
-func (f *Follower) Recorded(ctx context.Context, query recorded.Query) (page recorded.Page, err error) {
-	release, err := share(ctx, f.dir)
-	if err != nil {
-		return page, err
-	}
-	defer release()
-	return f.Record.Recorded(ctx, query)
-}
-
-// Links is that of a Record, whose files stay as they are meanwhile.
-func (f *Follower) Links(ctx context.Context, after int64) (links recorded.Links, err error) {
-	release, err := share(ctx, f.dir)
-	if err != nil {
-		return links, err
-	}
-	defer release()
-	return f.Record.Links(ctx, after)
-}
-
 // divide divides the record while nothing is written to it. Entries wait meanwhile, and as long as the disk is full.
 func (f *Follower) divide(ctx context.Context, head Head, rows, copied string) (closed string, err error) {
 	release, err := exclude(ctx, f.dir)
@@ -178,7 +157,7 @@ func (f *Follower) divide(ctx context.Context, head Head, rows, copied string) (
 	defer release()
 	f.writing.Lock()
 	defer f.writing.Unlock()
-	next, err := newNext(ctx, f.dir, head, rows, copied)
+	next, err := newNext(ctx, f.dir, joinedAt(head, rows), "", copied)
 	if err != nil {
 		return "", err
 	}
@@ -233,7 +212,7 @@ func wait(ctx context.Context, pause time.Duration) error {
 }
 
 // A next file is that in which a record is to go on after a head. It begins with a mapped copy of the office as it was then, and has the
-// entries after the head. No entry says so, since all nodes have the same entries.
+// entries after the head.
 type next struct {
 	dir, making string
 	// first is that of the part that is to be closed.
@@ -241,18 +220,18 @@ type next struct {
 	head  Head
 }
 
-// newNext makes the file in which a record is to go on, which nobody writes meanwhile.
-func newNext(ctx context.Context, dir string, head Head, rows, copied string) (*next, error) {
+// newNext makes the file in which a record is to go on with a part, and which nobody writes meanwhile.
+func newNext(ctx context.Context, dir string, p part, at, copied string) (*next, error) {
 	if err := tidyParts(dir); err != nil {
 		return nil, err
 	}
-	path := filepath.Join(dir, fileName)
+	path, head := filepath.Join(dir, fileName), Head{p.first - 1, p.before}
 	begin, err := beginOf(ctx, path)
-	if err == nil && begin.n >= head.N {
+	if err == nil && (begin.n >= head.N || p.why == continued && begin.n+1 == head.N) {
 		err = errNothingToCut
 	}
 	if err == nil {
-		err = has(ctx, path, begin, entry{n: head.N, ch: head.Chain})
+		err = has(ctx, path, head)
 	}
 	if err != nil {
 		return nil, err
@@ -261,7 +240,7 @@ func newNext(ctx context.Context, dir string, head Head, rows, copied string) (*
 	if _, err := followChain(ctx, path, entry{n: head.N, ch: head.Chain}, 1<<62, func(e entry) { later = append(later, e) }); err != nil {
 		return nil, err
 	}
-	making, err := makeNext(dir, part{first: head.N + 1, why: joined, before: head.Chain, rows: rows}, "", copied, later)
+	making, err := makeNext(dir, p, at, copied, later)
 	if err != nil {
 		return nil, err
 	}
@@ -314,17 +293,22 @@ func hasLater(ctx context.Context, part querier, path string, named int64) (bool
 		return false, err
 	}
 	current := filepath.Join(filepath.Dir(path), fileName)
-	begin, err := beginOf(ctx, current)
-	return err == nil && begin.n == named && has(ctx, current, begin, last) == nil, nil // It may be elsewhere.
+	at, err := beginOf(ctx, current)
+	if err != nil || at.n != named {
+		return false, nil // It may be elsewhere.
+	}
+	// Since each leads to the next, all are those of the file at hand if the last one is.
+	err = follow(ctx, part, &at, last.n, func(*entry) error { return nil })
+	return err == nil && at == last && has(ctx, current, last.head()) == nil, nil
 }
 
 // hideLater hides the entries that a crash has left in an earlier part.
-func (v *view) hideLater(ctx context.Context, path string) error {
-	_, named, is := namesOf(path)
+func (v *view) hideLater(ctx context.Context) error {
+	_, named, is := namesOf(v.path)
 	if !is {
 		return nil
 	}
-	has, err := hasLater(ctx, v.tx, path, named)
+	has, err := hasLater(ctx, v.tx, v.path, named)
 	if err != nil || !has {
 		return err
 	}

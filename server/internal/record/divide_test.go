@@ -167,7 +167,7 @@ func (m *machine) divideUntil(step, snapshot, text string) {
 	}
 	var made *next
 	err = m.withCopy(context.Background(), snapshot, func(copied, rows string) (err error) {
-		made, err = newNext(context.Background(), m.dir, head, rows, copied)
+		made, err = newNext(context.Background(), m.dir, joinedAt(head, rows), "", copied)
 		return err
 	})
 	if err == nil {

@@ -72,6 +72,9 @@ func (e *entry) values() []any {
 	return []any{e.n, e.at, e.caller, e.reason, e.request, e.answer, e.found, e.ch}
 }
 
+// head returns the number and the link.
+func (e *entry) head() Head { return Head{e.n, e.ch} }
+
 // size returns about how many bytes the entry takes.
 func (e *entry) size() int { return len(e.request) + len(e.answer) + len(e.reason) + len(e.caller) }
 

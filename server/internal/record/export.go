@@ -112,79 +112,47 @@ func (x *exporter) writePlace() error {
 
 // sendNew sends the entries behind the place.
 func (x *exporter) sendNew(ctx context.Context) error {
-	files, release, err := x.files(ctx)
-	if err != nil {
-		return err
-	}
-	defer release()
-	for _, path := range files {
-		if err := x.sendFile(ctx, path); err != nil {
+	return x.eachView(ctx, func(v *view) error {
+		if v.answered.n < x.sent.N {
+			return nil
+		}
+		if err := x.join(ctx, v); err != nil {
 			return err
 		}
-	}
-	return nil
-}
-
-// sendFile sends the entries of a file that are behind the place.
-func (x *exporter) sendFile(ctx context.Context, path string) error {
-	v, err := openView(ctx, path)
-	if err != nil {
-		return err
-	}
-	defer v.Close()
-	answered, _, err := lastOf(v.tx)
-	if err != nil || answered.n < x.sent.N {
-		return err
-	}
-	if err := x.join(ctx, v); err != nil {
-		return err
-	}
-	if _, err := x.sender.connect(ctx); err != nil {
-		return err
-	}
-	return eachEntry(ctx, v.tx, "WHERE n > ? AND n <= ? ORDER BY n", []any{x.sent.N, answered.n}, func(e *entry) error {
-		if e.n != x.sent.N+1 {
-			return fmt.Errorf("entry %d is missing", x.sent.N+1)
-		}
-		if chained(x.sent.Chain, e) != e.ch {
-			return fmt.Errorf("the chain breaks at entry %d: it or the one before it was changed", e.n)
-		}
-		if err := x.sender.send(ctx, x.name, e); err != nil {
+		if _, err := x.sender.connect(ctx); err != nil {
 			return err
 		}
-		x.sent = Head{e.n, e.ch}
-		if e.n%exportBatch == 0 {
-			return x.writePlace()
-		}
-		return ctx.Err()
+		last := entry{n: x.sent.N, ch: x.sent.Chain}
+		return follow(ctx, v.tx, &last, v.answered.n, func(e *entry) error {
+			if err := x.sender.send(ctx, x.name, e); err != nil {
+				return err
+			}
+			if x.sent = e.head(); e.n%exportBatch == 0 {
+				return x.writePlace()
+			}
+			return ctx.Err()
+		})
 	})
 }
 
 // join compares the place with a file, in which it is or after which the file follows.
 func (x *exporter) join(ctx context.Context, v *view) error {
-	parts, err := partsOf(ctx, v)
-	if err != nil {
-		return err
+	begin := v.begin()
+	if x.sent.N == 0 {
+		if begin.n > 0 {
+			fmt.Fprintln(x.Err, missing(1, v.parts[0]))
+		}
+		x.sent = begin.head()
 	}
-	first := parts[0]
+	if begin.n > x.sent.N {
+		return errors.New(missing(x.sent.N+1, v.parts[0]))
+	}
+	link, err := v.linkOf(ctx, x.sent.N)
 	switch {
-	case x.sent.N == 0:
-		if first.first > 1 {
-			fmt.Fprintln(x.Err, missing(1, first))
-		}
-		x.sent = Head{first.first - 1, first.before}
-	case first.first > x.sent.N+1:
-		return errors.New(missing(x.sent.N+1, first))
-	case first.first == x.sent.N+1 && first.before != x.sent.Chain:
-		return fmt.Errorf("the part that begins with entry %d does not follow entry %d, which was sent", first.first, x.sent.N)
-	case first.first <= x.sent.N:
-		var link string
-		if err := v.tx.QueryRowContext(ctx, "SELECT coalesce(chain, '') FROM entry WHERE n = ?", x.sent.N).Scan(&link); err != nil {
-			return fmt.Errorf("entry %d, which was sent, is not here: %w", x.sent.N, err)
-		}
-		if link != x.sent.Chain {
-			return fmt.Errorf("entry %d has another link than the one that was sent: somebody has written the record", x.sent.N)
-		}
+	case err != nil || link == x.sent.Chain:
+		return err
+	case link == "":
+		return fmt.Errorf("entry %d, which was sent, is not here", x.sent.N)
 	}
-	return nil
+	return fmt.Errorf("entry %d has another link than the one that was sent: somebody has written the record", x.sent.N)
 }

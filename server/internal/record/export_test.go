@@ -201,7 +201,7 @@ func TestExportChanged(t *testing.T) {
 		{"it was removed", "DELETE FROM entry WHERE n >= 3", false, ""},
 		{"it is missing", "DELETE FROM entry WHERE n = 3", false, "entry 3, which was sent, is not here"},
 		{"a later one", "UPDATE entry SET caller = 'x' WHERE n = 4", false, "the chain breaks at entry 4"},
-		{"a later one is missing", "DELETE FROM entry WHERE n = 4", false, "entry 4 is missing"},
+		{"a later one is missing", "DELETE FROM entry WHERE n = 4", false, "the chain breaks at entry 4"},
 	} {
 		t.Run(test.name, func(t *testing.T) {
 			b, r := open(t), newReceiver(t)

@@ -110,8 +110,8 @@ func (f *Follower) resume(ctx context.Context, text string, isFetched bool) erro
 	}
 	if !has {
 		f.Log.Warn("the record begins with a snapshot: earlier entries are not here", "first", head.N+1)
-		p := part{first: head.N + 1, why: joined, before: head.Chain}
-		if err := f.beginWith(ctx, p, "", refuseNone, func(string, string) error { return nil }); err != nil {
+		// The log has the commands before it, so it may begin over any office.
+		if err := f.beginWith(ctx, joinedAt(head, ""), "", func(bool) error { return nil }); err != nil {
 			return err
 		}
 	}
@@ -122,13 +122,11 @@ var errMoveAway = errors.New("restore the record of this node, or move it away")
 
 // closeBefore makes a file that ends before an entry an earlier part, and reports whether there is still a file.
 func (f *Follower) closeBefore(n int64) (has bool, err error) {
-	path := filepath.Join(f.dir, fileName)
-	db, err := openFile(path, "_busy_timeout="+busy)
-	if err != nil {
-		return true, err
-	}
-	first, last, err := endsOf(db)
-	err = disk.Close(db, err)
+	var first, last int64
+	err = withView(context.Background(), f.path(), func(v *view) error {
+		first, last = v.parts[0].first, v.answered.n
+		return nil
+	})
 	if err != nil || last >= n {
 		return true, err
 	}
@@ -137,29 +135,11 @@ func (f *Follower) closeBefore(n int64) (has bool, err error) {
 		return true, err
 	}
 	defer release()
-	return false, renamePart(f.dir, first, last)
-}
-
-// endsOf returns the first and the last entry of a file.
-func endsOf(db querier) (first, last int64, err error) {
-	if err := db.QueryRow("SELECT min(first) FROM part").Scan(&first); err != nil {
-		return 0, 0, err
+	if err := mergeLog(f.path()); err != nil {
+		return true, err
 	}
-	answered, _, err := lastOf(db)
-	return first, answered.n, err
+	return false, os.Rename(f.path(), partPath(f.dir, first, last))
 }
-
-// renamePart gives the file of a record, whose log is merged, the name of an earlier part.
-func renamePart(dir string, first, last int64) error {
-	path := filepath.Join(dir, fileName)
-	if _, err := os.Stat(path + walSuffix); !errors.Is(err, os.ErrNotExist) {
-		return errOthersRead
-	}
-	return os.Rename(path, partPath(dir, first, last))
-}
-
-// refuseNone lets the record of a node begin over any office: the log has the commands before it.
-func refuseNone(string) error { return nil }
 
 // HasBegun reports whether there is a record: it begins with the first entry of the log that says who asks.
 func (f *Follower) HasBegun() bool {
@@ -246,7 +226,7 @@ func (f *Follower) Added() string {
 	if !f.begun {
 		return ""
 	}
-	return Head{f.added.n, f.added.ch}.String()
+	return f.added.head().String()
 }
 
 // Room waits until few entries wait to be written. If they can't be written, and too many wait, the node has to end: after its next

@@ -12,7 +12,6 @@ import (
 	"reflect"
 	"strings"
 	"testing"
-	"time"
 
 	"rbac-node/internal/api"
 	"rbac-node/internal/disk"
@@ -63,7 +62,7 @@ func (m *machine) start(snapshot string) {
 		m.Fatalf("%s", said)
 	}
 	m.Follower = NewFollower(Options{
-		Office: file, Program: programtest.Path(m.T), Dir: DirIn(m.data), HangTimeout: time.Minute, Log: logs.New(io.Discard),
+		Office: file, Program: programtest.Path(m.T), Dir: DirIn(m.data), Log: logs.New(io.Discard),
 	})
 	m.Cleanup(func() { _ = m.Close() })
 }
@@ -151,7 +150,7 @@ func (m *machine) verify(head *Head) (string, error) {
 	if head != nil {
 		heads = append(heads, *head)
 	}
-	err := (&Tool{Data: m.data, Program: m.Program, HangTimeout: time.Minute, Out: out}).Verify(context.Background(), heads)
+	err := (&Tool{Data: m.data, Program: m.Program, Out: out}).Verify(context.Background(), heads)
 	return out.String(), err
 }
 
@@ -287,7 +286,7 @@ func TestCutNode(t *testing.T) {
 	}
 	cut := func() (string, error) {
 		out := &bytes.Buffer{}
-		err := (&Tool{Data: first.data, Program: first.Program, HangTimeout: time.Minute, Out: out}).Cut(context.Background())
+		err := (&Tool{Data: first.data, Program: first.Program, Out: out}).Cut(context.Background())
 		return out.String(), err
 	}
 	_ = first.Close()
@@ -340,7 +339,7 @@ func TestCarry(t *testing.T) {
 	m.do(assign, login)
 	m.flush("NORMAL")
 	folder, out := t.TempDir(), &bytes.Buffer{}
-	tool := &Tool{Data: m.data, Program: m.Program, HangTimeout: time.Minute, Out: out}
+	tool := &Tool{Data: m.data, Program: m.Program, Out: out}
 	if err := tool.Backup(context.Background(), folder); err != nil {
 		t.Fatal(err)
 	}
@@ -349,7 +348,7 @@ func TestCarry(t *testing.T) {
 		t.Errorf("%s%v", said, err)
 	}
 	data := t.TempDir()
-	options := Options{Program: m.Program, Dir: DirIn(data), HangTimeout: time.Minute, Log: logs.New(io.Discard)}
+	options := Options{Program: m.Program, Dir: DirIn(data), Log: logs.New(io.Discard)}
 	snapshot, head, err := Carry(context.Background(), options, backup)
 	if err != nil || head.N != 6 || filepath.Dir(filepath.Dir(snapshot)) != backup {
 		t.Fatalf("%s, %v, %v", snapshot, head, err)

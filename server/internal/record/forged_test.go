@@ -9,7 +9,6 @@ import (
 	"path/filepath"
 	"strings"
 	"testing"
-	"time"
 )
 
 // change changes a file of a record by SQL, as somebody does who can write it.
@@ -44,6 +43,10 @@ func TestForged(t *testing.T) {
 		{"an entry of the first part in the second", func(b *bench, _, current string) {
 			change(b.T, current, "INSERT INTO entry VALUES (2"+forgedEntry)
 		}, "it has entry 2"},
+		{"entries of the second part in the first, one of which is another one", func(b *bench, first, current string) {
+			change(b.T, first, "ATTACH '"+current+"' AS other", "INSERT INTO entry SELECT * FROM other.entry WHERE n = 5",
+				"INSERT INTO entry VALUES (4"+forgedEntry)
+		}, "entry 4 has no answer"},
 		{"a part that joins", func(b *bench, first, current string) {
 			if err := os.Remove(first); err != nil {
 				b.Fatal(err)
@@ -60,6 +63,28 @@ func TestForged(t *testing.T) {
 		{"a part that begins in the middle of a file", func(b *bench, _, current string) {
 			change(b.T, current, "INSERT INTO part SELECT 6, 'begins', '', rows, office FROM part")
 		}, `can't say "begins"`},
+		{"a trigger in the copy of the office", func(b *bench, _, current string) {
+			made := filepath.Join(b.TempDir(), "made")
+			db, err := openFile(current, "")
+			if err != nil {
+				b.Fatal(err)
+			}
+			defer db.Close()
+			var text []byte
+			if err = db.QueryRow("SELECT office FROM part").Scan(&text); err == nil {
+				err = os.WriteFile(made, text, 0o600)
+			}
+			if err == nil {
+				change(b.T, made, "CREATE TRIGGER more AFTER INSERT ON name_row BEGIN DELETE FROM locked_row; END")
+				text, err = os.ReadFile(made)
+			}
+			if err == nil {
+				_, err = db.Exec("UPDATE part SET office = ?", text)
+			}
+			if err != nil {
+				b.Fatal(err)
+			}
+		}, "the copy of the office at entry 4 is not what the entry says"},
 		{"a part for a reason that there isn't", func(b *bench, _, current string) {
 			change(b.T, current, "UPDATE part SET why = 'rests'")
 		}, `can't say "rests"`},
@@ -221,7 +246,7 @@ func TestMovedAway(t *testing.T) {
 		t.Errorf("without a part: %v", err)
 	}
 	out := &strings.Builder{}
-	alone := &Tool{Part: path, Program: b.Program, HangTimeout: time.Minute, Out: out, Err: out}
+	alone := &Tool{Part: path, Program: b.Program, Out: out, Err: out}
 	if err := alone.Verify(ctx, nil); err != nil || !strings.Contains(out.String(), "entries 1 to 3: the chain holds") {
 		t.Errorf("a part alone: %v, %s", err, out)
 	}

@@ -73,7 +73,7 @@ func ReadHeads(file io.Reader) (heads []Head, err error) {
 func (r *Record) Head() Head {
 	r.mutex.Lock()
 	defer r.mutex.Unlock()
-	return Head{r.head.n, r.head.ch}
+	return r.head.head()
 }
 
 // DurableHead returns the head, and makes the entries up to it durable. Otherwise the answers that a power loss takes would be found

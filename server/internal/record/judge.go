@@ -7,8 +7,6 @@ import (
 	"os"
 	"path/filepath"
 	"strings"
-
-	"rbac-node/internal/disk"
 )
 
 // objectsOf returns the tables, indexes, views and triggers of a file, each with the statement that makes it.
@@ -61,8 +59,8 @@ func judgeFile(ctx context.Context, opened *view) error {
 }
 
 // judgeParts refuses parts of a file that no program has begun, and entries before the first one.
-func (v *verifier) judgeParts(ctx context.Context, opened *view, parts []part) error {
-	for i, p := range parts {
+func (v *verifier) judgeParts(ctx context.Context, opened *view) error {
+	for i, p := range opened.parts {
 		canBe := false
 		switch p.why {
 		case beginning:
@@ -78,35 +76,35 @@ func (v *verifier) judgeParts(ctx context.Context, opened *view, parts []part) e
 			return fmt.Errorf("the part that begins with entry %d can't say %q: somebody has written it", p.first, p.why)
 		}
 	}
+	first := opened.parts[0].first
 	var n int64
-	err := opened.tx.QueryRowContext(ctx, "SELECT coalesce(min(n), ?) FROM entry", parts[0].first).Scan(&n)
-	if err == nil && n < parts[0].first {
-		err = fmt.Errorf("it has entry %d, and begins with entry %d", n, parts[0].first)
+	err := opened.tx.QueryRowContext(ctx, "SELECT coalesce(min(n), ?) FROM entry", first).Scan(&n)
+	if err == nil && n < first {
+		err = fmt.Errorf("it has entry %d, and begins with entry %d", n, first)
 	}
 	return err
 }
 
 // compareBases does the entries of a part up to each base copy of the office, and compares the rows. A start trusts these copies.
 func (v *verifier) compareBases(ctx context.Context, opened *view, p part, end int64, again *rerun) error {
-	for _, b := range v.bases {
+	for i := len(v.bases) - 1; i >= 0; i-- {
+		b := v.bases[i]
 		if b.n < p.first || b.n > end {
 			continue
 		}
 		if err := again.each(ctx, v.checked(ctx, opened, p, b.n)); err != nil {
 			return err
 		}
-		given, err := again.sums(ctx)
+		given, err := again.sums()
 		if err != nil {
 			return err
 		}
-		file := filepath.Join(v.scratch, "base")
-		if err := disk.Copy(filepath.Join(v.dir(), b.name()), file); errors.Is(err, os.ErrNotExist) {
+		path := filepath.Join(v.dir(), b.name())
+		o, err := readRows(ctx, path, ofUnchanged, true)
+		if _, gone := os.Stat(path); errors.Is(gone, os.ErrNotExist) {
 			continue // A newer one has taken its place meanwhile.
-		} else if err != nil {
-			return err
 		}
-		rows, err := rowsOf(ctx, file)
-		if err != nil || rows != given.all || b.rows != given.all {
+		if err != nil || o.sums() != given || b.rows != given.all {
 			return fmt.Errorf("the base copy %s is not what the record gives at entry %d: delete it, and compare the office", b.name(), b.n)
 		}
 	}

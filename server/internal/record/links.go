@@ -12,59 +12,46 @@ const (
 	mostLinked, mostLinkedBytes = 1000, 1 << 20
 )
 
-// Links returns the next entries after one, up to the head.
-func (r *Record) Links(ctx context.Context, after int64) (links recorded.Links, err error) {
-	head, err := r.DurableHead()
-	if err != nil {
-		return links, err
-	}
-	links.Head = head.String()
-	files, err := filesOf(r.dir)
-	if err != nil {
-		return links, err
-	}
-	next := files[:0]
-	for i := len(files) - 1; i >= 0; i-- {
-		first, err := firstIn(ctx, files[i])
-		if err != nil {
-			return links, err
-		}
-		next, links.First = files[i:], first
-		if first <= after+1 {
-			break
+// fileOf returns the index of the file that has an entry or begins after it, or of the first one if that begins later.
+func fileOf(ctx context.Context, files []string, n int64) (int, error) {
+	for i := len(files) - 1; ; i-- {
+		begin, err := beginOf(ctx, files[i])
+		if err != nil || begin.n <= n || i == 0 {
+			return i, err
 		}
 	}
-	for i, path := range next {
-		if err := addLinks(ctx, &links, path, after, head.N); err != nil {
-			return links, err
-		}
-		if i == 0 && len(links.Entries) == 0 && len(next) > 1 {
-			links.First, err = firstIn(ctx, next[1])
-		}
-	}
-	return links, err
 }
 
-// addLinks adds entries of a file after one, up to another one, while there is room.
-func addLinks(ctx context.Context, links *recorded.Links, path string, after, last int64) error {
-	v, err := openView(ctx, path)
+// Links returns the next entries after one, up to the head.
+func (r *Record) Links(ctx context.Context, after int64) (links recorded.Links, err error) {
+	head, files, release, err := r.shared(ctx)
 	if err != nil {
-		return err
+		return links, err
 	}
-	defer v.Close()
-	bytes := 0
-	err = entriesAfter(ctx, v.tx, after, last)(func(e *entry) error {
-		if len(links.Entries) == mostLinked || bytes >= mostLinkedBytes {
-			return errEnough
-		}
-		links.Entries = append(links.Entries, e.fields())
-		bytes += e.size()
-		return nil
-	})
-	if errors.Is(err, errEnough) {
-		return nil
+	defer release()
+	links.Head = head.String()
+	bytes, isEnough := 0, false
+	i, err := fileOf(ctx, files, after)
+	for ; err == nil && !isEnough && i < len(files); i++ {
+		err = withView(ctx, files[i], func(v *view) error {
+			if len(links.Entries) == 0 {
+				links.First = v.parts[0].first
+			}
+			err := entriesAfter(ctx, v.tx, after, head.N)(func(e *entry) error {
+				if len(links.Entries) == mostLinked || bytes >= mostLinkedBytes {
+					return errEnough
+				}
+				links.Entries = append(links.Entries, e.fields())
+				bytes += e.size()
+				return nil
+			})
+			if isEnough = errors.Is(err, errEnough); isEnough {
+				return nil
+			}
+			return err
+		})
 	}
-	return err
+	return links, err
 }
 
 // errEnough ends the reading of entries of which only the first are wanted.

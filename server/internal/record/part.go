@@ -30,6 +30,11 @@ type part struct {
 	reason            string
 }
 
+// joinedAt returns the part of a node that begins with a snapshot after a head.
+func joinedAt(head Head, rows string) part {
+	return part{first: head.N + 1, why: joined, before: head.Chain, rows: rows}
+}
+
 // entry returns the entry that says how a part begins, or nil if there is none.
 func (p *part) entry(at string) *entry {
 	if p.why == joined {

@@ -2,14 +2,12 @@ package record
 
 import (
 	"context"
-	"database/sql"
 	"errors"
 	"fmt"
 	"os"
 	"path/filepath"
 	"time"
 
-	"rbac-node/internal/disk"
 	"rbac-node/internal/faults"
 	"rbac-node/internal/office"
 )
@@ -23,7 +21,7 @@ func (r *Record) Before(ctx context.Context) error {
 		return err
 	}
 	r.hasReserve, r.triedReserve = false, time.Time{} // The next command makes it again, once a replay has opened the office.
-	scratch, end, err := newScratch(r.Office, r.dir, forStart)
+	scratch, end, err := newScratch(r.Office, r.dir)
 	if err != nil {
 		return fmt.Errorf("record: %w", err)
 	}
@@ -53,15 +51,11 @@ func (r *Record) reconcile(ctx context.Context, scratch string) error {
 		}
 		return nil
 	}
-	n, err := startOf(ctx, r.db, r.dir, filepath.Join(scratch, rerunFile), answered.n)
+	n, again, err := r.rerunFrom(ctx, scratch, answered.n)
 	if err != nil {
 		return err
 	}
-	again, err := startRerun(r.Program, scratch, r.HangTimeout)
-	if err != nil {
-		return err
-	}
-	defer func() { _ = again.Close() }() // What it has done is thrown away.
+	defer again.close()
 	if err := again.each(ctx, r.reporting(entriesAfter(ctx, r.db, n, answered.n), answered.n-n)); err != nil {
 		return err
 	}
@@ -69,7 +63,7 @@ func (r *Record) reconcile(ctx context.Context, scratch string) error {
 	if err != nil {
 		return err
 	}
-	done, err := again.fit(ctx, open, want)
+	done, err := again.fit(ctx, open, &want)
 	if err != nil {
 		return err
 	}
@@ -123,20 +117,18 @@ func sumsOf(ctx context.Context, program, file, copied string) (s sums, err erro
 			_ = os.Remove(left) // The folder is removed too.
 		}
 	}()
-	var c *officeCopy
+	path, options := file, ofUnchanged
 	if log, logErr := os.Stat(file + walSuffix); logErr == nil && log.Size() > 0 {
 		if err := copyOffice(file, copied); err != nil {
 			return s, err
 		}
-		c, err = openCopy(copied, false)
-	} else {
-		c, err = openUnchanged(file)
+		path, options = copied, ofCopy
 	}
+	o, err := readRows(ctx, path, options, false)
 	if err == nil {
-		defer c.Close()
-		s, err = c.sums(ctx)
+		return o.sums(), nil
 	}
-	if err == nil || errors.Is(err, errTwoNames) || copyOffice(file, copied) != nil {
+	if errors.Is(err, errTwoNames) || copyOffice(file, copied) != nil {
 		return s, err
 	}
 	if refused := office.Run(ctx, program, "check", copied); refused != nil {
@@ -147,49 +139,45 @@ func sumsOf(ctx context.Context, program, file, copied string) (s sums, err erro
 
 var errNoStart = errors.New("no copy of the office is what the record says that it is: restore the record from a backup")
 
-// startOf copies to a file the newest copy of the office that is at most as new as an entry, and returns after which entry it was
+// rerunFrom starts a rerun over the newest copy of the office that is at most as new as an entry, and returns after which entry it was
 // made. A copy that has other rows than it should have is passed over.
-func startOf(ctx context.Context, db *sql.DB, dir, to string, newest int64) (int64, error) {
-	var n int64
-	var rows string
-	if err := db.QueryRowContext(ctx, "SELECT first, rows FROM part ORDER BY first DESC LIMIT 1").Scan(&n, &rows); err != nil {
-		return 0, err
+func (r *Record) rerunFrom(ctx context.Context, scratch string, newest int64) (n int64, again *rerun, err error) {
+	var p part
+	if err := r.db.QueryRowContext(ctx, "SELECT first, rows FROM part ORDER BY first DESC LIMIT 1").Scan(&p.first, &p.rows); err != nil {
+		return 0, nil, err
 	}
-	bases, err := basesIn(dir)
+	bases, err := basesIn(r.dir)
 	if err != nil {
-		return 0, err
+		return 0, nil, err
 	}
 	for _, b := range bases {
-		if b.n < n || b.n > newest || disk.Copy(filepath.Join(dir, b.name()), to) != nil {
+		if b.n < p.first || b.n > newest {
 			continue
 		}
-		if rows, err := rowsOf(ctx, to); err == nil && rows == b.rows {
-			return b.n, nil
+		if o, err := readRows(ctx, filepath.Join(r.dir, b.name()), ofUnchanged, true); err == nil && o.sums().all == b.rows {
+			again, err := startRerun(o)
+			return b.n, again, err
 		}
 	}
-	var text []byte
-	err = db.QueryRowContext(ctx, "SELECT office FROM part WHERE first = ?", n).Scan(&text)
-	if err == nil {
-		err = os.WriteFile(to, text, 0o600)
-	}
-	if err != nil {
-		return 0, err
-	}
-	if given, err := rowsOf(ctx, to); err != nil || given != rows {
-		return 0, errNoStart
-	}
-	return n, nil
+	again, err = p.rerun(ctx, r.Program, r.db, scratch)
+	return p.first, again, err
 }
 
-// rowsOf returns the digest of all rows of a mapped copy.
-func rowsOf(ctx context.Context, path string) (string, error) {
-	c, err := openCopy(path, true)
-	if err != nil {
-		return "", err
+// rerun starts a rerun over the copy of the office with which the part begins. The program has to accept it too.
+func (p *part) rerun(ctx context.Context, program string, db querier, scratch string) (*rerun, error) {
+	var text []byte
+	if err := db.QueryRow("SELECT office FROM part WHERE first = ?", p.first).Scan(&text); err != nil {
+		return nil, err
 	}
-	defer c.Close()
-	s, err := c.sums(ctx)
-	return s.all, err
+	file := filepath.Join(scratch, "part")
+	if err := os.WriteFile(file, text, 0o600); err != nil {
+		return nil, err
+	}
+	o, err := readRows(ctx, file, ofUnchanged, true)
+	if err != nil || o.sums().all != p.rows || office.Run(ctx, program, "check", file) != nil {
+		return nil, errNoStart
+	}
+	return startRerun(o)
 }
 
 // Entries call a function with entries, one after another, until it fails.

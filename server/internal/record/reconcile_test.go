@@ -10,7 +10,6 @@ import (
 	"strings"
 	"sync"
 	"testing"
-	"time"
 
 	"rbac-node/internal/api"
 	"rbac-node/internal/feed"
@@ -66,7 +65,7 @@ func (b *bench) reopen(file string) {
 	b.Helper()
 	var err error
 	b.Record, err = Open(context.Background(), Options{
-		Office: file, Program: programtest.Path(b.T), HangTimeout: time.Minute, Every: 1000, Log: logs.New(&b.log),
+		Office: file, Program: programtest.Path(b.T), Every: 1000, Log: logs.New(&b.log),
 	})
 	if err != nil {
 		b.Fatal(err)
@@ -191,13 +190,17 @@ func TestBeforeRefuses(t *testing.T) {
 			if err := b.Keep(answer(b.ask(addAnn), []string{`{"code":3,"error":"UserExists"}`}), nil); err != nil {
 				b.Fatal(err)
 			}
-		}, "and the program gives"},
+		}, "and librbac gives"},
 		{"an entry that is missing", func(b *bench) {
 			b.ask(addAnn, addRole)
 			if _, err := b.db.Exec("DELETE FROM entry WHERE n = 2"); err != nil {
 				b.Fatal(err)
 			}
 		}, "entry 2 is missing"},
+		{"a name that has the names of a row", func(b *bench) {
+			b.answered(addAnn, addRole, assign)
+			change(b.T, b.Office, "UPDATE pair_row SET a = 'ann' || char(9) || 'clerk', b = ''")
+		}, "Damaged"},
 		{"no office", func(b *bench) { _ = os.Truncate(b.Office, 0) }, "NotAnOffice"},
 		{"neither a base nor a beginning", func(b *bench) {
 			b.ask(addAnn)
@@ -294,8 +297,8 @@ func TestSessions(t *testing.T) {
 	if err := copyOffice(b.Office, copied); err != nil {
 		t.Fatal(err)
 	}
-	if given, err := mapped(context.Background(), b.Program, copied); err != nil || given.all != plain.all {
-		t.Errorf("%v, %v and not %v", err, given.all, plain.all)
+	if given, err := mapped(context.Background(), b.Program, copied); err != nil || given != plain.all {
+		t.Errorf("%v, %v and not %v", err, given, plain.all)
 	}
 	if text, err := os.ReadFile(copied); err != nil || bytes.Contains(text, []byte("secret")) {
 		t.Errorf("%v, or a name is left", err)

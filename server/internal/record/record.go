@@ -40,8 +40,6 @@ type Options struct {
 	// Office is the file of the office, and Program the proved program. Dir is the folder of the record, which is beside the office if
 	// nothing else is said.
 	Office, Program, Dir string
-	// HangTimeout is how long a replay of the record may answer nothing.
-	HangTimeout time.Duration
 	// Every is how many commands there are between two base copies.
 	Every int64
 	// PartEntries is from how many entries on a node divides its record at a snapshot. Zero is never.
@@ -180,51 +178,33 @@ var errNoRecord = errors.New("the office has commands, and no record: restore bo
 // begin makes a record that begins with the office as it is, which has no command. After a crash there is a whole record or none.
 func (r *Record) begin(ctx context.Context) error {
 	r.say("the office is copied, since its record begins")
-	return r.beginWith(ctx, part{first: 1, why: beginning}, now(), func(copied string) error {
-		if has, err := hasCommands(ctx, copied); err != nil || !has {
-			return err
+	return r.beginWith(ctx, part{first: 1, why: beginning}, now(), func(hasCommands bool) error {
+		if hasCommands {
+			return errNoRecord
 		}
-		return errNoRecord
-	}, r.addFirstBase)
+		return nil
+	})
 }
 
-// addFirstBase makes the copy of the office with which the record begins a base.
-func (r *Record) addFirstBase(copied, rows string) error {
-	return addBase(r.dir, copied, base{1, rows})
-}
-
-// hasCommands reports whether a mapped copy of the office has rows that commands have made.
-func hasCommands(ctx context.Context, copied string) (bool, error) {
-	c, err := openCopy(copied, true)
-	if err != nil {
-		return false, err
-	}
-	defer c.Close()
-	for i, table := range tables {
-		count, err := c.count(ctx, i)
-		if err != nil || count > 0 && table.name != "meta_row" {
-			return true, err
-		}
-	}
-	return false, nil
-}
-
-// beginWith makes a file that begins with the office as it is, unless that is refused, and then does something more.
-func (r *Record) beginWith(
-	ctx context.Context, p part, at string, refuse func(copied string) error, more func(copied, rows string) error,
-) error {
+// beginWith makes a file that begins with the office as it is, unless that is refused, which may depend on whether the office has rows that
+// commands have made. One that says how it begins has a base copy too.
+func (r *Record) beginWith(ctx context.Context, p part, at string, refuse func(hasCommands bool) error) error {
 	if err := os.Mkdir(r.dir, 0o700); err != nil && !errors.Is(err, os.ErrExist) {
 		return err
 	}
 	err := r.withCopy(ctx, r.Office, func(copied, rows string) error {
-		if err := refuse(copied); err != nil {
+		o, err := readRows(ctx, copied, ofCopy, true)
+		if err == nil {
+			err = refuse(len(o.rows) > 0)
+		}
+		if err != nil {
 			return err
 		}
 		p.rows = rows
-		if err := makeFile(r.dir, p, at, copied); err != nil {
+		if err := makeFile(r.dir, p, at, copied); err != nil || p.why == joined {
 			return err
 		}
-		return more(copied, rows)
+		return addBase(r.dir, copied, base{p.first, rows})
 	})
 	if err != nil {
 		_ = os.Remove(r.dir) // It may have something.
@@ -408,7 +388,7 @@ func (r *Record) IsDue() bool {
 // Rest implements feed.Keeper. No command is at the replay, so the office doesn't change while it is copied. The rest is done
 // while commands go on.
 func (r *Record) Rest() {
-	scratch, end, err := newScratch(r.Office, r.dir, forBase)
+	scratch, end, err := newScratch(r.Office, r.dir)
 	if err == nil {
 		err = copyOffice(r.Office, filepath.Join(scratch, "office"))
 	}
@@ -436,14 +416,19 @@ func (r *Record) Rest() {
 func (r *Record) makeBase(ctx context.Context, scratch string, n int64) error {
 	copied := filepath.Join(scratch, "office")
 	rows, err := mapped(ctx, r.Program, copied)
-	if err != nil {
-		return err
+	if err == nil {
+		err = r.addBase(copied, rows, n)
 	}
-	if err := addBase(r.dir, copied, base{n, rows.all}); err != nil {
-		return err
+	return err
+}
+
+// addBase makes a mapped copy of the office a base.
+func (r *Record) addBase(copied, rows string, n int64) error {
+	err := addBase(r.dir, copied, base{n, rows})
+	if err == nil {
+		r.Log.Info("a base copy of the office was made", "entry", n)
 	}
-	r.Log.Info("a base copy of the office was made", "entry", n)
-	return nil
+	return err
 }
 
 // Close ends the record. If the replay has ended in order, it leaves a base copy, so that the next start has nothing to do again.
@@ -451,13 +436,13 @@ func (r *Record) Close(isInOrder bool) error {
 	r.making.Wait()
 	err := r.write(r.late, nil)
 	if isInOrder && err == nil && len(r.open) == 0 && r.head.n > r.newestBase() {
-		err = r.makeLastBase()
+		err = r.withCopy(r.life, r.Office, func(copied, rows string) error { return r.addBase(copied, rows, r.head.n) })
 	}
 	// After a start that was refused nothing is said about the head.
 	r.announces.Do(func() {
 		r.mutex.Lock()
 		defer r.mutex.Unlock()
-		r.announced = Head{r.head.n, r.head.ch}
+		r.announced = r.head.head()
 	})
 	r.logHead()
 	if closing := r.close(); err == nil {
@@ -467,19 +452,6 @@ func (r *Record) Close(isInOrder bool) error {
 		return fmt.Errorf("record: %w", err)
 	}
 	return nil
-}
-
-// makeLastBase makes a base after the last replay has ended.
-func (r *Record) makeLastBase() error {
-	scratch, end, err := newScratch(r.Office, r.dir, forBase)
-	if err != nil {
-		return err
-	}
-	defer end()
-	if err := copyOffice(r.Office, filepath.Join(scratch, "office")); err != nil {
-		return err
-	}
-	return r.makeBase(r.life, scratch, r.head.n)
 }
 
 // newestBase returns the entry of the newest base.

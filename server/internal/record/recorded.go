@@ -6,44 +6,41 @@ import (
 	"rbac-node/internal/recorded"
 )
 
+// shared returns the head, which is durable, and the paths of the files, which stay as they are until release is called.
+func (r *Record) shared(ctx context.Context) (head Head, files []string, release func(), err error) {
+	if release, err = share(ctx, r.dir); err != nil {
+		return head, nil, nil, err
+	}
+	if files, err = filesOf(r.dir); err == nil {
+		head, err = r.DurableHead()
+	}
+	if err != nil {
+		release()
+	}
+	return head, files, release, err
+}
+
 // Recorded returns the newest entries that a query chooses, also from earlier parts.
 func (r *Record) Recorded(ctx context.Context, query recorded.Query) (page recorded.Page, err error) {
-	files, err := filesOf(r.dir)
+	head, files, release, err := r.shared(ctx)
 	if err != nil {
 		return page, err
 	}
-	head, err := r.DurableHead()
-	if err != nil {
-		return page, err
-	}
+	defer release()
 	page.Head = head.String()
-	if page.First, err = firstIn(ctx, files[0]); err != nil {
-		return page, err
-	}
-	for i := len(files) - 1; i >= 0 && len(page.Entries) <= query.Limit; i-- {
-		if err := addNewest(ctx, &page, files[i], query); err != nil {
-			return page, err
-		}
+	begin, err := beginOf(ctx, files[0])
+	page.First = begin.n + 1
+	for i := len(files) - 1; err == nil && i >= 0 && len(page.Entries) <= query.Limit; i-- {
+		err = withView(ctx, files[i], func(v *view) error { return addNewest(ctx, &page, v, query) })
 	}
 	if len(page.Entries) > query.Limit {
 		page.Entries, page.HasMore = page.Entries[:query.Limit], true
 	}
-	return page, nil
-}
-
-// firstIn returns the number of the first entry of a file.
-func firstIn(ctx context.Context, path string) (int64, error) {
-	begin, err := beginOf(ctx, path)
-	return begin.n + 1, err
+	return page, err
 }
 
 // addNewest adds the entries of a file, up to one more than are wanted.
-func addNewest(ctx context.Context, page *recorded.Page, path string, query recorded.Query) error {
-	v, err := openView(ctx, path)
-	if err != nil {
-		return err
-	}
-	defer v.Close()
+func addNewest(ctx context.Context, page *recorded.Page, v *view, query recorded.Query) error {
 	filter := Filter(query.Filter)
 	where, values := filter.where()
 	if query.Before > 0 {

@@ -2,151 +2,126 @@ package record
 
 import (
 	"context"
-	"errors"
 	"fmt"
-	"path/filepath"
-	"sync/atomic"
-	"time"
 
+	"rbac/clients/go/rbacoffice"
+
+	"rbac-node/internal/api"
 	"rbac-node/internal/faults"
-	"rbac-node/internal/feed"
-	"rbac-node/internal/office"
 )
 
-// marker is a question that changes nothing. Once it is answered, all before it has been done.
-const marker = `{"fn":"ssdRoleSets"}`
-
-// A stop is an entry after which something is done with the file of the copy, while nobody writes it.
+// A stop is an entry after which something is done with the rerun that has led there.
 type stop struct {
 	n  int64
-	do func(file string, e *entry) error
+	do func(again *rerun, e *entry) error
 }
 
-// A rerun does recorded commands again over a copy of the office in which sessions have the digests of their names.
+// A rerun does recorded commands again by librbac, over an office in memory in which sessions have the digests of their names.
 type rerun struct {
-	replay      *office.Replay
-	file, probe string
+	office  *rbacoffice.Office
+	version int64
 	// stop may be nil.
 	stop *stop
 }
 
-// rerunFile is the name of the copy in a scratch folder, which has to be there before the rerun starts.
-const rerunFile = "again"
-
-func startRerun(program, scratch string, hangTimeout time.Duration) (*rerun, error) {
-	return startOver(program, filepath.Join(scratch, rerunFile), hangTimeout)
-}
-
-// startOver starts a rerun over a copy of the office, in whose folder others can be made.
-func startOver(program, file string, hangTimeout time.Duration) (*rerun, error) {
-	replay, err := office.Start(program, file, hangTimeout)
+// startRerun starts a rerun over an office that has these rows.
+func startRerun(o *officeRows) (*rerun, error) {
+	office, err := rbacoffice.Load(o.rows, 0)
 	if err != nil {
-		return nil, err
+		return nil, fmt.Errorf("librbac and the rows of the office: %w", err)
 	}
-	return &rerun{replay: replay, file: file, probe: filepath.Join(filepath.Dir(file), "probe")}, nil
+	return &rerun{office: office, version: o.version}, nil
 }
 
-// Close ends the rerun once all is done.
-func (r *rerun) Close() error { return r.replay.Close() }
+// close frees the office.
+func (r *rerun) close() { r.office.Close() }
 
-var errEnded = errors.New("the replay of the record has ended early")
+// rows returns all rows of the office.
+func (r *rerun) rows() (*officeRows, error) {
+	rows, err := r.office.Rows()
+	return &officeRows{r.version, rows}, err
+}
 
-// An AnswerError reports an entry whose answer isn't that of the program.
+// hasRow reports whether a table has a row at an index.
+func (r *rerun) hasRow(table rbacoffice.Table, index int) (bool, error) {
+	found, err := r.office.RowsFrom(nil, table, index, 1)
+	return len(found) > 0, err
+}
+
+// mostRows is how many rows are read at once for a description.
+const mostRows = 1024
+
+// sums describes the rows of the office.
+func (r *rerun) sums() (sums, error) {
+	s := newSumming(r.version)
+	var rows []rbacoffice.Row
+	for table := 0; table < tablesOfRows; table++ {
+		for index := 0; ; index += len(rows) {
+			var err error
+			if rows, err = r.office.RowsFrom(rows[:0], rbacoffice.Table(table), index, mostRows); err != nil {
+				return sums{}, err
+			}
+			if len(rows) == 0 {
+				break
+			}
+			s.add(rows)
+		}
+	}
+	return s.end(), nil
+}
+
+// has reports whether the office has the rows that the sums describe. How many each table has is compared before the digests.
+func (r *rerun) has(want *sums) (bool, error) {
+	for table, count := range want.counts {
+		for _, index := range []int{count - 1, count} {
+			if index < 0 {
+				continue
+			}
+			if has, err := r.hasRow(rbacoffice.Table(table), index); err != nil || has != (index < count) {
+				return false, err
+			}
+		}
+	}
+	given, err := r.sums()
+	return given == *want, err
+}
+
+// An AnswerError reports an entry whose answer isn't that of librbac.
 type AnswerError struct {
 	N                int64
 	Recorded, Answer string
 }
 
 func (e *AnswerError) Error() string {
-	return fmt.Sprintf("entry %d has the answer %s, and the program gives %s", e.N, e.Recorded, e.Answer)
+	return fmt.Sprintf("entry %d has the answer %s, and librbac gives %s", e.N, e.Recorded, e.Answer)
 }
 
 // each does the commands of entries, and compares their answers.
 func (r *rerun) each(ctx context.Context, all entries) error {
-	var wrong atomic.Pointer[AnswerError]
-	err := all(func(e *entry) error {
-		if found := wrong.Load(); found != nil {
-			return found
-		}
+	return all(func(e *entry) error {
 		if e.isDone() {
-			r.replay.Send([]byte(e.request), func(answer []byte) {
-				if string(answer) != e.answer {
-					wrong.CompareAndSwap(nil, &AnswerError{e.n, e.answer, string(answer)})
-				}
-			})
+			answer, err := r.answer(e.request)
+			if err != nil {
+				return fmt.Errorf("entry %d: %w", e.n, err)
+			}
+			if answer != e.answer {
+				return &AnswerError{e.n, e.answer, answer}
+			}
 		}
-		if err := r.stopAt(ctx, e); err != nil {
-			return err
+		if r.stop != nil && e.n == r.stop.n {
+			if err := r.stop.do(r, e); err != nil {
+				return err
+			}
 		}
 		return ctx.Err()
 	})
-	if err == nil {
-		_, err = r.one(ctx, marker)
-	}
-	if found := wrong.Load(); err == nil && found != nil {
-		return found
-	}
-	return err
-}
-
-// stopAt does what is to be done after an entry, if it is that of the stop.
-func (r *rerun) stopAt(ctx context.Context, e *entry) error {
-	if r.stop == nil || e.n != r.stop.n {
-		return nil
-	}
-	if _, err := r.one(ctx, marker); err != nil {
-		return err
-	}
-	return r.stop.do(r.file, e)
-}
-
-// one returns the answer to a line, after all before it.
-func (r *rerun) one(ctx context.Context, line string) (string, error) {
-	answers := make(chan string, 1)
-	r.replay.Send([]byte(line), func(answer []byte) { answers <- string(answer) })
-	r.replay.Flush()
-	select {
-	case answer := <-answers:
-		return answer, nil
-	case <-r.replay.Ended():
-		if err := r.replay.Close(); err != nil {
-			return "", err
-		}
-		return "", errEnded
-	case <-ctx.Done():
-		return "", ctx.Err()
-	}
-}
-
-// sums describes the rows of the copy. All lines have been answered, so nobody writes it meanwhile.
-func (r *rerun) sums(ctx context.Context) (s sums, err error) {
-	err = r.look(func(c *officeCopy) (err error) { s, err = c.sums(ctx); return err })
-	return s, err
-}
-
-// has reports whether the copy has these rows.
-func (r *rerun) has(ctx context.Context, want sums) (same bool, err error) {
-	err = r.look(func(c *officeCopy) (err error) { same, err = c.has(ctx, want); return err })
-	return same, err
-}
-
-func (r *rerun) look(look func(c *officeCopy) error) error {
-	if err := copyOffice(r.file, r.probe); err != nil {
-		return err
-	}
-	c, err := openCopy(r.probe, true)
-	if err != nil {
-		return err
-	}
-	defer c.Close()
-	return look(c)
 }
 
 // fit does entries without an answer, one after another, and returns how many of them give these rows: the most that do, so that
 // nothing is left out that anybody got an answer to. It returns -1 if the rows never come. The entries get their answers.
-func (r *rerun) fit(ctx context.Context, open []entry, want sums) (int, error) {
+func (r *rerun) fit(ctx context.Context, open []entry, want *sums) (int, error) {
 	most := -1
-	same, err := r.has(ctx, want)
+	same, err := r.has(want)
 	for i := 0; err == nil; i++ {
 		if same && (most < 0 || !faults.Has(faults.ShortestBeginning)) {
 			most = i
@@ -158,9 +133,21 @@ func (r *rerun) fit(ctx context.Context, open []entry, want sums) (int, error) {
 			open[i].answer = accepted // It leaves the rows as they are.
 			continue
 		}
-		if open[i].answer, err = r.one(ctx, open[i].request); err == nil && feed.IsAccepted([]byte(open[i].answer)) {
-			same, err = r.has(ctx, want)
+		if open[i].answer, err = r.answer(open[i].request); err == nil && api.IsAccepted([]byte(open[i].answer)) {
+			same, err = r.has(want)
+		}
+		if err == nil {
+			err = ctx.Err()
 		}
 	}
 	return -1, err
+}
+
+// answer does a command.
+func (r *rerun) answer(request string) (string, error) {
+	if r.version == 1 {
+		return r.answerInVersion1(request)
+	}
+	answer, err := r.office.Answer([]byte(request))
+	return string(answer), err
 }

@@ -86,17 +86,17 @@ func (t *Tool) restoreOffice(ctx context.Context, restored adoption, reason stri
 
 // endSessions ends all sessions of an office that nobody has open, and returns how many.
 func (t *Tool) endSessions(ctx context.Context) (ended int64, err error) {
-	c, err := openCopy(t.Office, false)
+	db, err := openFile(t.Office, ofCopy)
 	if err != nil {
 		return 0, err
 	}
-	err = c.db.QueryRowContext(ctx, "SELECT count(*) FROM pair_row WHERE kind = 7").Scan(&ended)
+	err = db.QueryRowContext(ctx, "SELECT count(*) FROM pair_row WHERE kind = 7").Scan(&ended)
 	for _, statement := range []string{"DELETE FROM pair_row WHERE kind IN (7, 8)", "PRAGMA wal_checkpoint(TRUNCATE)"} {
 		if err == nil {
-			_, err = c.db.ExecContext(ctx, statement)
+			_, err = db.ExecContext(ctx, statement)
 		}
 	}
-	err = disk.Close(c, err)
+	err = disk.Close(db, err)
 	if err != nil {
 		return 0, fmt.Errorf("end the sessions: %w", err)
 	}

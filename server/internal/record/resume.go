@@ -21,18 +21,12 @@ func (f *Follower) openAt(ctx context.Context, head Head) error {
 		return err
 	}
 	// An older snapshot may be that of an earlier part.
-	var begin entry
-	i := len(files) - 1
-	for ; ; i-- {
-		if begin, err = beginOf(ctx, files[i]); err != nil {
-			return err
-		}
-		if begin.n <= head.N || i == 0 {
-			break
-		}
+	i, err := fileOf(ctx, files, head.N)
+	if err != nil {
+		return err
 	}
 	last := entry{n: head.N, ch: head.Chain}
-	if err := has(ctx, files[i], begin, last); err != nil {
+	if err := has(ctx, files[i], head); err != nil {
 		return err
 	}
 	f.checked = last
@@ -80,32 +74,18 @@ func (f *Follower) checkEarlier(to entry) {
 	}
 }
 
-// has refuses a file that doesn't have an entry, if something else is before its first one.
-func has(ctx context.Context, path string, begin, wanted entry) error {
-	v, err := openView(ctx, path)
-	if err != nil {
-		return err
-	}
-	defer v.Close()
-	last, _, err := lastOf(v.tx)
-	if err != nil {
-		return err
-	}
-	if last.n < wanted.n && begin.n < wanted.n {
-		return fmt.Errorf("it ends at entry %d, and the snapshot has entry %d: %w", last.n, wanted.n, errMoveAway)
-	}
-	found := &begin
-	if begin.n != wanted.n {
-		found = nil
-		err := entriesAfter(ctx, v.tx, wanted.n-1, wanted.n)(func(e *entry) error { found = e; return nil })
-		if err != nil {
-			return err
+// has refuses a file that doesn't have an entry with this link, if something else is before its first one.
+func has(ctx context.Context, path string, wanted Head) error {
+	return withView(ctx, path, func(v *view) error {
+		if last := v.answered.n; last < wanted.N && v.begin().n < wanted.N {
+			return fmt.Errorf("it ends at entry %d, and the snapshot has entry %d: %w", last, wanted.N, errMoveAway)
 		}
-	}
-	if found == nil || found.ch != wanted.ch {
-		return fmt.Errorf("entry %d is not the one that the snapshot has: %w", wanted.n, errMoveAway)
-	}
-	return nil
+		link, err := v.linkOf(ctx, wanted.N)
+		if err == nil && link != wanted.Chain {
+			err = fmt.Errorf("entry %d is not the one that the snapshot has: %w", wanted.N, errMoveAway)
+		}
+		return err
+	})
 }
 
 // check reads the entries of a file after one, up to a number, and reports whether the chain holds. It returns the last one.

@@ -5,7 +5,6 @@ import (
 	"context"
 	"strings"
 	"testing"
-	"time"
 
 	"rbac-node/internal/api"
 	"rbac-node/internal/feed"
@@ -56,7 +55,7 @@ func TestReviewIsFoundAgain(t *testing.T) {
 		t.Errorf("%+v", page.Entries)
 	}
 	var out bytes.Buffer
-	tool := &Tool{Office: file, Program: b.Program, HangTimeout: time.Minute, Out: &out, Log: logs.New(&out)}
+	tool := &Tool{Office: file, Program: b.Program, Out: &out, Log: logs.New(&out)}
 	if err := b.Record.Close(false); err != nil {
 		t.Fatal(err)
 	}

@@ -14,7 +14,7 @@ import (
 )
 
 const (
-	// memory is a folder of files in memory. The replay syncs each command, which takes long on a disk.
+	// memory is a folder of files in memory.
 	memory = "/dev/shm"
 	// spareMemory is how much room there has to be besides some copies of the office.
 	spareMemory = 64 << 20
@@ -22,25 +22,16 @@ const (
 	walSuffix   = "-wal"
 )
 
-// Folders for copies, by what they are for. Each is locked while it is used.
-const (
-	forStart  = "start"
-	forBase   = "base"
-	forPart   = "part"
-	forVerify = "verify"
-	forAccess = "access"
-)
-
 // scratchPaths returns how the paths of folders for copies of an office begin: in memory, and beside the record. They depend on the
-// office and on what they are for, so that what a crash leaves is found again.
-func scratchPaths(office, dir, purpose string) ([]string, error) {
+// office, so that what a crash leaves is found again.
+func scratchPaths(office, dir string) ([]string, error) {
 	absolute, err := filepath.Abs(office)
 	if err != nil {
 		return nil, fmt.Errorf("copies: %w", err)
 	}
 	sum := sha256.Sum256([]byte(absolute))
-	name := fmt.Sprintf("rbac-record-%d-%s-%s", os.Getuid(), hex.EncodeToString(sum[:8]), purpose)
-	return []string{filepath.Join(memory, name), filepath.Join(dir, "scratch-"+purpose)}, nil
+	name := fmt.Sprintf("rbac-record-%d-%s", os.Getuid(), hex.EncodeToString(sum[:8]))
+	return []string{filepath.Join(memory, name), filepath.Join(dir, "scratch")}, nil
 }
 
 // mostTries is how often it is tried to make a folder that somebody else takes for one that a crash has left.
@@ -49,9 +40,9 @@ const mostTries = 5
 // newScratch returns a new empty folder for copies of an office, in memory if there is room, and what ends its use. What a crash has left
 // of others is removed. None has the name of another one: `rbac check` that a crash of the front has left goes on, and removes the log of
 // its copy by the name when it ends.
-func newScratch(office, dir, purpose string) (path string, end func(), err error) {
+func newScratch(office, dir string) (path string, end func(), err error) {
 	end = func() {}
-	paths, err := scratchPaths(office, dir, purpose)
+	paths, err := scratchPaths(office, dir)
 	if err != nil {
 		return "", end, err
 	}
@@ -117,10 +108,8 @@ func removeLeft(paths []string) {
 
 // removeScratch removes what a crash has left of copies of an office, which have the names of sessions.
 func removeScratch(office, dir string) {
-	for _, purpose := range []string{forStart, forBase, forPart, forVerify, forAccess} {
-		paths, _ := scratchPaths(office, dir, purpose)
-		removeLeft(paths)
-	}
+	paths, _ := scratchPaths(office, dir)
+	removeLeft(paths)
 }
 
 // hasRoom reports whether there is room in memory for copies of an office.

@@ -7,12 +7,14 @@ import (
 	"os"
 	"path/filepath"
 	"testing"
+
+	"rbac/clients/go/rbacoffice"
 )
 
 // What a verify that was killed has left is removed by the next one and by a start. One that is at work keeps its folder.
 func TestSharedScratch(t *testing.T) {
 	b := open(t)
-	paths, err := scratchPaths(b.Office, b.dir, forVerify)
+	paths, err := scratchPaths(b.Office, b.dir)
 	if err != nil {
 		t.Fatal(err)
 	}
@@ -36,12 +38,12 @@ func TestSharedScratch(t *testing.T) {
 		}
 	}
 	leave()
-	one, endOne, err := newScratch(b.Office, b.dir, forVerify)
+	one, endOne, err := newScratch(b.Office, b.dir)
 	if err != nil {
 		t.Fatal(err)
 	}
 	isLeft("another verify")
-	other, endOther, err := newScratch(b.Office, b.dir, forVerify)
+	other, endOther, err := newScratch(b.Office, b.dir)
 	if err != nil || one == other {
 		t.Fatalf("%s and %s: %v", one, other, err)
 	}
@@ -78,7 +80,7 @@ func TestNoCopyLeft(t *testing.T) {
 		t.Fatal(err)
 	}
 	logged, err := sumsOf(context.Background(), b.Program, b.Office, copied)
-	if err != nil || logged.counts[1] != plain.counts[1]+1 {
+	if err != nil || logged.counts[rbacoffice.Users] != plain.counts[rbacoffice.Users]+1 {
 		t.Errorf("%v, %v and %v", err, logged.counts, plain.counts)
 	}
 	if found, _ := filepath.Glob(copied + "*"); len(found) > 0 {
@@ -90,18 +92,16 @@ func TestNoCopyLeft(t *testing.T) {
 // by the name when it ends: another copy at that path would lack what its log has.
 func TestLaterCopy(t *testing.T) {
 	b := open(t)
-	for _, purpose := range []string{forStart, forBase, forPart, forVerify, forAccess} {
-		first, end, err := newScratch(b.Office, b.dir, purpose)
-		if err != nil {
-			t.Fatal(err)
-		}
-		end()
-		second, end, err := newScratch(b.Office, b.dir, purpose)
-		if err != nil || first == second {
-			t.Errorf("%s: %v, %s", purpose, err, second)
-		}
-		end()
+	first, end, err := newScratch(b.Office, b.dir)
+	if err != nil {
+		t.Fatal(err)
 	}
+	end()
+	second, end, err := newScratch(b.Office, b.dir)
+	if err != nil || first == second {
+		t.Errorf("%v, %s", err, second)
+	}
+	end()
 }
 
 // An error over a copy has the same text whatever the path of the copy is.

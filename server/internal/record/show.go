@@ -104,46 +104,23 @@ var entryColumns = []string{"number", "at", "caller", "reason", "request", "answ
 // has found the answer, and the link. In a text an answer that was found has a star, and an entry without an answer has a question mark
 // in its place.
 func (t *Tool) Show(ctx context.Context, filter Filter, format Format) error {
-	files, release, err := t.files(ctx)
-	if err != nil {
-		return err
-	}
-	defer release()
 	out, err := newPrinter(t.Out, format, entryColumns...)
 	if err != nil {
 		return err
 	}
-	last := int64(0)
-	for _, path := range files {
-		if last, err = t.show(ctx, out, path, filter, last+1); err != nil {
-			_ = out.end() // What was read is shown.
-			return err
-		}
-	}
-	return out.end()
-}
-
-// show prints entries of a file, which should begin with an entry, and returns its last one. It says so if it begins later.
-func (t *Tool) show(ctx context.Context, out *printer, path string, filter Filter, first int64) (last int64, err error) {
-	v, err := openView(ctx, path)
-	if err != nil {
-		return 0, err
-	}
-	defer v.Close()
-	parts, err := partsOf(ctx, v)
-	if err != nil {
-		return 0, err
-	}
-	if parts[0].first > first && t.Part == "" {
-		fmt.Fprintln(t.Err, missing(first, parts[0]))
-	}
+	next := int64(1)
 	where, values := filter.where()
-	err = eachEntry(ctx, v.tx, "WHERE "+where+" ORDER BY n", values, func(e *entry) error { return out.add(cellsOf(e, out.format)...) })
-	if err != nil {
-		return 0, err
+	err = t.eachView(ctx, func(v *view) error {
+		if v.parts[0].first > next && t.Part == "" {
+			fmt.Fprintln(t.Err, missing(next, v.parts[0]))
+		}
+		next = v.last.n + 1
+		return eachEntry(ctx, v.tx, "WHERE "+where+" ORDER BY n", values, func(e *entry) error { return out.add(cellsOf(e, out.format)...) })
+	})
+	if ending := out.end(); err == nil { // What was read is shown.
+		err = ending
 	}
-	_, end, err := lastOf(v.tx)
-	return end.n, err
+	return err
 }
 
 // eachEntry does something with each entry that a condition chooses.

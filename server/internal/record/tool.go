@@ -2,7 +2,6 @@ package record
 
 import (
 	"context"
-	"database/sql"
 	"errors"
 	"fmt"
 	"io"
@@ -21,7 +20,6 @@ import (
 // folder Data is, or with the file Part alone, which was moved away.
 type Tool struct {
 	Office, Data, Part, Program string
-	HangTimeout                 time.Duration
 	// Out is for what is asked for, and Err for what else has to be known.
 	Out, Err io.Writer
 	Log      *logs.Logger
@@ -135,7 +133,7 @@ func (t *Tool) openLocked(ctx context.Context) (*Record, *os.File, error) {
 
 // options returns those of the record, with which nothing is logged.
 func (t *Tool) options() Options {
-	return Options{Office: t.Office, Program: t.Program, HangTimeout: t.HangTimeout, Every: 1, Log: logs.New(io.Discard)}
+	return Options{Office: t.Office, Program: t.Program, Every: 1, Log: logs.New(io.Discard)}
 }
 
 // filesOf returns the paths of the files of a record, in the order of their entries.
@@ -204,53 +202,19 @@ func escapeGlob(path string) string {
 	return strings.NewReplacer(`\`, `\\`, `*`, `\*`, `?`, `\?`, `[`, `\[`).Replace(path)
 }
 
-// A view is a state of a file of a record, which does not change while others write the file.
-type view struct {
-	db *sql.DB
-	tx *sql.Tx
-}
-
-// openView opens a file as it is now.
-func openView(ctx context.Context, path string) (*view, error) {
-	v, err := openViewBy(ctx, path, "mode=ro&_busy_timeout="+busy)
-	if err != nil && (strings.Contains(err.Error(), "unable to open") || strings.Contains(err.Error(), "readonly database")) {
-		// A file beside which SQLite can't make its own, as in a backup that can't be written, isn't written by others either. Opened
-		// in this way it is read without its log.
-		if log, logErr := os.Stat(path + walSuffix); logErr == nil && log.Size() > 0 {
-			return nil, fmt.Errorf("%s: it has a log, which can't be read in a folder that can't be written: copy the folder", path)
-		}
-		v, err = openViewBy(ctx, path, "mode=ro&immutable=1")
-	}
-	return v, err
-}
-
-func openViewBy(ctx context.Context, path, options string) (*view, error) {
-	db, err := openFile(path, options)
+// eachView does something with each file of the record, in the order of their entries.
+func (t *Tool) eachView(ctx context.Context, do func(v *view) error) error {
+	files, release, err := t.files(ctx)
 	if err != nil {
-		return nil, err
+		return err
 	}
-	tx, err := db.BeginTx(ctx, nil)
-	if err == nil {
-		err = judgeVersion(tx)
-	}
-	if err == nil {
-		var count int
-		err = tx.QueryRowContext(ctx, "SELECT count(*) FROM part").Scan(&count)
-	}
-	if err == nil {
-		v := &view{db, tx}
-		if err = v.hideLater(ctx, path); err == nil {
-			return v, nil
+	defer release()
+	for _, path := range files {
+		if err := withView(ctx, path, do); err != nil {
+			return err
 		}
-		_ = tx.Rollback()
 	}
-	_ = db.Close()
-	return nil, fmt.Errorf("%s: %w", path, err)
-}
-
-func (v *view) Close() {
-	_ = v.tx.Rollback() // Nothing was written.
-	_ = v.db.Close()
+	return nil
 }
 
 // PrintHead prints the head.
@@ -260,25 +224,18 @@ func (t *Tool) PrintHead(ctx context.Context) error {
 		return err
 	}
 	defer release()
-	v, err := openView(ctx, files[len(files)-1])
-	if err != nil {
-		return err
-	}
-	defer v.Close()
-	answered, _, err := lastOf(v.tx)
-	if err == nil {
-		err = syncLog(files[len(files)-1])
-	}
-	if err != nil {
-		return err
-	}
-	fmt.Fprintln(t.Out, Head{answered.n, answered.ch})
-	return nil
+	return withView(ctx, files[len(files)-1], func(v *view) error {
+		if err := syncLog(v.path); err != nil {
+			return err
+		}
+		fmt.Fprintln(t.Out, v.answered.head())
+		return nil
+	})
 }
 
 // withCopy does something with a mapped copy of an office, which no program has open.
 func (r *Record) withCopy(ctx context.Context, file string, work func(copied, rows string) error) error {
-	scratch, end, err := newScratch(r.Office, r.dir, forPart)
+	scratch, end, err := newScratch(r.Office, r.dir)
 	if err != nil {
 		return err
 	}
@@ -291,7 +248,7 @@ func (r *Record) withCopy(ctx context.Context, file string, work func(copied, ro
 	if err != nil {
 		return err
 	}
-	return work(copied, rows.all)
+	return work(copied, rows)
 }
 
 // Cut closes the part at hand: its file gets another name, and may be moved away. The record goes on in another file.
@@ -308,27 +265,20 @@ func (t *Tool) Cut(ctx context.Context) error {
 	if err := r.Before(ctx); err != nil {
 		return err
 	}
-	var first int64
-	if err := r.db.QueryRowContext(ctx, "SELECT min(n) FROM entry").Scan(&first); err != nil {
-		return fmt.Errorf("record: %w", err)
-	}
-	if first == r.head.n {
-		return errors.New("there is nothing to cut: the part at hand has no command")
-	}
 	closed := ""
 	err = r.withCopy(ctx, r.Office, func(copied, rows string) error {
 		if err := r.db.Close(); err != nil {
 			return err
 		}
 		p := part{first: r.head.n + 1, why: continued, before: r.head.ch, rows: rows}
-		making, err := makeNext(r.dir, p, now(), copied, nil)
+		next, err := newNext(ctx, r.dir, p, now(), copied)
+		if err == nil {
+			closed, err = next.putInPlace()
+		}
 		if err != nil {
 			return err
 		}
-		if closed, err = (&next{r.dir, making, first, Head{r.head.n, r.head.ch}}).putInPlace(); err != nil {
-			return err
-		}
-		return addBase(r.dir, copied, base{r.head.n + 1, rows})
+		return addBase(r.dir, copied, base{p.first, rows})
 	})
 	if err != nil {
 		return fmt.Errorf("record: %w", err)

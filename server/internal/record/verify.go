@@ -4,9 +4,7 @@ import (
 	"context"
 	"errors"
 	"fmt"
-	"os"
 	"path/filepath"
-	"sort"
 )
 
 // A verifier reads a record from its beginning, and does its commands again.
@@ -17,9 +15,10 @@ type verifier struct {
 	// of the record.
 	want *sums
 	at   Head
-	// heads has the links that are known from elsewhere, by the numbers of their entries.
+	// heads has the links that are known from elsewhere, by the numbers of their entries, and known is the newest of these.
 	heads map[int64]string
-	// bases are the base copies that were there before the file at hand was opened.
+	known int64
+	// bases are the base copies that were there before the file at hand was opened, the newest first.
 	bases []base
 	// newest is the last entry of the file that was read, which may have no answer.
 	newest int64
@@ -32,7 +31,7 @@ type verifier struct {
 	stop *stop
 }
 
-// Verify reports whether the chain holds, whether the program gives the same answers, and whether the office has the rows that the
+// Verify reports whether the chain holds, whether librbac gives the same answers, and whether the office has the rows that the
 // record gives. While a front has the office its rows are not compared. Heads that are known from elsewhere show whether the end
 // was cut off, or whether the chain was computed anew. It returns ErrMissing if that is all that is wrong.
 func (t *Tool) Verify(ctx context.Context, heads []Head) error { return t.verify(ctx, heads, nil) }
@@ -49,7 +48,7 @@ func (t *Tool) verify(ctx context.Context, heads []Head, at *stop) error {
 		return err
 	}
 	defer release()
-	scratch, end, err := newScratch(t.Office+t.Data+t.Part, t.dir(), forVerify)
+	scratch, end, err := newScratch(t.Office+t.Data+t.Part, t.dir())
 	if err != nil {
 		return err
 	}
@@ -59,7 +58,9 @@ func (t *Tool) verify(ctx context.Context, heads []Head, at *stop) error {
 		if link, has := v.heads[head.N]; has && link != head.Chain {
 			return fmt.Errorf("entry %d has two known links: the chain was computed anew", head.N)
 		}
-		v.heads[head.N] = head.Chain
+		if v.heads[head.N] = head.Chain; head.N > v.known {
+			v.known = head.N
+		}
 	}
 	if err := v.files(ctx, files); err != nil {
 		return err
@@ -67,25 +68,14 @@ func (t *Tool) verify(ctx context.Context, heads []Head, at *stop) error {
 	if err := syncLog(files[len(files)-1]); err != nil {
 		return err
 	}
-	v.sayUnknown()
-	fmt.Fprintf(t.Out, "head %s\n", Head{v.last.n, v.last.ch})
+	if v.known > 0 && v.known < v.last.n {
+		fmt.Fprintf(v.Out, "entries %d to %d come after the newest known head: it doesn't protect them\n", v.known+1, v.last.n)
+	}
+	fmt.Fprintf(t.Out, "head %s\n", v.last.head())
 	if v.isMissing {
 		return ErrMissing
 	}
 	return nil
-}
-
-// sayUnknown says which entries come after the newest known head.
-func (v *verifier) sayUnknown() {
-	newest := int64(0)
-	for n := range v.heads {
-		if n > newest {
-			newest = n
-		}
-	}
-	if newest > 0 && newest < v.last.n {
-		fmt.Fprintf(v.Out, "entries %d to %d come after the newest known head: it doesn't protect them\n", newest+1, v.last.n)
-	}
 }
 
 // ErrMissing is returned for a record of which all that is here is good.
@@ -120,63 +110,48 @@ func (v *verifier) files(ctx context.Context, files []string) error {
 
 // end refuses a record that ends before a known head, or before a base copy.
 func (v *verifier) end() error {
-	last := v.last.n
-	for n := range v.heads {
-		if n > last {
-			last = n
-		}
+	if v.last.n < v.known {
+		return fmt.Errorf("the record ends at entry %d: those from there to %d are missing", v.last.n, v.known)
 	}
-	if v.last.n < last {
-		return fmt.Errorf("the record ends at entry %d: those from there to %d are missing", v.last.n, last)
-	}
-	if newest := len(v.bases) - 1; newest >= 0 && v.bases[newest].n > v.newest {
-		return fmt.Errorf("the base copy %s is of an entry that is not here", v.bases[newest].name())
+	if len(v.bases) > 0 && v.bases[0].n > v.newest {
+		return fmt.Errorf("the base copy %s is of an entry that is not here", v.bases[0].name())
 	}
 	return nil
 }
 
-// look opens the file at hand and describes the office, both as of one moment if no front has the office.
+// look opens the file at hand and describes the office, both as of one moment if no front has the office. On a node it describes the
+// newest snapshot, and the file has all entries up to that.
 func (v *verifier) look(ctx context.Context, path string) (*view, error) {
+	file := v.Office
 	if v.Data != "" {
-		return v.lookAtNode(ctx, path)
+		snapshot, head, err := v.newestRecorded()
+		if errors.Is(err, errNoSnapshots) {
+			fmt.Fprintln(v.Out, "there is no snapshot since the record began: no rows are compared")
+			return openView(ctx, path)
+		}
+		if err != nil {
+			return nil, err
+		}
+		file, v.at = snapshot, head
+	} else {
+		var err error
+		if v.bases, err = basesIn(v.dir()); err != nil {
+			return nil, err
+		}
+		lock, err := v.lockIfFree(ctx)
+		if err != nil {
+			return nil, err
+		}
+		if lock == nil {
+			return openView(ctx, path)
+		}
+		defer lock.Close()
 	}
-	bases, err := basesIn(v.dir())
-	if err != nil {
-		return nil, err
-	}
-	sort.Slice(bases, func(i, j int) bool { return bases[i].n < bases[j].n })
-	v.bases = bases
-	lock, err := v.lockIfFree(ctx)
-	if err != nil {
-		return nil, err
-	}
-	if lock == nil {
-		return openView(ctx, path)
-	}
-	defer lock.Close()
-	want, err := sumsOf(ctx, v.Program, v.Office, filepath.Join(v.scratch, "office"))
+	want, err := sumsOf(ctx, v.Program, file, filepath.Join(v.scratch, "office"))
 	if err != nil {
 		return nil, err
 	}
 	v.want = &want
-	return openView(ctx, path)
-}
-
-// lookAtNode describes the newest snapshot of a node, and opens the file at hand, which has all entries up to that snapshot.
-func (v *verifier) lookAtNode(ctx context.Context, path string) (*view, error) {
-	snapshot, head, err := v.newestRecorded()
-	if errors.Is(err, errNoSnapshots) {
-		fmt.Fprintln(v.Out, "there is no snapshot since the record began: no rows are compared")
-		return openView(ctx, path)
-	}
-	if err != nil {
-		return nil, err
-	}
-	want, err := sumsOf(ctx, v.Program, snapshot, filepath.Join(v.scratch, "office"))
-	if err != nil {
-		return nil, err
-	}
-	v.want, v.at = &want, head
 	return openView(ctx, path)
 }
 
@@ -188,7 +163,7 @@ func (v *verifier) compareNode(ctx context.Context, opened *view, p part, end in
 	if err := again.each(ctx, v.checked(ctx, opened, p, v.at.N)); err != nil {
 		return err
 	}
-	same, err := again.has(ctx, *v.want)
+	same, err := again.has(v.want)
 	if err == nil && (!same || v.last.ch != v.at.Chain) {
 		err = fmt.Errorf("the newest snapshot is not what the record gives at entry %d: somebody has written one of them", v.at.N)
 	}
@@ -202,46 +177,20 @@ func (v *verifier) compareNode(ctx context.Context, opened *view, p part, end in
 
 // file reads the file of an earlier part.
 func (v *verifier) file(ctx context.Context, path string) error {
-	opened, err := openView(ctx, path)
-	if err != nil {
-		return err
-	}
-	defer opened.Close()
-	if err := v.read(ctx, opened, false); err != nil {
-		return err
-	}
-	parts, err := partsOf(ctx, opened)
-	if err != nil {
-		return err
-	}
-	first, last, is := namesOf(path)
-	switch {
-	case !is: // It has another name.
-	case v.last.n != last:
-		return fmt.Errorf("it ends at entry %d, and its name says %d", v.last.n, last)
-	case parts[0].first != first:
-		return fmt.Errorf("it begins with entry %d, and its name says %d", parts[0].first, first)
-	}
-	return nil
-}
-
-func partsOf(ctx context.Context, opened *view) (parts []part, err error) {
-	rows, err := opened.tx.QueryContext(ctx, "SELECT first, why, before, rows FROM part ORDER BY first")
-	if err != nil {
-		return nil, err
-	}
-	defer rows.Close()
-	for rows.Next() {
-		var p part
-		if err := rows.Scan(&p.first, &p.why, &p.before, &p.rows); err != nil {
-			return nil, err
+	return withView(ctx, path, func(opened *view) error {
+		if err := v.read(ctx, opened, false); err != nil {
+			return err
 		}
-		parts = append(parts, p)
-	}
-	if len(parts) == 0 {
-		return nil, errors.New("it has no part")
-	}
-	return parts, rows.Err()
+		first, last, is := namesOf(path)
+		switch {
+		case !is: // It has another name.
+		case v.last.n != last:
+			return fmt.Errorf("it ends at entry %d, and its name says %d", v.last.n, last)
+		case opened.parts[0].first != first:
+			return fmt.Errorf("it begins with entry %d, and its name says %d", opened.parts[0].first, first)
+		}
+		return nil
+	})
 }
 
 // read reads a file. The last one may have entries without an answer.
@@ -249,25 +198,17 @@ func (v *verifier) read(ctx context.Context, opened *view, isLast bool) error {
 	if err := judgeFile(ctx, opened); err != nil {
 		return err
 	}
-	parts, err := partsOf(ctx, opened)
-	if err != nil {
+	if err := v.judgeParts(ctx, opened); err != nil {
 		return err
 	}
-	if err := v.judgeParts(ctx, opened, parts); err != nil {
-		return err
+	if !isLast && opened.last.n != opened.answered.n {
+		return fmt.Errorf("entry %d has no answer", opened.last.n)
 	}
-	answered, last, err := lastOf(opened.tx)
-	if err != nil {
-		return err
-	}
-	if !isLast && last.n != answered.n {
-		return fmt.Errorf("entry %d has no answer", last.n)
-	}
-	v.newest = last.n
-	for i, p := range parts {
-		end, isEnd := answered.n, i == len(parts)-1
+	v.newest = opened.last.n
+	for i, p := range opened.parts {
+		end, isEnd := opened.answered.n, i == len(opened.parts)-1
 		if !isEnd {
-			end = parts[i+1].first - 1
+			end = opened.parts[i+1].first - 1
 		}
 		if err := v.part(ctx, opened, p, end, isLast && isEnd); err != nil {
 			return err
@@ -281,14 +222,14 @@ func (v *verifier) part(ctx context.Context, opened *view, p part, end int64, is
 	if err := v.join(p); err != nil {
 		return err
 	}
-	if err := v.layOut(ctx, opened, p); err != nil {
-		return err
+	again, err := p.rerun(ctx, v.Program, opened.tx, v.scratch)
+	if errors.Is(err, errNoStart) {
+		return fmt.Errorf("the copy of the office at entry %d is not what the entry says", p.first)
 	}
-	again, err := startRerun(v.Program, v.scratch, v.HangTimeout)
 	if err != nil {
 		return err
 	}
-	defer func() { _ = again.Close() }() // What it has done is thrown away.
+	defer again.close()
 	again.stop = v.stop
 	if err := v.compareNode(ctx, opened, p, end, again); err != nil {
 		return err
@@ -306,38 +247,17 @@ func (v *verifier) part(ctx context.Context, opened *view, p part, end int64, is
 		return fmt.Errorf("entries %d to %d are missing", v.last.n+1, end)
 	}
 	if end >= p.first {
-		fmt.Fprintf(v.Out, "entries %d to %d: the chain holds, and the program gives the same answers\n", p.first, end)
+		fmt.Fprintf(v.Out, "entries %d to %d: the chain holds, and librbac gives the same answers\n", p.first, end)
 	}
 	if isLast && v.want != nil && v.Data == "" {
 		return v.compare(ctx, opened, again)
 	}
-	s, err := again.sums(ctx)
+	s, err := again.sums()
 	v.rows = s.all
 	if isLast && v.Data == "" {
 		fmt.Fprintln(v.Out, "a front has the office: its rows are not compared")
 	}
 	return err
-}
-
-// layOut writes the copy of the office with which a part begins to where a rerun needs it.
-func (v *verifier) layOut(ctx context.Context, opened *view, p part) error {
-	var text []byte
-	if err := opened.tx.QueryRowContext(ctx, "SELECT office FROM part WHERE first = ?", p.first).Scan(&text); err != nil {
-		return err
-	}
-	file := filepath.Join(v.scratch, rerunFile)
-	for _, left := range []string{file, file + walSuffix} {
-		if err := os.RemoveAll(left); err != nil {
-			return err
-		}
-	}
-	if err := os.WriteFile(file, text, 0o600); err != nil {
-		return err
-	}
-	if rows, err := rowsOf(ctx, file); err != nil || rows != p.rows {
-		return fmt.Errorf("the copy of the office at entry %d is not what the entry says", p.first)
-	}
-	return nil
 }
 
 // missing says that entries before a part aren't here.
@@ -430,7 +350,7 @@ func (v *verifier) compare(ctx context.Context, opened *view, again *rerun) erro
 	if err != nil {
 		return err
 	}
-	done, err := again.fit(ctx, open, *v.want)
+	done, err := again.fit(ctx, open, v.want)
 	if err != nil {
 		return err
 	}

@@ -1,9 +1,10 @@
 package record
 
 import (
-	"context"
 	"fmt"
 	"sort"
+
+	"rbac/clients/go/rbacoffice"
 
 	"rbac-node/internal/api"
 )
@@ -24,26 +25,35 @@ func (e *RefusedError) Error() string {
 // A permission is an object and an operation.
 type permission [2]string
 
-// access returns who had access. The program decides each way: it makes a session of the user with the role alone, and is asked for
-// access by that session. Each session that was there is asked for access too.
-func (r *rerun) access(ctx context.Context, query AccessQuery) ([]way, error) {
+// access returns who had access. librbac decides each way: over a copy it makes a session of the user with the role alone, and is asked
+// for access by that session. Each session that was there is asked for access too.
+func (r *rerun) access(query AccessQuery) ([]way, error) {
+	o, err := r.rows()
+	if err != nil {
+		return nil, err
+	}
+	tried, err := startRerun(o)
+	if err != nil {
+		return nil, err
+	}
+	defer tried.close()
 	permissions := []permission{{query.Object, query.Operation}}
 	if query.Object == "" || query.Operation == "" {
-		var err error
-		if permissions, err = r.permissionsOf(ctx, query); err != nil {
+		if permissions, err = tried.permissionsOf(query); err != nil {
 			return nil, err
 		}
 	}
-	tried, err := r.candidates(ctx, query.User, permissions)
+	ways, err := tried.candidates(query.User, permissions)
 	if err != nil {
 		return nil, err
 	}
-	found, err := r.sessionsWith(ctx, query.User, permissions)
-	if err != nil {
-		return nil, err
+	found, err := tried.sessionsWith(o.rows, query.User, permissions)
+	for i := 0; err == nil && i < len(ways); i++ {
+		var has bool
+		if has, err = tried.try(ways[i]); has {
+			found = append(found, ways[i])
+		}
 	}
-	could, err := r.try(ctx, tried)
-	found = append(found, could...)
 	sort.Slice(found, func(i, k int) bool { return found[i].isBefore(found[k]) })
 	return found, err
 }
@@ -58,26 +68,29 @@ func (w way) isBefore(other way) bool {
 	return false
 }
 
-// value reads the value of an answer of the program to a function.
-func (r *rerun) value(ctx context.Context, value any, function string, arguments ...string) error {
+// value reads the value of an answer to a function, if there is a place for it.
+func (r *rerun) value(value any, function string, arguments ...string) error {
 	call, err := api.NewCall(function, arguments...)
 	if err != nil {
 		return err
 	}
-	answer, err := r.one(ctx, string(call.Line))
+	answer, err := r.office.Answer(call.Line)
 	if err != nil {
 		return err
 	}
-	if !api.IsAccepted([]byte(answer)) {
-		return &RefusedError{function, answer}
+	if !api.IsAccepted(answer) {
+		return &RefusedError{function, string(answer)}
 	}
-	return api.ValueOf([]byte(answer), value)
+	if value == nil {
+		return nil
+	}
+	return api.ValueOf(answer, value)
 }
 
 // permissionsOf returns the permissions of a user that a query chooses.
-func (r *rerun) permissionsOf(ctx context.Context, query AccessQuery) (chosen []permission, err error) {
+func (r *rerun) permissionsOf(query AccessQuery) (chosen []permission, err error) {
 	var all []permission
-	if err := r.value(ctx, &all, "userPermissions", "user", query.User); err != nil {
+	if err := r.value(&all, "userPermissions", "user", query.User); err != nil {
 		return nil, err
 	}
 	for _, one := range all {
@@ -90,17 +103,17 @@ func (r *rerun) permissionsOf(ctx context.Context, query AccessQuery) (chosen []
 
 // candidates returns the ways in which users are authorized for permissions, of one user if it has a name. Whether a session can have
 // them is another question.
-func (r *rerun) candidates(ctx context.Context, user string, permissions []permission) (ways []way, err error) {
+func (r *rerun) candidates(user string, permissions []permission) (ways []way, err error) {
 	users := map[string][]string{} // by their role
 	for _, one := range permissions {
 		var roles []string
-		if err := r.value(ctx, &roles, "permissionRoles", "object", one[0], "operation", one[1]); err != nil {
+		if err := r.value(&roles, "permissionRoles", "object", one[0], "operation", one[1]); err != nil {
 			return nil, err
 		}
 		for _, role := range roles {
 			if _, isKnown := users[role]; !isKnown {
 				var authorized []string
-				if err := r.value(ctx, &authorized, "authorizedUsers", "role", role); err != nil {
+				if err := r.value(&authorized, "authorizedUsers", "role", role); err != nil {
 					return nil, err
 				}
 				users[role] = authorized
@@ -115,87 +128,43 @@ func (r *rerun) candidates(ctx context.Context, user string, permissions []permi
 	return ways, nil
 }
 
-// ask sends a question whose answer goes to a function once it is there.
-func (r *rerun) ask(answered func(answer []byte), function string, arguments ...string) error {
-	call, err := api.NewCall(function, arguments...)
-	if err == nil {
-		r.replay.Send(call.Line, answered)
-	}
-	return err
-}
-
-const (
-	isAllowed   = `{"ok":true,"value":true}`
-	checkAccess = "checkAccess"
-)
-
-// sessionsWith returns the sessions that had access to permissions. One of them is ended then: there may be room for no other.
-func (r *rerun) sessionsWith(ctx context.Context, user string, permissions []permission) (found []way, err error) {
-	all, err := r.sessions(ctx)
-	if err != nil || len(all) == 0 {
-		return nil, err
-	}
-	for _, one := range all {
-		if user != "" && one.user != user {
+// sessionsWith returns the sessions among the rows that had access to permissions. One of them is ended then: there may be room for no
+// other.
+func (r *rerun) sessionsWith(rows []rbacoffice.Row, user string, permissions []permission) (found []way, err error) {
+	var last *rbacoffice.Row
+	for i := range rows {
+		row := &rows[i]
+		if row.Table != rbacoffice.Sessions {
+			continue
+		}
+		if last = row; user != "" && row.Names[1] != user {
 			continue
 		}
 		for _, p := range permissions {
-			w := way{user: one.user, object: p[0], operation: p[1], session: one.session}
-			err := r.ask(func(answer []byte) {
-				if string(answer) == isAllowed {
-					found = append(found, w)
-				}
-			}, checkAccess, session, w.session, "operation", w.operation, "object", w.object)
+			has, err := r.office.Check(row.Names[0], p[1], p[0])
 			if err != nil {
 				return nil, err
 			}
+			if has {
+				found = append(found, way{user: row.Names[1], object: p[0], operation: p[1], session: row.Names[0]})
+			}
 		}
 	}
-	if err := r.ask(func([]byte) {}, "deleteSession", "user", all[0].user, session, all[0].session); err != nil {
-		return nil, err
+	if last == nil {
+		return nil, nil
 	}
-	_, err = r.one(ctx, marker)
-	return found, err
+	return found, r.value(nil, "deleteSession", "user", last.Names[1], session, last.Names[0])
 }
 
-// sessions returns the sessions of the copy with their users.
-func (r *rerun) sessions(ctx context.Context) (found []way, err error) {
-	err = r.look(func(c *officeCopy) error {
-		rows, err := c.db.QueryContext(ctx, "SELECT a, b FROM pair_row WHERE kind = 7 ORDER BY 1")
-		if err != nil {
-			return err
-		}
-		defer rows.Close()
-		for rows.Next() {
-			var w way
-			if err := rows.Scan(&w.session, &w.user); err != nil {
-				return err
-			}
-			found = append(found, w)
-		}
-		return rows.Err()
-	})
-	return found, err
-}
-
-// try returns those ways by which the program lets a session of the user have access.
-func (r *rerun) try(ctx context.Context, ways []way) (found []way, err error) {
-	for _, w := range ways {
-		w := w
-		create := `{"fn":"createSession","user":` + quoted(w.user) + `,"roles":[` + quoted(w.role) + `],"session":"` + trySession + `"}`
-		r.replay.Send([]byte(create), func([]byte) {}) // If it is refused, the session has no access.
-		err := r.ask(func(answer []byte) {
-			if string(answer) == isAllowed {
-				found = append(found, w)
-			}
-		}, checkAccess, session, trySession, "operation", w.operation, "object", w.object)
-		if err == nil {
-			err = r.ask(func([]byte) {}, "deleteSession", "user", w.user, session, trySession)
-		}
-		if err != nil {
-			return nil, err
-		}
+// try reports whether librbac lets a session of the user that has the role alone have access.
+func (r *rerun) try(w way) (bool, error) {
+	create := `{"fn":"createSession","user":` + quoted(w.user) + `,"roles":[` + quoted(w.role) + `],"session":"` + trySession + `"}`
+	if answer, err := r.office.Answer([]byte(create)); err != nil || !api.IsAccepted(answer) {
+		return false, err // If it is refused, the session has no access.
 	}
-	_, err = r.one(ctx, marker)
-	return found, err
+	has, err := r.office.Check(trySession, w.operation, w.object)
+	if err == nil {
+		err = r.value(nil, "deleteSession", "user", w.user, session, trySession)
+	}
+	return has, err
 }

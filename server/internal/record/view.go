@@ -1,0 +1,127 @@
+package record
+
+import (
+	"context"
+	"database/sql"
+	"errors"
+	"fmt"
+	"os"
+	"strings"
+)
+
+// A view is a state of a file of a record, which does not change while others write the file.
+type view struct {
+	path string
+	db   *sql.DB
+	tx   *sql.Tx
+	// parts are those of the file, at least one. answered is the last entry with an answer, and last the last one.
+	parts          []part
+	answered, last entry
+}
+
+// openView opens a file as it is now.
+func openView(ctx context.Context, path string) (*view, error) {
+	v, err := openViewBy(ctx, path, "mode=ro&_busy_timeout="+busy)
+	if err != nil && (strings.Contains(err.Error(), "unable to open") || strings.Contains(err.Error(), "readonly database")) {
+		// A file beside which SQLite can't make its own, as in a backup that can't be written, isn't written by others either. Opened
+		// in this way it is read without its log.
+		if log, logErr := os.Stat(path + walSuffix); logErr == nil && log.Size() > 0 {
+			return nil, fmt.Errorf("%s: it has a log, which can't be read in a folder that can't be written: copy the folder", path)
+		}
+		v, err = openViewBy(ctx, path, "mode=ro&immutable=1")
+	}
+	return v, err
+}
+
+func openViewBy(ctx context.Context, path, options string) (*view, error) {
+	db, err := openFile(path, options)
+	if err != nil {
+		return nil, err
+	}
+	v := &view{path: path, db: db}
+	if v.tx, err = db.BeginTx(ctx, nil); err == nil {
+		if err = v.read(ctx); err == nil {
+			return v, nil
+		}
+		_ = v.tx.Rollback()
+	}
+	_ = db.Close()
+	return nil, fmt.Errorf("%s: %w", path, err)
+}
+
+// read reads what is known of each view.
+func (v *view) read(ctx context.Context) error {
+	if err := judgeVersion(v.tx); err != nil {
+		return err
+	}
+	rows, err := v.tx.QueryContext(ctx, "SELECT first, why, before, rows FROM part ORDER BY first")
+	if err != nil {
+		return err
+	}
+	defer rows.Close()
+	for rows.Next() {
+		var p part
+		if err := rows.Scan(&p.first, &p.why, &p.before, &p.rows); err != nil {
+			return err
+		}
+		v.parts = append(v.parts, p)
+	}
+	if err := rows.Err(); err != nil {
+		return err
+	}
+	if len(v.parts) == 0 {
+		return errors.New("it has no part")
+	}
+	if err := v.hideLater(ctx); err != nil {
+		return err
+	}
+	v.answered, v.last, err = lastOf(v.tx)
+	return err
+}
+
+func (v *view) Close() {
+	_ = v.tx.Rollback() // Nothing was written.
+	_ = v.db.Close()
+}
+
+// withView does something with a file as it is now.
+func withView(ctx context.Context, path string, do func(v *view) error) error {
+	v, err := openView(ctx, path)
+	if err != nil {
+		return err
+	}
+	defer v.Close()
+	return do(v)
+}
+
+// begin returns what the first part says of the entry before it.
+func (v *view) begin() entry { return entry{n: v.parts[0].first - 1, ch: v.parts[0].before} }
+
+// beginOf returns what the first part of a file says of the entry before it.
+func beginOf(ctx context.Context, path string) (begin entry, err error) {
+	err = withView(ctx, path, func(v *view) error { begin = v.begin(); return nil })
+	return begin, err
+}
+
+// linkOf returns the link of an entry, which may be the one before the first, or nothing if it isn't here.
+func (v *view) linkOf(ctx context.Context, n int64) (link string, err error) {
+	if begin := v.begin(); n == begin.n {
+		return begin.ch, nil
+	}
+	err = v.tx.QueryRowContext(ctx, "SELECT coalesce(chain, '') FROM entry WHERE n = ?", n).Scan(&link)
+	if errors.Is(err, sql.ErrNoRows) {
+		return "", nil
+	}
+	return link, err
+}
+
+// follow computes the links of the entries after one, up to a number, and does something with each. The entry becomes the last of them.
+func follow(ctx context.Context, db querier, last *entry, to int64, do func(e *entry) error) error {
+	return entriesAfter(ctx, db, last.n, to)(func(e *entry) error {
+		if e.n != last.n+1 || chained(last.ch, e) != e.ch {
+			return &breakError{last.n + 1}
+		}
+		*last = *e
+		return do(e)
+	})
+}
