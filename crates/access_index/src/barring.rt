@@ -1,5 +1,5 @@
 //! The barred roles: each of them violates a dynamic separation of duty set alone, so that no session may have it.
-ghost use Rattle.std.specs.Prelude.{◌≡◌, ◌≢◌, ◌<◌, ◌≤◌, ◌&&◌, ◌||◌, ℕ, Bool, IsTrue, false, length, IfOk, IfErr, Some, vec_len};
+ghost use Rattle.std.specs.Prelude.{◌≡◌, ◌≢◌, ◌<◌, ◌≤◌, ◌&&◌, ◌||◌, ℕ, Bool, IsTrue, false, length, IfOk, IfErr, None, Some, vec_len};
 ghost use Rattle.std.specs.List.{list_any};
 ghost use Rattle.rbac_sets.specs.Sets.{Bytes, contains, members, same_name};
 ghost use Rattle.rbac_sets.specs.declared.row.Change.{Change as ChangeContent};
@@ -9,7 +9,7 @@ ghost use Rattle.admin_mgr.specs.Changes.{Turns};
 ghost use Rattle.admin_mgr.specs.Good.{IsGood};
 ghost use Rattle.admin_mgr.specs.private.HolderRoles.{run_of};
 ghost use Rattle.access_index.specs.Following.{AreNumbers};
-ghost use Rattle.access_index.specs.Index.{Indexes, Keeps, Rows, is_below, is_used, number_of, rows_of};
+ghost use Rattle.access_index.specs.Index.{Indexes, Keeps, Rows, is_below, is_used, number_of, row_by_set, rows_of};
 ghost use Rattle.access_index.specs.private.Barring.{AreBarred, Forgets, at_least, can_bar, can_bar_by, changed_row, has_members, is_member};
 
 use crate::index::{AccessIndex, reach};
@@ -63,7 +63,7 @@ impl AccessIndex {
         ensures rest { self.new ≡ record self.old { by_set = self.new.by_set } }
     {
         match row {
-            Row::PairRow(Row::CLOSURE_PAIR, _, _) => self.by_set.clear(),
+            Row::PairRow(Row::CLOSURE_PAIR, _, _) => self.forget_sets(),
             Row::PairRow(Row::DYNAMIC_MEMBER, set, _) => self.forget_set(set),
             Row::SetRow(Row::DYNAMIC_CARDINALITY, set, _) => self.forget_set(set),
             _ => {}
@@ -83,7 +83,17 @@ impl AccessIndex {
         ensures { (rows : Rows) (barred : Bytes → Bool) (barred_by : Bytes → Bytes → Bool) → Keeps self.old rows → Keeps self.new (record rows { barred = barred; barred_by = barred_by }) }
     {
         self.barred = None;
-        self.by_set.clear();
+        self.forget_sets();
+    }
+
+    // Forgets which roles each set bars.
+    fn forget_sets(&mut self)
+        ensures none { (set : Bytes) → row_by_set self.new set ≡ None }
+        ensures rest { self.new ≡ record self.old { by_set = self.new.by_set } }
+    {
+        if !self.by_set.is_empty() {
+            self.by_set.clear();
+        }
     }
 
     // The numbers of the roles that are barred in the state. Those that a set bars are counted if they aren't known.
