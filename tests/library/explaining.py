@@ -147,12 +147,20 @@ def draw_sessions(draws, roles):
 
 
 def answer(function, *arguments):
-    """Returns what the function gives, or the code of its refusal."""
+    """Returns what a function of the model gives, or the code of its refusal."""
+    try:
+        return function(*arguments)
+    except Refused as refused:
+        return refused.code
+
+
+def answer_of(function, *arguments):
+    """The same for a function of the library."""
     from rbac_office import Refused as NotThere
 
     try:
         return function(*arguments)
-    except (Refused, NotThere) as refused:
+    except NotThere as refused:
         return refused.code
 
 
@@ -188,7 +196,7 @@ def check_reasons_of_sessions(bench):
                 office.call(function, **arguments)
             for session in ["t0", "t1", "t2", "t3", "t4"]:
                 for ob, op in [*PERMISSIONS, ("desk", "open"), ("safe", "burn")]:
-                    wanted, given = answer(explain_session, state, session, op, ob), answer(
+                    wanted, given = answer(explain_session, state, session, op, ob), answer_of(
                         office.explain_session, session, op, ob
                     )
                     given = given if isinstance(given, int) else tuple(given)
@@ -215,7 +223,7 @@ def check_activations(bench):
             for function, arguments in commands:
                 office.call(function, **arguments)
             for asked in itertools.product([*USERS, "zoe"], ["t0", "t1", "t4"], [*roles, "none"]):
-                wanted, given = answer(activation_conflicts, state, *asked), answer(office.activation_conflicts, *asked)
+                wanted, given = answer(activation_conflicts, state, *asked), answer_of(office.activation_conflicts, *asked)
                 code, named = named_set(state, "addActiveRole", *asked)
                 if given != wanted or code == 25 and given[0] != named or code is None and given != []:
                     wrong.append(f"office {number}, {asked}: {given} and not {wanted}, {named}")
@@ -241,7 +249,7 @@ def check_creations(bench):
                 office.call(function, **arguments)
             for user, count in itertools.product([*USERS, "zoe"], range(4)):
                 asked = user, draws.sample([*roles, "none"], count)
-                wanted, given = answer(creation_conflicts, state, *asked), answer(office.creation_conflicts, *asked)
+                wanted, given = answer(creation_conflicts, state, *asked), answer_of(office.creation_conflicts, *asked)
                 code, named = named_set(state, "createSession", *asked, "new")
                 if given != wanted or code == 25 and given[0][0] != named or code is None and given != []:
                     wrong.append(f"office {number}, {asked}: {given} and not {wanted}, {named}")
@@ -266,7 +274,7 @@ def check_inheritances(bench):
                 office.call(function, **arguments)
             for asked in itertools.product([*roles, "none"], repeat=2):
                 wanted = answer(inheritance_conflicts, state, *asked)
-                users = answer(office.inheritance_conflicts, *asked)
+                users = answer_of(office.inheritance_conflicts, *asked)
                 given = users if isinstance(users, int) else (users, office.inheritance_conflicts(*asked, of_sessions=True))
                 code, named = named_set(state, "addInheritance", *asked)
                 first = {24: lambda: users[0][0], 25: lambda: given[1][0][0]}.get(code, lambda: None)

@@ -245,7 +245,7 @@ def check_structure(bench):
 
 def check_reason(bench):
     """The field for the reason of a command has the name and the length that the front reads."""
-    source = (sources.ROOT / "server/internal/front/signing.go").read_text(encoding="utf-8")
+    source = (sources.ROOT / "server/internal/endpoints/signing.go").read_text(encoding="utf-8")
     reason = COMPONENTS["parameters"]["Reason"]
     bench.same("its name", f'reasonField   = "{reason["name"]}"' in source, True)
     bench.same("its length", f'longestReason = {reason["schema"]["maxLength"]}\n' in source, True)
