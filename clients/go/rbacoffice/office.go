@@ -7,7 +7,7 @@ package rbacoffice
 // #include <stdlib.h>
 // #include "rbac.h"
 //
-// // So many rows are returned by one call at most, and so many bytes are enough for as many conflicts.
+// // ROWS is the most rows that one call returns, and ROOM has enough bytes for that many conflicts.
 // enum { ROWS = 64, ROOM = 128 * ROWS };
 //
 // // An office with what its calls return. It is in the memory of C: cgo would check a pointer to Go's memory at each call,

@@ -58,7 +58,7 @@ type Feed struct {
 	figures
 	keeping
 	// asked has the units that the keeper hasn't got, and sent those that the replay has got and not answered, in their order. There is
-	// always room in sent: so many are never at the replay.
+	// always room in sent: the replay never has that many at once.
 	asked, sent chan *Unit
 	alive       chan struct{}
 	replay      *office.Replay

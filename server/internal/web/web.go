@@ -320,7 +320,7 @@ func Refused(ctx context.Context) {
 	}
 }
 
-// Unlimited lets the answer to the request with this context take as long as the client takes in time what is written at once.
+// Unlimited removes the time limit of a whole answer, for the request with this context. Each single write keeps its own limit.
 func Unlimited(ctx context.Context) {
 	if at, has := ctx.Value(placeKey{}).(place); has {
 		_ = at.conn.SetWriteDeadline(time.Time{}) // If it fails, nothing can be written.
