@@ -1,8 +1,7 @@
 /* Refuses null pointers, and calls the proved functions of crates/rbac_c. Those that read an office in its place get the pointer
- * that the handle has. One conflict by itself is taken from a call for several. This file is tested, and nothing proves it. */
+ * that the handle has. This file is tested, and nothing proves it. */
 #include "rbac.h"
 #include <stdbool.h>
-#include <string.h>
 #include <sys/random.h>
 #include <time.h>
 
@@ -186,61 +185,6 @@ uint32_t rbac_creation_conflicts(rbac_office *office, const void *user, size_t u
     return rbac_office_creation_conflicts(office, at(user), user_length, at(roles), roles_length,
         role_lengths != NULL ? role_lengths : &no_length, role_count, index, out != NULL ? out : &empty, out_length,
         sets != NULL ? sets : &none, set_count, count, total);
-}
-
-/* Returns by itself the conflict that a function for several has left in `names`, if it has found one. */
-static uint32_t one_conflict(uint32_t code, size_t count, const char *names, void *out, size_t out_length, const rbac_row *set)
-{
-    if (code != RBAC_DONE)
-        return code;
-    if (count == 0)
-        return RBAC_ABSENT;
-    if (out_length < set->first + set->second)
-        return RBAC_SHORT;
-    memcpy(out, names, set->first + set->second);
-    return RBAC_DONE;
-}
-
-uint32_t rbac_assignment_conflict(rbac_office *office, const void *user, size_t user_length, const void *role, size_t role_length,
-    size_t index, void *out, size_t out_length, rbac_row *set)
-{
-    char names[RBAC_LONGEST_ROW];
-    size_t count = 0, total;
-    uint32_t code;
-
-    if (set == NULL || lacks(out, out_length))
-        return RBAC_NULL;
-    code = rbac_assignment_conflicts(office, user, user_length, role, role_length, index, names, sizeof names, set, 1, &count,
-        &total);
-    return one_conflict(code, count, names, out, out_length, set);
-}
-
-uint32_t rbac_activation_conflict(rbac_office *office, const void *user, size_t user_length, const void *session,
-    size_t session_length, const void *role, size_t role_length, size_t index, void *out, size_t out_length, rbac_row *set)
-{
-    char names[RBAC_LONGEST_ROW];
-    size_t count = 0, total;
-    uint32_t code;
-
-    if (set == NULL || lacks(out, out_length))
-        return RBAC_NULL;
-    code = rbac_activation_conflicts(office, user, user_length, session, session_length, role, role_length, index, names,
-        sizeof names, set, 1, &count, &total);
-    return one_conflict(code, count, names, out, out_length, set);
-}
-
-uint32_t rbac_inheritance_conflict(rbac_office *office, int of_sessions, const void *asc, size_t asc_length, const void *desc,
-    size_t desc_length, size_t index, void *out, size_t out_length, rbac_row *set)
-{
-    char names[RBAC_LONGEST_ROW];
-    size_t count = 0, total;
-    uint32_t code;
-
-    if (set == NULL || lacks(out, out_length))
-        return RBAC_NULL;
-    code = rbac_inheritance_conflicts(office, of_sessions, asc, asc_length, desc, desc_length, index, names, sizeof names, set, 1,
-        &count, &total);
-    return one_conflict(code, count, names, out, out_length, set);
 }
 
 uint32_t rbac_revision(const rbac_office *office, uint64_t *revision)

@@ -184,18 +184,6 @@ uint32_t rbac_creation_conflicts(rbac_office *office, const void *user, size_t u
     const size_t *role_lengths, size_t role_count, size_t index, void *out, size_t out_length, rbac_row *sets, size_t set_count,
     size_t *count, size_t *total);
 
-/* These return one conflict of those of the first three functions above, the one at the place `index`: its names in `out`, and
- * their lengths in `*set`.
- *
- * RBAC_DONE, or RBAC_ABSENT: there are no more. RBAC_SHORT: `*set` is written, but the names are longer than `out_length`; 128
- * bytes are enough. Otherwise the reasons are those from above. */
-uint32_t rbac_assignment_conflict(rbac_office *office, const void *user, size_t user_length, const void *role, size_t role_length,
-    size_t index, void *out, size_t out_length, rbac_row *set);
-uint32_t rbac_activation_conflict(rbac_office *office, const void *user, size_t user_length, const void *session,
-    size_t session_length, const void *role, size_t role_length, size_t index, void *out, size_t out_length, rbac_row *set);
-uint32_t rbac_inheritance_conflict(rbac_office *office, int of_sessions, const void *asc, size_t asc_length, const void *desc,
-    size_t desc_length, size_t index, void *out, size_t out_length, rbac_row *set);
-
 /* Writes to `*revision` how many commands the office has accepted. A decision that was made at a revision holds as long as
  * the revision stays the same.
  *

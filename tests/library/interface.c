@@ -171,6 +171,7 @@ static void names(rbac_office *office)
 static void sessions(rbac_office *office)
 {
     rbac_row reason;
+    size_t count = 7, total = 7;
 
     want("a session", rbac_answer(office, LINE("\"createSession\",\"user\":\"ann\",\"session\":\"s\",\"roles\":[\"boss\"]"), out,
         sizeof out, &length), RBAC_DONE);
@@ -183,35 +184,43 @@ static void sessions(rbac_office *office)
     want("why to null", rbac_explain_session(office, TEXT("s"), TEXT("p"), TEXT("o"), NULL, 1, &reason), RBAC_NULL);
     want("why without lengths", rbac_explain_session(office, TEXT("s"), TEXT("p"), TEXT("o"), out, 9, NULL), RBAC_NULL);
     want("why by null", rbac_explain_session(NULL, TEXT("s"), TEXT("p"), TEXT("o"), out, 9, &reason), RBAC_NULL);
-    want("no conflict of a session", rbac_activation_conflict(office, TEXT("ann"), TEXT("s"), TEXT("teller"), 0, out, 9, &reason),
-        RBAC_ABSENT);
-    want("one of no session", rbac_activation_conflict(office, TEXT("ann"), TEXT("t"), TEXT("teller"), 0, out, 9, &reason), 26);
-    want("one of null", rbac_activation_conflict(office, TEXT("ann"), NULL, 1, TEXT("r"), 0, out, 9, &reason), RBAC_NULL);
-    want("one to null", rbac_activation_conflict(office, TEXT("ann"), TEXT("s"), TEXT("r"), 0, NULL, 1, &reason), RBAC_NULL);
-    want("one without lengths", rbac_activation_conflict(office, TEXT("ann"), TEXT("s"), TEXT("r"), 0, out, 9, NULL), RBAC_NULL);
-    want("one by null", rbac_activation_conflict(NULL, TEXT("ann"), TEXT("s"), TEXT("r"), 0, out, 9, &reason), RBAC_NULL);
+    want("no conflict of a session", rbac_activation_conflicts(office, TEXT("ann"), TEXT("s"), TEXT("teller"), 0, out, 9, &reason, 1,
+        &count, &total), RBAC_DONE);
+    want("none of it", count == 0 && total == 0, 1);
+    want("one of no session", rbac_activation_conflicts(office, TEXT("ann"), TEXT("t"), TEXT("teller"), 0, out, 9, &reason, 1, &count,
+        &total), 26);
+    want("one of null", rbac_activation_conflicts(office, TEXT("ann"), NULL, 1, TEXT("r"), 0, out, 9, &reason, 1, &count, &total),
+        RBAC_NULL);
+    want("one to null", rbac_activation_conflicts(office, TEXT("ann"), TEXT("s"), TEXT("r"), 0, NULL, 1, &reason, 1, &count, &total),
+        RBAC_NULL);
+    want("one without lengths", rbac_activation_conflicts(office, TEXT("ann"), TEXT("s"), TEXT("r"), 0, out, 9, NULL, 1, &count,
+        &total), RBAC_NULL);
+    want("one by null", rbac_activation_conflicts(NULL, TEXT("ann"), TEXT("s"), TEXT("r"), 0, out, 9, &reason, 1, &count, &total),
+        RBAC_NULL);
 }
 
 /* Finds the set that the session would violate. */
 static void inheritances(rbac_office *office)
 {
     rbac_row set;
+    size_t count = 7, total = 7;
 
     want("a role", rbac_answer(office, LINE("\"addRole\",\"role\":\"payer\""), out, sizeof out, &length), RBAC_DONE);
     want("a set", rbac_answer(office, LINE("\"createDsdSet\",\"set\":\"pay\",\"roles\":[\"payer\",\"teller\"],\"cardinality\":2"),
         out, sizeof out, &length), RBAC_DONE);
     memset(out, '-', sizeof out);
-    want("a conflict", rbac_inheritance_conflict(office, 2, TEXT("boss"), TEXT("payer"), 0, out, 4, &set), RBAC_DONE);
-    want("its lengths", set.first == 3 && set.second == 1 && set.third == 0, 1);
+    want("a conflict", rbac_inheritance_conflicts(office, 2, TEXT("boss"), TEXT("payer"), 0, out, 4, &set, 1, &count, &total),
+        RBAC_DONE);
+    want("its lengths", count == 1 && set.first == 3 && set.second == 1 && set.third == 0, 1);
     want("its names", memcmp(out, "pays-", 5), 0);
-    want("too short", rbac_inheritance_conflict(office, 1, TEXT("boss"), TEXT("payer"), 0, out, 3, &set), RBAC_SHORT);
-    want("no more", rbac_inheritance_conflict(office, 1, TEXT("boss"), TEXT("payer"), 1, out, 9, &set), RBAC_ABSENT);
-    want("none of users", rbac_inheritance_conflict(office, 0, TEXT("boss"), TEXT("payer"), 0, out, 9, &set), RBAC_ABSENT);
-    want("a cycle", rbac_inheritance_conflict(office, 1, TEXT("teller"), TEXT("boss"), 0, out, 9, &set), 16);
-    want("one of null", rbac_inheritance_conflict(office, 0, TEXT("boss"), NULL, 1, 0, out, 9, &set), RBAC_NULL);
-    want("one to null", rbac_inheritance_conflict(office, 0, TEXT("boss"), TEXT("r"), 0, NULL, 1, &set), RBAC_NULL);
-    want("one without lengths", rbac_inheritance_conflict(office, 0, TEXT("boss"), TEXT("r"), 0, out, 9, NULL), RBAC_NULL);
-    want("one by null", rbac_inheritance_conflict(NULL, 0, TEXT("boss"), TEXT("r"), 0, out, 9, &set), RBAC_NULL);
+    want("too short", rbac_inheritance_conflicts(office, 1, TEXT("boss"), TEXT("payer"), 0, out, 3, &set, 1, &count, &total), RBAC_DONE);
+    want("one that is too long", count == 0 && total == 1, 1);
+    want("no more", rbac_inheritance_conflicts(office, 1, TEXT("boss"), TEXT("payer"), 1, out, 9, &set, 1, &count, &total), RBAC_DONE);
+    want("one before", count == 0 && total == 1, 1);
+    want("none of users", rbac_inheritance_conflicts(office, 0, TEXT("boss"), TEXT("payer"), 0, out, 9, &set, 1, &count, &total),
+        RBAC_DONE);
+    want("none of either", count == 0 && total == 0, 1);
+    want("a cycle", rbac_inheritance_conflicts(office, 1, TEXT("teller"), TEXT("boss"), 0, out, 9, &set, 1, &count, &total), 16);
 }
 
 /* Reads the sets that the session, or a new one, would violate at once, with more and with less room than they need. */
@@ -327,7 +336,8 @@ static void reasons(void)
 
     want("why by null", rbac_explain_user(NULL, TEXT("u"), TEXT("p"), TEXT("o"), out, sizeof out, &reason), RBAC_NULL);
     want("why when closed", rbac_explain_user(&office, TEXT("u"), TEXT("p"), TEXT("o"), out, sizeof out, &reason), RBAC_CLOSED);
-    want("a conflict when closed", rbac_assignment_conflict(&office, TEXT("u"), TEXT("r"), 0, out, 9, &reason), RBAC_CLOSED);
+    want("a conflict when closed", rbac_assignment_conflicts(&office, TEXT("u"), TEXT("r"), 0, out, 9, &reason, 1, &count, &total),
+        RBAC_CLOSED);
     want("conflicts when closed", rbac_creation_conflicts(&office, TEXT("u"), NULL, NULL, 0, 0, out, 9, &reason, 1, &count, &total),
         RBAC_CLOSED);
     want("their count", count == 0 && total == 0, 1);
@@ -344,14 +354,23 @@ static void reasons(void)
     want("its number", reason.number, RBAC_WHY_ALLOWED);
     want("its lengths", reason.first == 4 && reason.second == 6 && reason.third == 0, 1);
     want("its names", memcmp(out, "bossteller-", 11), 0);
-    want("no conflict", rbac_assignment_conflict(&office, TEXT("ann"), TEXT("boss"), 0, out, sizeof out, &reason), RBAC_ABSENT);
-    want("a conflict of nobody", rbac_assignment_conflict(&office, TEXT("u"), TEXT("r"), 0, out, sizeof out, &reason), 2);
-    want("a conflict of no role", rbac_assignment_conflict(&office, TEXT("ann"), TEXT("r"), 0, out, sizeof out, &reason), 4);
-    want("a conflict of no name", rbac_assignment_conflict(&office, TEXT("ann"), NULL, 0, 0, out, 9, &reason), RBAC_BAD_NAME);
-    want("a conflict of null", rbac_assignment_conflict(&office, NULL, 1, TEXT("r"), 0, out, 9, &reason), RBAC_NULL);
-    want("a conflict to null", rbac_assignment_conflict(&office, TEXT("ann"), TEXT("r"), 0, NULL, 1, &reason), RBAC_NULL);
-    want("a conflict without lengths", rbac_assignment_conflict(&office, TEXT("ann"), TEXT("r"), 0, out, 9, NULL), RBAC_NULL);
-    want("a conflict by null", rbac_assignment_conflict(NULL, TEXT("ann"), TEXT("r"), 0, out, 9, &reason), RBAC_NULL);
+    want("no conflict", rbac_assignment_conflicts(&office, TEXT("ann"), TEXT("boss"), 0, out, sizeof out, &reason, 1, &count, &total),
+        RBAC_DONE);
+    want("none of ann", count == 0 && total == 0, 1);
+    want("a conflict of nobody", rbac_assignment_conflicts(&office, TEXT("u"), TEXT("r"), 0, out, 9, &reason, 1, &count, &total),
+        2);
+    want("a conflict of no role", rbac_assignment_conflicts(&office, TEXT("ann"), TEXT("r"), 0, out, 9, &reason, 1, &count, &total),
+        4);
+    want("a conflict of no name", rbac_assignment_conflicts(&office, TEXT("ann"), NULL, 0, 0, out, 9, &reason, 1, &count, &total),
+        RBAC_BAD_NAME);
+    want("a conflict of null", rbac_assignment_conflicts(&office, NULL, 1, TEXT("r"), 0, out, 9, &reason, 1, &count, &total),
+        RBAC_NULL);
+    want("a conflict to null", rbac_assignment_conflicts(&office, TEXT("ann"), TEXT("r"), 0, NULL, 1, &reason, 1, &count, &total),
+        RBAC_NULL);
+    want("a conflict without lengths", rbac_assignment_conflicts(&office, TEXT("ann"), TEXT("r"), 0, out, 9, NULL, 1, &count, &total),
+        RBAC_NULL);
+    want("a conflict by null", rbac_assignment_conflicts(NULL, TEXT("ann"), TEXT("r"), 0, out, 9, &reason, 1, &count, &total),
+        RBAC_NULL);
     sessions(&office);
     inheritances(&office);
     many_conflicts(&office);
