@@ -4,6 +4,7 @@ import (
 	"io"
 	"os"
 	"path/filepath"
+	"strings"
 )
 
 // Sync makes a file, or the names in a folder, durable.
@@ -61,4 +62,9 @@ func Close(file io.Closer, err error) error {
 		return closing
 	}
 	return err
+}
+
+// EscapeGlob returns a pattern that matches a path alone.
+func EscapeGlob(path string) string {
+	return strings.NewReplacer(`\`, `\\`, `*`, `\*`, `?`, `\?`, `[`, `\[`).Replace(path)
 }

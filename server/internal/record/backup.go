@@ -69,7 +69,7 @@ func (t *Tool) Backup(ctx context.Context, folder string) error {
 // linkOrCopy copies the file of an earlier part, which never changes. If a backup in the folder has the same, it becomes another name
 // of that.
 func linkOrCopy(path, to, folder string) error {
-	earlier, err := filepath.Glob(filepath.Join(escapeGlob(folder), "*", filepath.Base(filepath.Dir(to)), filepath.Base(path)))
+	earlier, err := filepath.Glob(filepath.Join(disk.EscapeGlob(folder), "*", filepath.Base(filepath.Dir(to)), filepath.Base(path)))
 	if err != nil {
 		return err
 	}
@@ -159,7 +159,7 @@ func (k *keptPair) Close() {
 
 // begin copies the office, and opens the record as it is now.
 func (t *Tool) begin(ctx context.Context, path, to string) (*keptPair, error) {
-	if err := copyOffice(t.Office, to); err != nil {
+	if err := office.Copy(t.Office, to); err != nil {
 		return nil, err
 	}
 	opened, err := openView(ctx, path)

@@ -59,11 +59,11 @@ func mapped(ctx context.Context, program, path string) (rows string, err error) 
 	if err := disk.Close(db, mapSessions(ctx, db)); err != nil {
 		return "", err
 	}
-	o, err := readRows(ctx, path, ofCopy, true)
+	o, err := readRows(ctx, path, office.OfCopy, true)
 	if err != nil {
 		return "", err
 	}
-	return o.sums().all, office.Run(ctx, program, "check", path)
+	return o.sums().Digest, office.Run(ctx, program, "check", path)
 }
 
 // addBase makes a mapped copy of the office after the entry n a base, and deletes the oldest ones.

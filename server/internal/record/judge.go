@@ -7,6 +7,8 @@ import (
 	"os"
 	"path/filepath"
 	"strings"
+
+	"rbac-node/internal/office"
 )
 
 // objectsOf returns the tables, indexes, views and triggers of a file, each with the statement that makes it.
@@ -100,11 +102,11 @@ func (v *verifier) compareBases(ctx context.Context, opened *view, p part, end i
 			return err
 		}
 		path := filepath.Join(v.dir(), b.name())
-		o, err := readRows(ctx, path, ofUnchanged, true)
+		o, err := readRows(ctx, path, office.OfUnchanged, true)
 		if _, gone := os.Stat(path); errors.Is(gone, os.ErrNotExist) {
 			continue // A newer one has taken its place meanwhile.
 		}
-		if err != nil || o.sums() != given || b.rows != given.all {
+		if err != nil || o.sums() != given || b.rows != given.Digest {
 			return fmt.Errorf("the base copy %s is not what the record gives at entry %d: delete it, and compare the office", b.name(), b.n)
 		}
 	}

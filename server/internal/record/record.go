@@ -21,6 +21,7 @@ import (
 
 	"rbac-node/internal/feed"
 	"rbac-node/internal/logs"
+	"rbac-node/internal/office"
 )
 
 const (
@@ -142,7 +143,7 @@ func newRecord(options Options) *Record {
 		r.dir = DirOf(options.Office)
 	}
 	r.life, r.stop = context.WithCancel(context.Background())
-	removeScratch(r.Office, r.dir)
+	scratchOf(r.Office, r.dir).RemoveLeft()
 	return r
 }
 
@@ -193,7 +194,7 @@ func (r *Record) beginWith(ctx context.Context, p part, at string, refuse func(h
 		return err
 	}
 	err := r.withCopy(ctx, r.Office, func(copied, rows string) error {
-		o, err := readRows(ctx, copied, ofCopy, true)
+		o, err := readRows(ctx, copied, office.OfCopy, true)
 		if err == nil {
 			err = refuse(len(o.rows) > 0)
 		}
@@ -390,7 +391,7 @@ func (r *Record) IsDue() bool {
 func (r *Record) Rest() {
 	scratch, end, err := newScratch(r.Office, r.dir)
 	if err == nil {
-		err = copyOffice(r.Office, filepath.Join(scratch, "office"))
+		err = office.Copy(r.Office, filepath.Join(scratch, "office"))
 	}
 	r.mutex.Lock()
 	r.based, r.isMaking = r.head.n, true

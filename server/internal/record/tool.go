@@ -8,11 +8,12 @@ import (
 	"os"
 	"path/filepath"
 	"sort"
-	"strings"
 	"syscall"
 	"time"
 
+	"rbac-node/internal/disk"
 	"rbac-node/internal/logs"
+	"rbac-node/internal/office"
 	"rbac-node/internal/single"
 )
 
@@ -158,7 +159,7 @@ func partsIn(dir string) (parts, left []string, err error) {
 	if err != nil {
 		return nil, nil, err
 	}
-	found, err := filepath.Glob(filepath.Join(escapeGlob(dir), partPrefix+"*.db"))
+	found, err := filepath.Glob(filepath.Join(disk.EscapeGlob(dir), partPrefix+"*.db"))
 	if err != nil {
 		return nil, nil, err
 	}
@@ -195,11 +196,6 @@ func removeLeftNames(dir string) error {
 		}
 	}
 	return nil
-}
-
-// escapeGlob returns a pattern that matches a path alone.
-func escapeGlob(path string) string {
-	return strings.NewReplacer(`\`, `\\`, `*`, `\*`, `?`, `\?`, `[`, `\[`).Replace(path)
 }
 
 // eachView does something with each file of the record, in the order of their entries.
@@ -241,7 +237,7 @@ func (r *Record) withCopy(ctx context.Context, file string, work func(copied, ro
 	}
 	defer end()
 	copied := filepath.Join(scratch, "office")
-	if err := copyOffice(file, copied); err != nil {
+	if err := office.Copy(file, copied); err != nil {
 		return err
 	}
 	rows, err := mapped(ctx, r.Program, copied)

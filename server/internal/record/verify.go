@@ -5,6 +5,8 @@ import (
 	"errors"
 	"fmt"
 	"path/filepath"
+
+	"rbac-node/internal/office"
 )
 
 // A verifier reads a record from its beginning, and does its commands again.
@@ -13,7 +15,7 @@ type verifier struct {
 	scratch string
 	// want has the rows of the office, or is nil if a front has it. On a node it has those of the newest snapshot, which is at a place
 	// of the record.
-	want *sums
+	want *office.Sums
 	at   Head
 	// heads has the links that are known from elsewhere, by the numbers of their entries, and known is the newest of these.
 	heads map[int64]string
@@ -253,7 +255,7 @@ func (v *verifier) part(ctx context.Context, opened *view, p part, end int64, is
 		return v.compare(ctx, opened, again)
 	}
 	s, err := again.sums()
-	v.rows = s.all
+	v.rows = s.Digest
 	if isLast && v.Data == "" {
 		fmt.Fprintln(v.Out, "a front has the office: its rows are not compared")
 	}

@@ -23,7 +23,7 @@ type Event struct {
 func (s *State) keep(call *api.Call) {
 	line := call.Line
 	if isAboutSession(call.Function) {
-		line, _ = call.LineWith("session", digest(call.Session)) // An accepted one is short.
+		line, _ = call.LineWith("session", DigestOf(call.Session)) // An accepted one is short.
 	}
 	if cap(line) > len(line)+mostSpare {
 		line = append(make([]byte, 0, len(line)), line...)

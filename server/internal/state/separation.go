@@ -232,10 +232,10 @@ func (v *View) sessionsAfter(call *api.Call) (found []holding) {
 	name := call.Session
 	switch call.Function {
 	case "createSession":
-		return []holding{{call.User, digest(name), sorted(call.Roles)}}
+		return []holding{{call.User, DigestOf(name), sorted(call.Roles)}}
 	case "addActiveRole":
 		active := v.of(rbacoffice.ActivatedRoles, name)
-		return []holding{{call.User, digest(name), sorted(append(active, call.Role))}}
+		return []holding{{call.User, DigestOf(name), sorted(append(active, call.Role))}}
 	}
 	for _, one := range v.Sessions() {
 		found = append(found, holding{one.User, one.Digest, one.Active})
