@@ -1,10 +1,16 @@
 package disk
 
 import (
+	"context"
+	"errors"
 	"io"
 	"os"
 	"path/filepath"
 	"strings"
+	"syscall"
+	"time"
+
+	"rbac-node/internal/pause"
 )
 
 // Sync makes a file, or the names in a folder, durable.
@@ -62,6 +68,19 @@ func Close(file io.Closer, err error) error {
 		return closing
 	}
 	return err
+}
+
+// lockInterval is the time between two attempts to lock a file.
+const lockInterval = 10 * time.Millisecond
+
+// Lock locks an open file or folder in a way that flock(2) has, and waits until the context ends for those who have another lock on it.
+func Lock(ctx context.Context, file *os.File, how int) error {
+	for {
+		err := syscall.Flock(int(file.Fd()), how|syscall.LOCK_NB)
+		if !errors.Is(err, syscall.EWOULDBLOCK) || pause.For(ctx, lockInterval) != nil {
+			return err
+		}
+	}
 }
 
 // EscapeGlob returns a pattern that matches a path alone.

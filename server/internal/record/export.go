@@ -10,6 +10,7 @@ import (
 	"time"
 
 	"rbac-node/internal/disk"
+	"rbac-node/internal/pause"
 )
 
 // An Export sends entries to a receiver of syslog.
@@ -75,10 +76,7 @@ func (t *Tool) Export(ctx context.Context, options Export) error {
 		if err != nil && !isLost || !options.IsFollowing {
 			return err
 		}
-		select {
-		case <-ctx.Done():
-		case <-time.After(exportPause):
-		}
+		_ = pause.For(ctx, exportPause) // It looks once more at the end.
 	}
 }
 

@@ -14,7 +14,6 @@ import (
 	"rbac-node/internal/disk"
 	"rbac-node/internal/logs"
 	"rbac-node/internal/office"
-	"rbac-node/internal/single"
 )
 
 // A Tool does what commands other than serve do with the record of an office, or with that of a node of several machines, whose
@@ -64,10 +63,10 @@ func (t *Tool) lockIfFree(ctx context.Context) (*os.File, error) {
 	path := t.Office + ".lock"
 	if t.Data != "" {
 		path = filepath.Join(t.Data, "lock")
-	} else if err := single.CheckRestored(t.Office); err != nil {
+	} else if err := office.CheckRestored(t.Office); err != nil {
 		return nil, err
 	}
-	lock, err := single.Lock(within, path)
+	lock, err := office.Lock(within, path)
 	if errors.Is(err, os.ErrPermission) || errors.Is(err, syscall.EROFS) {
 		return lockReadOnly(path)
 	}

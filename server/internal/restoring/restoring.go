@@ -16,7 +16,7 @@ import (
 	"syscall"
 	"time"
 
-	"rbac-node/internal/single"
+	"rbac-node/internal/office"
 )
 
 // Options say what is restored, and in whose place.
@@ -57,7 +57,7 @@ func Run(ctx context.Context, o Options) (err error) {
 
 // run restores an opened backup.
 func (o *Options) run(ctx context.Context, b *backup) error {
-	lock, err := single.Lock(ctx, o.Office+".lock")
+	lock, err := office.Lock(ctx, o.Office+".lock")
 	if errors.Is(err, syscall.EWOULDBLOCK) {
 		return fmt.Errorf("%s: a front has the office: stop it first", o.Office)
 	}
