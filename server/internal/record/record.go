@@ -72,6 +72,7 @@ type Record struct {
 	// head is the last entry with an answer. durable is the head that was last synced, and announced the one that was last logged.
 	head               entry
 	durable, announced Head
+	headGauge          *prometheus.GaugeVec
 	// based is the entry of the newest base, or the one at which making one was last tried. isMaking says that one is being made.
 	based    int64
 	isMaking bool
@@ -138,7 +139,9 @@ func (r *Record) say(stage string) {
 
 // newRecord returns a record that isn't open yet, and removes what a crash has left of copies.
 func newRecord(options Options) *Record {
-	r := &Record{Options: options, dir: options.Dir}
+	r := &Record{Options: options, dir: options.Dir, headGauge: prometheus.NewGaugeVec(prometheus.GaugeOpts{
+		Name: "rbac_node_record_head", Help: "The head of the record that was last logged: the number of its entry, and the link as a label.",
+	}, []string{"chain"})}
 	if r.dir == "" {
 		r.dir = DirOf(options.Office)
 	}
