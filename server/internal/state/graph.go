@@ -68,11 +68,9 @@ func (g *Graph) Violated(isAmong func(role string) bool) (name string, members [
 
 // Below returns a role and its juniors, which librbac knows.
 func (v *View) Below(role string) map[string]bool {
-	rows, err := v.state.office.RowsWith(rbacoffice.ClosurePairs, role)
-	v.fail(err)
 	found := map[string]bool{role: true}
-	for _, row := range rows {
-		found[row.Names[1]] = true
+	for _, junior := range v.of(rbacoffice.ClosurePairs, role) {
+		found[junior] = true
 	}
 	return found
 }

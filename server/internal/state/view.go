@@ -190,24 +190,19 @@ func (v *View) all(table rbacoffice.Table) []Row {
 	return found
 }
 
-// of returns the second names of the rows with a first name.
-func (v *View) of(table rbacoffice.Table, first string) (names []string) {
-	v.scan(table, v.place(table, Row{first}), func(row Row) bool {
-		if row[0] == first {
-			names = append(names, row[1])
-		}
-		return row[0] == first
-	})
-	return names
+// with returns the rows of a table with a first name.
+func (v *View) with(table rbacoffice.Table, first string) []rbacoffice.Row {
+	rows, err := v.state.office.RowsWith(table, first)
+	v.fail(err)
+	return rows
 }
 
-// has reports whether there is a row with one name.
-func (v *View) has(table rbacoffice.Table, name string) (has bool) {
-	v.scan(table, v.place(table, Row{name}), func(row Row) bool {
-		has = row[0] == name
-		return false
-	})
-	return has
+// of returns the second names of the rows with a first name.
+func (v *View) of(table rbacoffice.Table, first string) (names []string) {
+	for _, row := range v.with(table, first) {
+		names = append(names, row.Names[1])
+	}
+	return names
 }
 
 // Rows returns the rows of all tables.
@@ -218,10 +213,10 @@ func (v *View) Rows() []rbacoffice.Row {
 }
 
 // IsLocked reports whether a user is locked.
-func (v *View) IsLocked(user string) bool { return v.has(rbacoffice.Locks, user) }
+func (v *View) IsLocked(user string) bool { return len(v.with(rbacoffice.Locks, user)) > 0 }
 
 // HasRole reports whether there is a role.
-func (v *View) HasRole(role string) bool { return v.has(rbacoffice.Roles, role) }
+func (v *View) HasRole(role string) bool { return len(v.with(rbacoffice.Roles, role)) > 0 }
 
 // AssignedRoles returns the roles that a user is assigned to, in their order.
 func (v *View) AssignedRoles(user string) []string { return v.of(rbacoffice.Assignments, user) }
