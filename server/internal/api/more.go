@@ -59,24 +59,3 @@ func ValueOf(answer []byte, value any) error {
 	found := struct{ Value any }{value}
 	return json.Unmarshal(answer, &found)
 }
-
-// PairsOf reads the value of an answer that is a list of pairs of names, which may have thousands.
-func PairsOf(answer []byte) (pairs [][2]string, err error) {
-	found, err := FieldsOf(string(answer))
-	if err != nil {
-		return nil, err
-	}
-	items, err := Items(found.At("value"))
-	if err != nil {
-		return nil, err
-	}
-	pairs = make([][2]string, len(items))
-	for i, item := range items {
-		pair, err := Texts(item)
-		if err != nil || len(pair) != 2 {
-			return nil, BadRequestSince(http.StatusBadRequest, "the value is no list of pairs")
-		}
-		copy(pairs[i][:], pair)
-	}
-	return pairs, nil
-}
