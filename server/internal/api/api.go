@@ -160,8 +160,18 @@ func Close(w http.ResponseWriter) { w.Header().Set("Connection", "close") }
 
 // Write answers a request with a text of JSON, and returns the status.
 func Write(w http.ResponseWriter, status int, text []byte) int {
+	return WriteAs(w, status, "application/json", text)
+}
+
+// WriteLines answers a request with lines of JSON.
+func WriteLines(w http.ResponseWriter, text []byte) int {
+	return WriteAs(w, http.StatusOK, "application/jsonl", text)
+}
+
+// WriteAs answers a request with a text of a type, and returns the status.
+func WriteAs(w http.ResponseWriter, status int, kind string, text []byte) int {
 	head := w.Header()
-	head["Content-Type"] = []string{"application/json"}
+	head["Content-Type"] = []string{kind}
 	head["Content-Length"] = []string{strconv.Itoa(len(text))}
 	w.WriteHeader(status)
 	_, _ = w.Write(text) // If it fails, the client is gone.

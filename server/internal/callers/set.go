@@ -11,7 +11,6 @@ import (
 	"sort"
 	"strings"
 	"sync"
-	"time"
 
 	"rbac/clients/go/rbacoffice"
 
@@ -44,15 +43,11 @@ type Set struct {
 	names     map[string]bool
 	tokens    map[[sha256.Size]byte]string
 	authority *x509.CertPool
-	verifier  verifier
+	// keys verify JWTs. They are nil if there is no file of keys.
+	keys *keyring
 
 	// using is read by each request that uses the set, and locked when the set is no longer in force. See Guard.
 	using sync.RWMutex
-}
-
-// A verifier names the caller that a JWT is about.
-type verifier interface {
-	caller(token string, now time.Time) (string, error)
 }
 
 // Load reads all files. The set has to be closed.
@@ -65,7 +60,7 @@ func Load(ctx context.Context, options Options) (*Set, error) {
 	if s.authority, err = web.ReadAuthority(options.Authority); err != nil {
 		return nil, err
 	}
-	if s.verifier, err = newVerifier(options.Files, options.Log); err != nil {
+	if s.keys, err = newKeyring(options.Files, options.Log); err != nil {
 		return nil, err
 	}
 	lines, err := s.readLines(options.Callers)

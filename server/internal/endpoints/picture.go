@@ -58,12 +58,10 @@ func (e *Endpoints) picture(r *request) (int, error) {
 		return 0, err
 	}
 	header := r.w.Header()
-	header.Set("Content-Type", "image/svg+xml")
 	header.Set("Content-Security-Policy", "default-src 'none'; style-src 'unsafe-inline'")
 	header.Set("X-Content-Type-Options", "nosniff")
 	header.Set("Cache-Control", "no-store")
-	_, _ = r.w.Write(drawn) // If it fails, the client is gone.
-	return http.StatusOK, nil
+	return api.WriteAs(r.w, http.StatusOK, "image/svg+xml", drawn), nil
 }
 
 // readPictureQuery reads what a picture is to show.

@@ -76,9 +76,6 @@ type Feed struct {
 	why atomic.Value
 }
 
-// IsAccepted reports whether the office accepted what it answers.
-func IsAccepted(answer []byte) bool { return api.IsAccepted(answer) }
-
 // Open returns a feed whose replay answers.
 func Open(ctx context.Context, options Options) (*Feed, error) {
 	f := &Feed{Options: options, asked: make(chan *Unit, maxWaiting), sent: make(chan *Unit, maxWaiting), alive: make(chan struct{})}

@@ -168,6 +168,21 @@ type querier interface {
 	QueryRow(query string, values ...any) *sql.Row
 }
 
+// eachRow does something with each row of a query.
+func eachRow(ctx context.Context, db querier, query string, values []any, do func(row scanner) error) error {
+	rows, err := db.QueryContext(ctx, query, values...)
+	if err != nil {
+		return err
+	}
+	defer rows.Close()
+	for rows.Next() {
+		if err := do(rows); err != nil {
+			return err
+		}
+	}
+	return rows.Err()
+}
+
 // lastOf returns the last entry that has an answer, and the last entry. If there is none, it is what the last part says of the one
 // before.
 func lastOf(db querier) (answered, last entry, err error) {

@@ -13,19 +13,12 @@ import (
 
 // objectsOf returns the tables, indexes, views and triggers of a file, each with the statement that makes it.
 func objectsOf(ctx context.Context, db querier) (objects []string, err error) {
-	rows, err := db.QueryContext(ctx, "SELECT type || ' ' || name || ' of ' || tbl_name || ': ' || coalesce(sql, '') FROM sqlite_master ORDER BY 1")
-	if err != nil {
-		return nil, err
-	}
-	defer rows.Close()
-	for rows.Next() {
-		var object string
-		if err := rows.Scan(&object); err != nil {
-			return nil, err
-		}
-		objects = append(objects, object)
-	}
-	return objects, rows.Err()
+	const query = "SELECT type || ' ' || name || ' of ' || tbl_name || ': ' || coalesce(sql, '') FROM sqlite_master ORDER BY 1"
+	err = eachRow(ctx, db, query, nil, func(row scanner) error {
+		objects = append(objects, "")
+		return row.Scan(&objects[len(objects)-1])
+	})
+	return objects, err
 }
 
 // judgeFile refuses a file that has something else than the tables and the view of a record, or that SQLite finds damaged. In

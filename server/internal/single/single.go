@@ -148,13 +148,6 @@ func (o *Office) Run(ctx context.Context) error {
 	return err
 }
 
-// Close ends an office that Run was never called for.
-func (o *Office) Close() error {
-	ended, end := context.WithCancel(context.Background())
-	end()
-	return o.Run(ended)
-}
-
 // IsAlive reports whether the goroutine that feeds the replay goes on, before the context ends.
 func (o *Office) IsAlive(ctx context.Context) bool { return o.feed.IsAlive(ctx) }
 
