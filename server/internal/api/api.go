@@ -2,9 +2,11 @@
 package api
 
 import (
+	"bytes"
 	"context"
 	"errors"
 	"fmt"
+	"io"
 	"net/http"
 	"strconv"
 	"strings"
@@ -267,4 +269,29 @@ func judgeBody(r *http.Request, most int64) error {
 		return tooLong(most)
 	}
 	return nil
+}
+
+// ReadBody returns the body of a request by POST, which may have at most this many bytes.
+func ReadBody(r *http.Request, most int64) ([]byte, error) {
+	if err := judgeBody(r, most); err != nil {
+		return nil, err
+	}
+	body, err := readAll(r)
+	if err != nil {
+		return nil, BadRequest(http.StatusBadRequest)
+	}
+	return body, nil
+}
+
+// readAll reads the body of a request that says how long it is. It takes little memory before the client has sent some of it.
+func readAll(r *http.Request) ([]byte, error) {
+	if r.ContentLength <= SmallBody {
+		body := make([]byte, r.ContentLength)
+		_, err := io.ReadFull(r.Body, body)
+		return body, err
+	}
+	var body bytes.Buffer
+	body.Grow(SmallBody)
+	_, err := body.ReadFrom(r.Body)
+	return body.Bytes(), err
 }

@@ -4,34 +4,7 @@ import (
 	"bytes"
 	"encoding/json"
 	"fmt"
-	"io"
-	"net/http"
 )
-
-// ReadBody returns the body of a request by POST, which may have at most this many bytes.
-func ReadBody(r *http.Request, most int64) ([]byte, error) {
-	if err := judgeBody(r, most); err != nil {
-		return nil, err
-	}
-	body, err := readAll(r)
-	if err != nil {
-		return nil, BadRequest(http.StatusBadRequest)
-	}
-	return body, nil
-}
-
-// readAll reads the body of a request that says how long it is. It takes little memory before the client has sent some of it.
-func readAll(r *http.Request) ([]byte, error) {
-	if r.ContentLength <= SmallBody {
-		body := make([]byte, r.ContentLength)
-		_, err := io.ReadFull(r.Body, body)
-		return body, err
-	}
-	var body bytes.Buffer
-	body.Grow(SmallBody)
-	_, err := body.ReadFrom(r.Body)
-	return body.Bytes(), err
-}
 
 // RefusalText returns a refusal as the office writes it.
 func RefusalText(code int, name string) []byte {
@@ -58,4 +31,21 @@ func CodeOf(answer []byte) (code int, name string) {
 func ValueOf(answer []byte, value any) error {
 	found := struct{ Value any }{value}
 	return json.Unmarshal(answer, &found)
+}
+
+// A Decision is the answer to a question about access: may a session, or a user in some session, do an operation on an object?
+type Decision struct {
+	// Caller is who has asked. One of Session and User is empty.
+	Caller, Session, User, Operation, Object string
+	IsAllowed                                bool
+	// Code and Name are those of the refusal if the office refused to decide, which denies.
+	Code int
+	Name string
+}
+
+// DecisionOf returns the decision that an answer to a call is.
+func DecisionOf(call *Call, answer []byte) Decision {
+	d := Decision{Session: call.Session, User: call.User, Operation: call.Operation, Object: call.Object, IsAllowed: string(answer) == Allowed}
+	d.Code, d.Name = CodeOf(answer)
+	return d
 }
