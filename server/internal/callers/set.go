@@ -195,8 +195,9 @@ func (s *Set) makeSessions(ctx context.Context, path string) error {
 
 // A Grant is what a caller may do in a scope.
 type Grant struct {
-	Caller, Scope string
-	Functions     []string
+	Caller    string   `json:"-"`
+	Functions []string `json:"functions"`
+	Scope     string   `json:"scope"`
 }
 
 func (g Grant) String() string {

@@ -2,6 +2,7 @@ package record
 
 import (
 	"context"
+	"encoding/json"
 	"errors"
 
 	"rbac-node/internal/recorded"
@@ -50,7 +51,7 @@ func addNewest(ctx context.Context, page *recorded.Page, v *view, query recorded
 	values = append(values, query.Limit+1-len(page.Entries))
 	return eachEntry(ctx, v.tx, "WHERE "+where+" ORDER BY n DESC LIMIT ?", values, func(e *entry) error {
 		page.Entries = append(page.Entries, recorded.Entry{
-			N: e.n, At: e.at, Caller: e.caller, Reason: e.reason, Request: e.request, Answer: e.answer, IsFound: e.found,
+			Answer: json.RawMessage(e.answer), At: e.at, Caller: e.caller, IsFound: e.found, N: e.n, Reason: e.reason, Request: json.RawMessage(e.request),
 		})
 		return nil
 	})
@@ -78,7 +79,7 @@ func (r *Record) Links(ctx context.Context, after int64) (links recorded.Links, 
 		return links, err
 	}
 	defer release()
-	links.Head = head.String()
+	links.Entries, links.Head = [][]string{}, head.String()
 	bytes, isEnough := 0, false
 	i, err := fileOf(ctx, files, after)
 	for ; err == nil && !isEnough && i < len(files); i++ {
