@@ -81,7 +81,6 @@ func withPasswordIn(file string) grpc.UnaryClientInterceptor {
 	}
 }
 
-// hostsOf returns the names and addresses in URLs.
 func hostsOf(urls []string) (hosts []string) {
 	for _, one := range urls {
 		if at, err := url.Parse(one); err == nil {
@@ -168,7 +167,6 @@ func lockFolder(folder string) (*os.File, error) {
 	return lock, nil
 }
 
-// serve runs a node until a signal comes or something fails.
 func (s *clusterSettings) serve(common *settings) error {
 	shared, events, closeAll, err := s.open(common)
 	if err != nil {
@@ -179,7 +177,6 @@ func (s *clusterSettings) serve(common *settings) error {
 	return untilSignal(func(ctx context.Context) error { return s.serveNode(ctx, shared, events) })
 }
 
-// serveNode serves clients and other nodes.
 func (s *clusterSettings) serveNode(ctx context.Context, shared *ledger.Ledger, events *logs.Logger) error {
 	lock, err := lockFolder(s.Data)
 	if err != nil {
@@ -233,7 +230,6 @@ func (s *clusterSettings) answer(ctx context.Context, f *front.Front, n *node.No
 	return err
 }
 
-// peerHandler serves other nodes and monitoring.
 func peerHandler(n *node.Node, registry *prometheus.Registry) http.Handler {
 	mux := http.NewServeMux()
 	mux.Handle("/snapshot", n.Snapshots())
@@ -253,7 +249,6 @@ type clusterSettings struct {
 	isPeerOpen, isEtcdOpen   bool
 }
 
-// define defines the flags, and where their values go.
 func (s *clusterSettings) define(flags *flag.FlagSet) {
 	host, _ := os.Hostname()
 	flags.StringVar(&s.Name, "name", host, "`name` of this node, which no other has")

@@ -40,7 +40,6 @@ type statusError struct {
 	error
 }
 
-// serve runs the office that the settings choose.
 func serve(s *settings) error {
 	if (s.office == "") != s.cluster.isChosen() {
 		return errors.New("give --office FILE for one machine, or --etcd URL,.. for several")

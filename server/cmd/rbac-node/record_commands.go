@@ -79,7 +79,6 @@ func prepareRecord(flags *flag.FlagSet, name string) func([]string) error {
 	})
 }
 
-// define defines the flags of a command.
 func (c *recordCommand) define(flags *flag.FlagSet, name string) {
 	flags.StringVar(&c.Office, "office", "", "`file` of the office")
 	switch name {
@@ -120,7 +119,6 @@ func (c *recordCommand) define(flags *flag.FlagSet, name string) {
 	}
 }
 
-// defineFilter defines the flags that choose entries.
 func (c *recordCommand) defineFilter(flags *flag.FlagSet) {
 	flags.StringVar(&c.filter.User, "user", "", "only commands that name this `user`")
 	flags.StringVar(&c.filter.Role, "role", "", "only commands that name this `role`")
@@ -144,7 +142,6 @@ func timeOf(place *string) func(text string) error {
 	}
 }
 
-// do does a command.
 func (c *recordCommand) do(ctx context.Context, name string) error {
 	switch name {
 	case "verify":
@@ -181,7 +178,6 @@ func (c *recordCommand) knownHeads(ctx context.Context) ([]record.Head, error) {
 	return heads, nil
 }
 
-// verify verifies a record.
 func (c *recordCommand) verify(ctx context.Context) error {
 	heads, err := c.knownHeads(ctx)
 	if err != nil {
@@ -190,7 +186,6 @@ func (c *recordCommand) verify(ctx context.Context) error {
 	return withStatus(c.Verify(ctx, heads))
 }
 
-// askAccess prints who had access.
 func (c *recordCommand) askAccess(ctx context.Context) (err error) {
 	if c.access.Heads, err = c.knownHeads(ctx); err != nil {
 		return err

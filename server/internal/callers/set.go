@@ -79,7 +79,6 @@ type line struct {
 	text   []byte
 }
 
-// readLines reads the lines of the file of callers.
 func (s *Set) readLines(path string) (lines []line, err error) {
 	text, err := os.ReadFile(path)
 	if err != nil {

@@ -20,7 +20,6 @@ type part struct {
 	text       *string
 }
 
-// parts returns all parts of an evaluation.
 func (asked *evaluation) parts() []part {
 	return []part{
 		{"subject", "type", &asked.subjectType}, {"subject", "id", &asked.subjectID}, {"action", "name", &asked.action},
@@ -35,7 +34,6 @@ var semantics = map[string]semantic{
 	"execute_all": {}, "deny_on_first_deny": {hasLast: true}, "permit_on_first_permit": {hasLast: true, last: true},
 }
 
-// evaluation answers one evaluation.
 func (e *Endpoints) evaluation(r *request) (int, error) {
 	fields, err := readObject(r)
 	if err != nil {
@@ -134,7 +132,6 @@ func (e *Endpoints) evaluateAll(r *request, evaluations []evaluation) ([]api.Dec
 	return decisions, nil
 }
 
-// evaluated returns the answer to several evaluations.
 func evaluated(decisions []api.Decision, wanted semantic) []byte {
 	text := []byte(`{"evaluations":[`)
 	for i, one := range decisions {
@@ -149,7 +146,6 @@ func evaluated(decisions []api.Decision, wanted semantic) []byte {
 	return append(text, `]}`...)
 }
 
-// appendDecision appends a decision as JSON.
 func appendDecision(text []byte, d api.Decision) []byte {
 	switch {
 	case d.IsAllowed:
@@ -170,7 +166,6 @@ func readObject(r *request) (api.Fields, error) {
 	return api.FieldsOf(string(body))
 }
 
-// readSemantic reads the options of evaluations.
 func readSemantic(options string) (wanted semantic, err error) {
 	if options == "" {
 		return wanted, nil
@@ -233,7 +228,6 @@ func readEvaluation(fields api.Fields, other evaluation) (evaluation, error) {
 	return other, nil
 }
 
-// check refuses an evaluation that lacks a part.
 func (asked evaluation) check() error {
 	for _, one := range asked.parts() {
 		if *one.text == "" {

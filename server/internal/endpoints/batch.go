@@ -79,7 +79,6 @@ func readStop(target string) (bool, error) {
 	return false, notRead("a batch has no query but stop=first")
 }
 
-// writeLines answers a request with lines of JSON.
 func writeLines(w http.ResponseWriter, lines [][]byte) int {
 	var text []byte
 	for _, line := range lines {

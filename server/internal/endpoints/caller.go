@@ -27,7 +27,6 @@ func (e *Endpoints) caller(r *request) (int, error) {
 	return r.replyValue(value)
 }
 
-// replyValue answers the request with a value.
 func (r *request) replyValue(value any) (int, error) {
 	var text bytes.Buffer
 	encoder := json.NewEncoder(&text)

@@ -31,7 +31,6 @@ type page struct {
 	next string
 }
 
-// list answers a part of a list.
 func (e *Endpoints) list(r *request) (int, error) {
 	s, err := e.knownTo(r, api.Lists)
 	if err != nil {
@@ -93,7 +92,6 @@ func (e *Endpoints) lists(r *request) (int, error) {
 	return writeLines(r.w, answers), nil
 }
 
-// pages returns the answers to queries of several lists.
 func (e *Endpoints) pages(r *request, s *state.State, queries []listQuery) ([][]byte, error) {
 	answers := make([][]byte, len(queries))
 	for i, query := range queries {
@@ -111,7 +109,6 @@ func (e *Endpoints) pages(r *request, s *state.State, queries []listQuery) ([][]
 	return answers, nil
 }
 
-// page returns the rows of a list that are wanted.
 func (e *Endpoints) page(r *request, s *state.State, query listQuery) (page, error) {
 	name := query.list
 	switch {
@@ -230,7 +227,6 @@ func readListLine(line []byte) (query listQuery, err error) {
 	return query, nil
 }
 
-// readListQuery reads what is wanted of a list.
 func readListQuery(list, text string) (query listQuery, err error) {
 	if query, err = newListQuery(list); err == nil {
 		err = readQuery(text, query.set)
@@ -246,7 +242,6 @@ func newListQuery(list string) (query listQuery, err error) {
 	return listQuery{list: list, Query: state.Query{Names: map[string]string{}, Limit: usualRows}}, nil
 }
 
-// set sets what a key of a query means.
 func (q *listQuery) set(key, text string) (err error) {
 	switch {
 	case key == "contains":
@@ -269,7 +264,6 @@ func (q *listQuery) set(key, text string) (err error) {
 	return err
 }
 
-// text returns the answer that has a page.
 func (p page) text() []byte {
 	text := []byte{'{'}
 	if p.next != "" {
@@ -285,7 +279,6 @@ func (q listQuery) choose(rows []state.Row, text func(row state.Row) []byte) pag
 	return q.page(found, hasMore, text)
 }
 
-// page returns a page of rows.
 func (q listQuery) page(rows []state.Row, hasMore bool, text func(row state.Row) []byte) (p page) {
 	for _, row := range rows {
 		p.rows = append(p.rows, text(row))
@@ -311,7 +304,6 @@ func textOfRow(list string) func(row state.Row) []byte {
 	}
 }
 
-// textOfSession writes a session.
 func textOfSession(one state.Session) []byte {
 	text := api.AppendTexts([]byte(`{"roles":`), one.Active)
 	text = append(api.AppendQuoted(append(text, `,"session":`...), one.Digest), `,"since":"`...)
@@ -320,7 +312,6 @@ func textOfSession(one state.Session) []byte {
 	return append(api.AppendQuoted(text, one.User), '}')
 }
 
-// textOfSet writes a separation of duty set.
 func textOfSet(one state.NamedSet) []byte {
 	text := strconv.AppendInt([]byte(`{"cardinality":`), one.Cardinality, 10)
 	text = api.AppendTexts(append(text, `,"roles":`...), one.Roles)

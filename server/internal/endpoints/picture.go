@@ -64,7 +64,6 @@ func (e *Endpoints) picture(r *request) (int, error) {
 	return api.WriteAs(r.w, http.StatusOK, "image/svg+xml", drawn), nil
 }
 
-// readPictureQuery reads what a picture is to show.
 func readPictureQuery(text string) (query pictureQuery, err error) {
 	texts := map[string]*string{"role": &query.role, "user": &query.user, "operation": &query.operation, "object": &query.object}
 	err = readQuery(text, func(key, value string) error {
@@ -127,7 +126,6 @@ func draw(ctx context.Context, program, text string) ([]byte, error) {
 	return drawn.Bytes(), nil
 }
 
-// text returns a picture as Graphviz reads it.
 func (q pictureQuery) text(part state.Part) string {
 	var out strings.Builder
 	out.WriteString("digraph roles {\nbgcolor=transparent; rankdir=TB; nodesep=0.4; ranksep=0.5;\n" +

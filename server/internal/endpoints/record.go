@@ -59,7 +59,6 @@ func (e *Endpoints) links(r *request) (int, error) {
 	return r.replyValue(found)
 }
 
-// replyRecord answers entries of the record.
 func (r *request) replyRecord(page recorded.Page) (int, error) {
 	value := struct {
 		Entries []recorded.Entry `json:"entries"`
@@ -76,14 +75,12 @@ func (r *request) replyRecord(page recorded.Page) (int, error) {
 	return r.replyValue(value)
 }
 
-// readRecordQuery reads which entries are wanted.
 func readRecordQuery(text string) (query recorded.Query, err error) {
 	query.Limit = usualRows
 	err = readQuery(text, func(key, value string) error { return setFilter(&query, key, value) })
 	return query, err
 }
 
-// setFilter sets what a key of a query chooses.
 func setFilter(query *recorded.Query, key, text string) (err error) {
 	texts := map[string]*string{
 		"user": &query.User, "role": &query.Role, "object": &query.Object, "operation": &query.Operation, "set": &query.Set,

@@ -28,7 +28,6 @@ type review struct {
 	Open    int
 }
 
-// endReview records that a review of who has what has ended.
 func (e *Endpoints) endReview(r *request) (int, error) {
 	if err := r.may(api.NewOther(api.Review)); err != nil {
 		return 0, err
@@ -50,7 +49,6 @@ func (e *Endpoints) endReview(r *request) (int, error) {
 	}{number})
 }
 
-// readReview reads what a review is.
 func readReview(r *request) (ended review, err error) {
 	body, err := api.ReadBody(r.Request, mostReviewBytes)
 	if err != nil {
@@ -80,7 +78,6 @@ func readReview(r *request) (ended review, err error) {
 	return ended, nil
 }
 
-// isReviewName reports whether a review can have a name.
 func isReviewName(name string) bool {
 	return name != "" && len(name) <= longestReview && strings.IndexFunc(name, func(letter rune) bool {
 		return letter < ' ' || 0x7f <= letter && letter < 0xa0

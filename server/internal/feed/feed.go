@@ -222,7 +222,6 @@ func (f *Feed) step(over <-chan struct{}) bool {
 	return true
 }
 
-// send passes the lines of units to the replay.
 func (f *Feed) send(units []*Unit) {
 	for _, u := range units {
 		u, sent := u, time.Now()

@@ -136,7 +136,6 @@ func twice(one, longest time.Duration) time.Duration {
 	return one
 }
 
-// transact runs a transaction without a condition.
 func (l *Ledger) transact(ctx context.Context, what string, ops ...clientv3.Op) (*clientv3.TxnResponse, error) {
 	return l.commit(ctx, what, func(t clientv3.Txn) clientv3.Txn { return t.Then(ops...) })
 }
@@ -555,7 +554,6 @@ func (f *follower) page(ctx context.Context, keys []*mvccpb.KeyValue) (size int,
 	return size, nil
 }
 
-// deliverEntry delivers an entry.
 func (f *follower) deliverEntry(kv *mvccpb.KeyValue) error {
 	f.after = kv.CreateRevision
 	key := string(kv.Key)

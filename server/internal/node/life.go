@@ -87,7 +87,6 @@ func (n *Node) hindrance(ctx context.Context) (string, error) {
 	return otherSettings(n.life, state.Lives), nil
 }
 
-// renewLife says that this node runs.
 func (n *Node) renewLife(ctx context.Context) error {
 	within, cancel := context.WithTimeout(ctx, lookTimeout)
 	defer cancel()

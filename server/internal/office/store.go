@@ -64,7 +64,6 @@ type Snapshot struct {
 // ErrOther reports that an office isn't what it has to be.
 var ErrOther = errors.New("it is another office")
 
-// other reports that a snapshot has another digest.
 func other(s Snapshot, digest string) error {
 	return fmt.Errorf("%w: snapshot %d has the digest %s and not %s", ErrOther, s.Revision, digest, s.Digest)
 }

@@ -82,7 +82,6 @@ func linkOrCopy(path, to, folder string) error {
 	return disk.Copy(path, to)
 }
 
-// isSame reports whether two files have the same bytes.
 func isSame(one, other string) bool {
 	first, err := digestOfFile(one)
 	if err != nil {
@@ -92,7 +91,6 @@ func isSame(one, other string) bool {
 	return err == nil && first == second
 }
 
-// digestOfFile returns the SHA-256 of a file.
 func digestOfFile(path string) (sum string, err error) {
 	file, err := os.Open(path)
 	if err != nil {
@@ -311,7 +309,6 @@ func isPaused(pid int) bool {
 	return len(tasks) > 0
 }
 
-// copyTable copies all rows of a table.
 func copyTable(ctx context.Context, from querier, to *sql.Tx, table string) error {
 	rows, err := from.QueryContext(ctx, "SELECT * FROM "+table)
 	if err != nil {

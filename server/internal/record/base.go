@@ -91,7 +91,6 @@ func addBase(dir, copied string, b base) error {
 
 const walSuffix = "-wal"
 
-// scratchOf returns the scratch of the record of an office.
 func scratchOf(file, dir string) office.Scratch { return office.ScratchOf("record", file, dir) }
 
 // newScratch returns a new empty folder for copies of an office, and what ends its use.

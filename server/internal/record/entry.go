@@ -67,12 +67,10 @@ type entry struct {
 // addEntry adds an entry with an answer.
 const addEntry = "INSERT INTO entry VALUES (?, ?, ?, ?, ?, ?, ?, ?)"
 
-// values returns the values of the columns.
 func (e *entry) values() []any {
 	return []any{e.n, e.at, e.caller, e.reason, e.request, e.answer, e.found, e.ch}
 }
 
-// head returns the number and the link.
 func (e *entry) head() Head { return Head{e.n, e.ch} }
 
 // size returns about how many bytes the entry takes.
@@ -149,7 +147,6 @@ func openFile(path, options string) (*sql.DB, error) {
 // A scanner is a row of a table.
 type scanner interface{ Scan(places ...any) error }
 
-// entryOf reads an entry from a row of the columns.
 func entryOf(row scanner) (entry, error) {
 	var e entry
 	var answer, chain sql.NullString

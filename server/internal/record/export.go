@@ -80,7 +80,6 @@ func (t *Tool) Export(ctx context.Context, options Export) error {
 	}
 }
 
-// readPlace reads up to where was sent.
 func (x *exporter) readPlace() error {
 	text, err := os.ReadFile(x.Place)
 	if errors.Is(err, os.ErrNotExist) {
@@ -96,7 +95,6 @@ func (x *exporter) readPlace() error {
 	return nil
 }
 
-// writePlace writes up to where was sent.
 func (x *exporter) writePlace() error {
 	if x.sent == x.kept {
 		return nil
@@ -108,7 +106,6 @@ func (x *exporter) writePlace() error {
 	return nil
 }
 
-// sendNew sends the entries behind the place.
 func (x *exporter) sendNew(ctx context.Context) error {
 	return x.eachView(ctx, func(v *view) error {
 		if v.answered.n < x.sent.N {

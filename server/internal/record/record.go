@@ -458,7 +458,6 @@ func (r *Record) Close(isInOrder bool) error {
 	return nil
 }
 
-// newestBase returns the entry of the newest base.
 func (r *Record) newestBase() int64 {
 	if bases, err := basesIn(r.dir); err == nil && len(bases) > 0 {
 		return bases[0].n

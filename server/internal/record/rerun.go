@@ -34,22 +34,18 @@ func startRerun(o *officeRows) (*rerun, error) {
 	return &rerun{office: loaded, version: o.version}, nil
 }
 
-// close frees the office.
 func (r *rerun) close() { r.office.Close() }
 
-// rows returns all rows of the office.
 func (r *rerun) rows() (*officeRows, error) {
 	rows, err := r.office.Rows()
 	return &officeRows{r.version, rows}, err
 }
 
-// hasRow reports whether a table has a row at an index.
 func (r *rerun) hasRow(table rbacoffice.Table, index int) (bool, error) {
 	found, err := r.office.RowsFrom(nil, table, index, 1)
 	return len(found) > 0, err
 }
 
-// sums describes the rows of the office.
 func (r *rerun) sums() (office.Sums, error) {
 	o, err := r.rows()
 	if err != nil {
@@ -131,7 +127,6 @@ func (r *rerun) fit(ctx context.Context, open []entry, want *office.Sums) (int, 
 	return -1, err
 }
 
-// answer does a command.
 func (r *rerun) answer(request string) (string, error) {
 	if r.version == 1 {
 		return r.answerInVersion1(request)

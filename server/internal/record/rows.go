@@ -44,7 +44,6 @@ func readRows(ctx context.Context, path, options string, isMapped bool) (*office
 	return &officeRows{version, rows}, nil
 }
 
-// sums describes the rows.
 func (o *officeRows) sums() office.Sums { return office.SumsOf(o.version, o.rows) }
 
 // mapSessions gives all sessions of a copy of an office the digests of their names, and leaves one file that has their names nowhere, not

@@ -134,7 +134,6 @@ func eachEntry(ctx context.Context, db querier, condition string, values []any, 
 	})
 }
 
-// cellsOf returns what is shown of an entry.
 func cellsOf(e *entry, format Format) []cell {
 	cells := []cell{{strconv.FormatInt(e.n, 10), true}, {text: e.at}, {text: e.caller}, {text: e.reason}, {e.request, true}, {e.answer, true}}
 	if format != Text {

@@ -32,7 +32,6 @@ type signedHead struct {
 
 func (s *signedHead) head() Head { return Head{s.Entry, s.Chain} }
 
-// text returns what is signed.
 func (s *signedHead) text() string { return fmt.Sprintf("%s %s\n", s.head(), s.At) }
 
 // sign signs the head with a key of minisign or of ssh-keygen. The latter may be in an agent if the file has its public half.

@@ -25,7 +25,6 @@ type Tool struct {
 	Log      *logs.Logger
 }
 
-// dir returns the folder of the record.
 func (t *Tool) dir() string {
 	switch {
 	case t.Data != "":

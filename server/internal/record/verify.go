@@ -85,7 +85,6 @@ func (t *Tool) verify(ctx context.Context, heads []Head, at *stop) error {
 // ErrMissing is returned for a record of which all that is here is good.
 var ErrMissing = errors.New("what is here is good, but entries are missing")
 
-// files reads all files of a record.
 func (v *verifier) files(ctx context.Context, files []string) error {
 	if v.Part != "" {
 		if err := v.file(ctx, v.Part); err != nil {
@@ -179,7 +178,6 @@ func (v *verifier) compareNode(ctx context.Context, opened *view, p part, end in
 	return nil
 }
 
-// file reads the file of an earlier part.
 func (v *verifier) file(ctx context.Context, path string) error {
 	return withView(ctx, path, func(opened *view) error {
 		if err := v.read(ctx, opened, false); err != nil {
@@ -221,7 +219,6 @@ func (v *verifier) read(ctx context.Context, opened *view, isLast bool) error {
 	return nil
 }
 
-// part reads a part that ends with an entry.
 func (v *verifier) part(ctx context.Context, opened *view, p part, end int64, isLast bool) error {
 	if err := v.join(p); err != nil {
 		return err

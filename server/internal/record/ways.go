@@ -58,7 +58,6 @@ func (w way) isBefore(other way) bool {
 	return false
 }
 
-// value reads the value of an answer to a question.
 func (r *rerun) value(value any, function string, arguments ...string) error {
 	call, err := api.NewCall(function, arguments...)
 	if err != nil {

@@ -212,7 +212,6 @@ func (p *plan) keep(path string, by func(from, to string) error) error {
 	return nil
 }
 
-// exists reports whether there is something at a path.
 func exists(path string) (bool, error) {
 	_, err := os.Lstat(path)
 	if errors.Is(err, os.ErrNotExist) {

@@ -55,7 +55,6 @@ func Run(ctx context.Context, o Options) (err error) {
 	return owner.do(func() error { return o.run(ctx, b) })
 }
 
-// run restores an opened backup.
 func (o *Options) run(ctx context.Context, b *backup) error {
 	lock, err := office.Lock(ctx, o.Office+".lock")
 	if errors.Is(err, syscall.EWOULDBLOCK) {
@@ -128,7 +127,6 @@ func (o *Options) finish(r replacement, p plan) error {
 // An owner is the user and the group of a folder.
 type owner struct{ uid, gid int }
 
-// ownerOf returns the owner of a folder.
 func ownerOf(folder string) (owner, error) {
 	about, err := os.Stat(folder)
 	if err != nil {

@@ -31,7 +31,6 @@ func (o *Office) checkRecord() error {
 	return record.FreeReserve(o.File)
 }
 
-// openRecord opens the record, if there is to be one.
 func (o *Office) openRecord(ctx context.Context) error {
 	if o.Recording == nil {
 		return nil

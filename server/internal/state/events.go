@@ -19,7 +19,6 @@ type Event struct {
 	Line   []byte
 }
 
-// keep keeps an accepted command for those who watch.
 func (s *State) keep(call *api.Call) {
 	line := call.Line
 	if isAboutSession(call.Function) {
@@ -47,7 +46,6 @@ func (s *State) forgetOldest() {
 	}
 }
 
-// forget forgets the commands that were kept.
 func (s *State) forget() {
 	s.events, s.eventBytes, s.forgotten = nil, 0, s.numbers.All
 	s.wake()

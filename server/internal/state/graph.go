@@ -30,7 +30,6 @@ func (v *View) Graph() *Graph {
 	return graph
 }
 
-// sets returns the sets of one kind.
 func (v *View) sets(cardinalities, members rbacoffice.Table) (found []NamedSet) {
 	roles := map[string][]string{}
 	for _, row := range v.all(members) {
@@ -176,7 +175,6 @@ func (v *View) Between(seniors []string, junior string) Part {
 	return v.Graph().part(v.Above([]string{junior}, roles)[junior])
 }
 
-// part returns the part that some roles are.
 func (g *Graph) part(roles []string) Part {
 	sort.Strings(roles)
 	part, has := Part{Roles: roles}, make(map[string]bool, len(roles))

@@ -20,7 +20,6 @@ type session struct {
 	used         atomic.Int64
 }
 
-// newSession returns the times of a session that is made now.
 func (s *State) newSession(name, user string) *session {
 	one := &session{user: strings.Clone(user), digest: DigestOf(name), since: s.clock.Now(), began: s.clock.Elapsed()}
 	one.used.Store(int64(one.began))

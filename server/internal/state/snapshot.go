@@ -58,7 +58,6 @@ func (f *Frozen) rowsOf(function string) []Row {
 	}[function]
 }
 
-// setsOf returns the sets that a function makes.
 func (f *Frozen) setsOf(function string) []NamedSet {
 	return map[string][]NamedSet{"createSsdSet": f.Graph.Static, "createDsdSet": f.Graph.Dynamic}[function]
 }

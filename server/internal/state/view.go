@@ -175,12 +175,10 @@ func (v *View) place(table rbacoffice.Table, wanted Row) int {
 	})
 }
 
-// count returns how many rows a table has.
 func (v *View) count(table rbacoffice.Table) int {
 	return sort.Search(moreThanRows, func(i int) bool { return !v.from(table, i, 1) })
 }
 
-// all returns all rows of a table.
 func (v *View) all(table rbacoffice.Table) []Row {
 	found := make([]Row, 0, v.count(table))
 	v.scan(table, 0, func(row Row) bool {
@@ -190,7 +188,6 @@ func (v *View) all(table rbacoffice.Table) []Row {
 	return found
 }
 
-// with returns the rows of a table with a first name.
 func (v *View) with(table rbacoffice.Table, first string) []rbacoffice.Row {
 	rows, err := v.state.office.RowsWith(table, first)
 	v.fail(err)
@@ -227,7 +224,6 @@ func (v *View) Users() []string { return firsts(v.all(rbacoffice.Users)) }
 // Permissions returns all permissions in their order: the object and the operation of each.
 func (v *View) Permissions() []Row { return v.all(rbacoffice.Permissions) }
 
-// firsts returns the first names of rows.
 func firsts(rows []Row) []string {
 	names := make([]string, len(rows))
 	for i, row := range rows {

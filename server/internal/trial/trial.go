@@ -73,7 +73,6 @@ func (t Turn) Try(ctx context.Context, office *state.State, cloned func(), comma
 	return try(within, clone, commands)
 }
 
-// try does commands over the clone of an office.
 func try(ctx context.Context, clone *state.State, commands []*api.Call) (*Result, error) {
 	users, result := usersOf(commands), &Result{Ended: []Session{}, Revision: clone.Numbers().Policy}
 	permissions := &places{of: map[state.Row]int{}}
@@ -151,7 +150,6 @@ type places struct {
 	of  map[state.Row]int
 }
 
-// place returns the place of a permission.
 func (p *places) place(permission state.Row) int {
 	place, isThere := p.of[permission]
 	if !isThere {
@@ -234,7 +232,6 @@ func changes(before, after *view, permissions []state.Row) (gained, lost Changes
 	return gained, lost
 }
 
-// usersIn returns the users of both views in their order.
 func usersIn(views ...*view) (users []string) {
 	isIn := map[string]bool{}
 	for _, v := range views {
@@ -249,7 +246,6 @@ func usersIn(views ...*view) (users []string) {
 	return users
 }
 
-// orNone returns some permissions, or none.
 func orNone(permissions *big.Int) *big.Int {
 	if permissions == nil {
 		return new(big.Int)
