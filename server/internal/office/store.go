@@ -287,10 +287,10 @@ func (s *Store) Finish(ctx context.Context, file string, snapshot Snapshot) (Sna
 		return snapshot, other(snapshot, digest)
 	}
 	snapshot.Digest = digest
-	if err := os.Rename(file, s.Path(snapshot)); err != nil {
-		return snapshot, fmt.Errorf("snapshot: %w", err)
+	if err = os.Rename(file, s.Path(snapshot)); err == nil {
+		err = s.dir.Sync()
 	}
-	if err := s.dir.Sync(); err != nil {
+	if err != nil {
 		return snapshot, fmt.Errorf("snapshot: %w", err)
 	}
 	return snapshot, s.deleteOld()

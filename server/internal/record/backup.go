@@ -39,27 +39,25 @@ func (t *Tool) Backup(ctx context.Context, folder string) error {
 		return fmt.Errorf("backup: %w", err)
 	}
 	defer free()
-	making := filepath.Join(folder, makingBackup)
-	if err := os.RemoveAll(making); err != nil {
-		return fmt.Errorf("backup: %w", err)
-	}
-	if err := os.Mkdir(making, 0o700); err != nil {
-		return fmt.Errorf("backup: %w", err)
-	}
+	making, made := filepath.Join(folder, makingBackup), filepath.Join(folder, time.Now().UTC().Format("20060102-150405.000000"))
 	defer os.RemoveAll(making) // It has another name if all went well.
-	made := filepath.Join(folder, time.Now().UTC().Format("20060102-150405.000000"))
-	if t.Data != "" {
+	if err = os.RemoveAll(making); err == nil {
+		err = os.Mkdir(making, 0o700)
+	}
+	switch {
+	case err != nil:
+	case t.Data != "":
 		err = t.copyNode(ctx, files, making)
-	} else {
+	default:
 		err = t.copyPair(ctx, files, filepath.Join(making, "office"))
 	}
+	if err == nil {
+		err = os.Rename(making, made)
+	}
+	if err == nil {
+		err = disk.Sync(folder)
+	}
 	if err != nil {
-		return fmt.Errorf("backup: %w", err)
-	}
-	if err := os.Rename(making, made); err != nil {
-		return fmt.Errorf("backup: %w", err)
-	}
-	if err := disk.Sync(folder); err != nil {
 		return fmt.Errorf("backup: %w", err)
 	}
 	fmt.Fprintln(t.Out, made)
