@@ -3,8 +3,8 @@ package endpoints
 import (
 	"bytes"
 	"errors"
+	"fmt"
 	"net/http"
-	"strconv"
 	"strings"
 
 	"rbac-node/internal/api"
@@ -305,17 +305,12 @@ func textOfRow(list string) func(row state.Row) []byte {
 }
 
 func textOfSession(one state.Session) []byte {
-	text := api.AppendTexts([]byte(`{"roles":`), one.Active)
-	text = append(api.AppendQuoted(append(text, `,"session":`...), one.Digest), `,"since":"`...)
-	text = append(one.Since.UTC().AppendFormat(text, recorded.TimeLayout), `","used":"`...)
-	text = append(one.Used.UTC().AppendFormat(text, recorded.TimeLayout), `","user":`...)
-	return append(api.AppendQuoted(text, one.User), '}')
+	return fmt.Appendf(nil, `{"roles":%s,"session":"%s","since":"%s","used":"%s","user":%s}`, api.AppendTexts(nil, one.Active), one.Digest,
+		one.Since.UTC().Format(recorded.TimeLayout), one.Used.UTC().Format(recorded.TimeLayout), api.AppendQuoted(nil, one.User))
 }
 
 func textOfSet(one state.NamedSet) []byte {
-	text := strconv.AppendInt([]byte(`{"cardinality":`), one.Cardinality, 10)
-	text = api.AppendTexts(append(text, `,"roles":`...), one.Roles)
-	return append(api.AppendQuoted(append(text, `,"set":`...), one.Name), '}')
+	return fmt.Appendf(nil, `{"cardinality":%d,"roles":%s,"set":%s}`, one.Cardinality, api.AppendTexts(nil, one.Roles), api.AppendQuoted(nil, one.Name))
 }
 
 // room answers how many there are of each kind, and how many there may be.
