@@ -18,16 +18,20 @@ type Filter struct {
 	HasLeft bool
 }
 
-// filters has the keys of the filters of each report.
-var filters = map[string][]string{
-	"permissions": {"user", "role", "object", "operation"}, "sessions": {"user", "role", "object", "operation"},
-	"near": {"user", "set", "left"}, "room": nil, "dump": nil,
+// kinds has what makes each report, and the keys of its filters.
+var kinds = map[string]struct {
+	make func(office *state.Frozen, filter Filter) *Report
+	keys []string
+}{
+	"permissions": {permissions, []string{"user", "role", "object", "operation"}},
+	"sessions":    {sessions, []string{"user", "role", "object", "operation"}},
+	"near":        {near, []string{"user", "set", "left"}}, "room": {room, nil}, "dump": {dump, nil},
 }
 
 // Filters returns the keys of the filters of a report, and whether there is such a report.
 func Filters(name string) (keys []string, has bool) {
-	keys, has = filters[name]
-	return keys, has
+	kind, has := kinds[name]
+	return kind.keys, has
 }
 
 // A Report is a list of lines.
@@ -44,17 +48,8 @@ type Report struct {
 
 // New returns a report of an office.
 func New(name string, office *state.Frozen, filter Filter) (*Report, error) {
-	switch name {
-	case "permissions":
-		return permissions(office, filter), nil
-	case "sessions":
-		return sessions(office, filter), nil
-	case "near":
-		return near(office, filter), nil
-	case "room":
-		return room(office), nil
-	case "dump":
-		return dump(office), nil
+	if kind, has := kinds[name]; has {
+		return kind.make(office, filter), nil
 	}
 	return nil, fmt.Errorf("no report is called %q", name)
 }
@@ -142,7 +137,7 @@ func (r *roles) sessions(only string) (found []holder) {
 }
 
 // room returns how many there are of each kind, and how many there may be.
-func room(office *state.Frozen) *Report {
+func room(office *state.Frozen, _ Filter) *Report {
 	report := &Report{
 		Columns: []string{"kind", "count", "limit", "left"}, Lines: int64(len(office.Rooms)),
 		Numbers: map[string]bool{"count": true, "limit": true, "left": true},
@@ -160,7 +155,7 @@ func room(office *state.Frozen) *Report {
 }
 
 // dump returns the office as request lines, byte for byte as tools/dump.sql prints it.
-func dump(office *state.Frozen) *Report {
+func dump(office *state.Frozen, _ Filter) *Report {
 	return &Report{Lines: office.Count(), Write: func(add func(cells ...string) error) error {
 		return office.Dump(func(line []byte) error { return add(string(line)) })
 	}}
