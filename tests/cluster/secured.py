@@ -142,6 +142,7 @@ def check_secured(bench):
             for port, method, path in ((here, "POST", "/v1/addUser"), (peer, "GET", "/snapshot"), (peer, "GET", "/metrics")):
                 given = secured.ask(port, method, path, '{"user":"mallory"}', name)
                 bench.same(f"{path} for a client with the certificate {name!r}", given[0], None)
+        wait(lambda: secured.ask(peer, "GET", "/snapshot")[0] == 200, "the node has a snapshot")
         bench.same("the snapshot", secured.ask(peer, "GET", "/snapshot")[1][:15], b"SQLite format 3")
         bench.same("no user is added", secured.ask(here, "POST", "/v1/assignedRoles", '{"user":"mallory"}')[0], 409)
         wait(lambda: secured.trims(here, bench.path("node0.log")), "the log is trimmed")

@@ -111,7 +111,6 @@ func withArguments(count int, do func(arguments []string) error) func([]string) 
 	}
 }
 
-// newSettings returns settings whose flags are defined.
 func newSettings(flags *flag.FlagSet) *settings {
 	s := &settings{}
 	s.define(flags)

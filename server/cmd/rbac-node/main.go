@@ -8,7 +8,9 @@ import (
 	"errors"
 	"fmt"
 	"os"
+	"runtime"
 	"runtime/debug"
+	"strings"
 )
 
 // mostMemory is from how much memory on garbage is collected more often.
@@ -38,7 +40,6 @@ type statusError struct {
 	error
 }
 
-// serve runs the office that the settings choose.
 func serve(s *settings) error {
 	if (s.office == "") != s.cluster.isChosen() {
 		return errors.New("give --office FILE for one machine, or --etcd URL,.. for several")
@@ -50,4 +51,22 @@ func serve(s *settings) error {
 		return s.cluster.serve(s)
 	}
 	return untilSignal(s.serveOne)
+}
+
+// version is that of the file VERSION.
+const version = "1.0.0"
+
+// What bin/node says at a build: the digest of the sources, and that of the proved program beside them.
+var sources, proved string
+
+// versionText says of what this program was built. Its first line is the name and the version alone.
+func versionText() string {
+	var out strings.Builder
+	fmt.Fprintf(&out, "rbac-node %s\n", version)
+	for _, one := range [][2]string{{"sources", sources}, {"proved program", proved}, {"built with", runtime.Version()}} {
+		if one[1] != "" {
+			fmt.Fprintf(&out, "%s: %s\n", one[0], one[1])
+		}
+	}
+	return out.String()
 }

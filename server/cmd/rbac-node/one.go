@@ -38,24 +38,23 @@ func (s *settings) serveOne(ctx context.Context) error {
 		return err
 	}
 	defer f.Close()
-	one := single.Options{
-		File: s.office, Program: s.program, AnswerTimeout: s.front.AnswerTimeout, HangTimeout: s.hangTimeout, Reads: single.MostReads,
-		Log: log, Metrics: registry, IsOpen: options.IsOpen(),
-		SessionAge: s.sessionAge, SessionIdle: s.sessionIdle,
-	}
-	failed := make(chan error, 1)
-	one.Say = f.Say
-	one.Locked = func() error {
-		if err := f.Listen(); err != nil {
-			return err
-		}
-		f.Begin(reportingTo(failed))
-		return nil
-	}
-	if err := s.addRecord(&one, registry); err != nil {
+	recording, err := s.recording()
+	if err != nil {
 		return err
 	}
-	office, err := single.Open(ctx, one)
+	failed := make(chan error, 1)
+	office, err := single.Open(ctx, single.Options{
+		File: s.office, Program: s.program, AnswerTimeout: s.front.AnswerTimeout, HangTimeout: s.hangTimeout, Reads: single.MostReads,
+		Log: log, Metrics: registry, IsOpen: options.IsOpen(), SessionAge: s.sessionAge, SessionIdle: s.sessionIdle,
+		Recording: recording, Say: f.Say,
+		Locked: func() error {
+			if err := f.Listen(); err != nil {
+				return err
+			}
+			f.Begin(reportingTo(failed))
+			return nil
+		},
+	})
 	if err != nil {
 		return err
 	}

@@ -71,34 +71,29 @@ func prepareRecord(flags *flag.FlagSet, name string) func([]string) error {
 			return fmt.Errorf("give one of --office, --data and --part: %w", errUsage)
 		}
 		return untilSignal(func(ctx context.Context) error {
-			if name == "backup" {
-				return c.Backup(ctx, arguments[0])
-			}
-			return c.do(ctx, name)
+			return c.do(ctx, name, arguments)
 		})
 	})
 }
 
-// define defines the flags of a command.
 func (c *recordCommand) define(flags *flag.FlagSet, name string) {
+	is := func(names string) bool { return strings.Contains(" "+names+" ", " "+name+" ") }
 	flags.StringVar(&c.Office, "office", "", "`file` of the office")
-	switch name {
-	case "verify", "show", "access", "export", "head", "cut", "backup":
+	if is("verify show access export head cut backup") {
 		flags.StringVar(&c.Data, "data", "", "`folder` of a node of several machines, in place of --office")
 	}
-	switch name {
-	case "verify", "show", "access", "export", "head":
+	if is("verify show access export head") {
 		flags.StringVar(&c.Part, "part", "", "`file` of an earlier part alone, in place of --office")
 	}
-	if name != "show" && name != "head" && name != "export" {
+	if is("verify access cut adopt backup") {
 		flags.StringVar(&c.Program, "program", "rbac", "the proved `program`, a path or a name that is looked up in PATH")
 	}
-	if name == "verify" || name == "access" {
+	if is("verify access") {
 		flags.StringVar(&c.head, "head", "", "a `head` N:HASH that is known from elsewhere")
 		flags.StringVar(&c.heads, "heads", "", "`file` of such heads, one in a line, or the log of a front")
 		flags.StringVar(&c.signers, "signers", "", "`file` of who may have signed these heads: as ssh-keygen(1) describes it, or public keys of minisign")
 	}
-	if name == "show" || name == "access" {
+	if is("show access") {
 		flags.Var(&c.format, "format", "`format` of the lines: text, csv or json")
 	}
 	switch name {
@@ -120,7 +115,6 @@ func (c *recordCommand) define(flags *flag.FlagSet, name string) {
 	}
 }
 
-// defineFilter defines the flags that choose entries.
 func (c *recordCommand) defineFilter(flags *flag.FlagSet) {
 	flags.StringVar(&c.filter.User, "user", "", "only commands that name this `user`")
 	flags.StringVar(&c.filter.Role, "role", "", "only commands that name this `role`")
@@ -144,15 +138,17 @@ func timeOf(place *string) func(text string) error {
 	}
 }
 
-// do does a command.
-func (c *recordCommand) do(ctx context.Context, name string) error {
+func (c *recordCommand) do(ctx context.Context, name string, arguments []string) error {
 	switch name {
 	case "verify":
-		return c.verify(ctx)
+		return c.withHeads(ctx, c.Verify)
 	case "show":
 		return c.Show(ctx, c.filter, c.format)
 	case "access":
-		return c.askAccess(ctx)
+		return c.withHeads(ctx, func(ctx context.Context, heads []record.Head) error {
+			c.access.Heads, c.access.Format = heads, c.format
+			return c.Access(ctx, c.access)
+		})
 	case "export":
 		return c.Export(ctx, c.export)
 	case "head":
@@ -161,46 +157,24 @@ func (c *recordCommand) do(ctx context.Context, name string) error {
 		return c.Cut(ctx)
 	case "adopt":
 		return c.Adopt(ctx, c.by, c.reason)
+	case "backup":
+		return c.Backup(ctx, arguments[0])
 	}
 	return errUsage
 }
 
-// knownHeads returns the heads that the command line may have.
-func (c *recordCommand) knownHeads(ctx context.Context) ([]record.Head, error) {
+// withHeads does something with the heads that the command line may have. The error of a record that is good, but from which entries are
+// missing, gets a status of its own.
+func (c *recordCommand) withHeads(ctx context.Context, do func(ctx context.Context, heads []record.Head) error) error {
 	heads, err := c.readHeads(ctx)
-	if err != nil {
-		return nil, err
-	}
-	if c.head != "" {
-		head, err := record.ParseHead(c.head)
-		if err != nil {
-			return nil, err
-		}
+	if err == nil && c.head != "" {
+		var head record.Head
+		head, err = record.ParseHead(c.head)
 		heads = append(heads, head)
 	}
-	return heads, nil
-}
-
-// verify verifies a record.
-func (c *recordCommand) verify(ctx context.Context) error {
-	heads, err := c.knownHeads(ctx)
-	if err != nil {
-		return err
+	if err == nil {
+		err = do(ctx, heads)
 	}
-	return withStatus(c.Verify(ctx, heads))
-}
-
-// askAccess prints who had access.
-func (c *recordCommand) askAccess(ctx context.Context) (err error) {
-	if c.access.Heads, err = c.knownHeads(ctx); err != nil {
-		return err
-	}
-	c.access.Format = c.format
-	return withStatus(c.Access(ctx, c.access))
-}
-
-// withStatus gives the error of a record that is good, but from which entries are missing, a status of its own.
-func withStatus(err error) error {
 	if errors.Is(err, record.ErrMissing) {
 		return statusError{missingStatus, err}
 	}

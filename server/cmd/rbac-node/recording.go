@@ -12,7 +12,6 @@ import (
 	"rbac-node/internal/logs"
 	"rbac-node/internal/record"
 	"rbac-node/internal/recorded"
-	"rbac-node/internal/single"
 )
 
 // recordSettings are what the command line chooses for the record of an office.
@@ -22,32 +21,16 @@ type recordSettings struct {
 	verifyEvery time.Duration
 }
 
-// addRecord makes an office keep a record, unless the command line says that it shouldn't.
-func (s *settings) addRecord(office *single.Options, registry prometheus.Registerer) error {
-	if s.record.isOff {
-		folder := s.office + ".record"
-		if _, err := os.Stat(filepath.Join(folder, "record.db")); err == nil {
-			return fmt.Errorf("--no-record would part the office from its record %s: move that folder away first", folder)
-		}
-		return nil
+// recording says how the record of an office is kept, or nothing if the command line says that it shouldn't.
+func (s *settings) recording() (*record.Options, error) {
+	if !s.record.isOff {
+		return &record.Options{Every: s.record.every, VerifyEvery: s.record.verifyEvery}, nil
 	}
-	office.CheckRecord = func() error {
-		if err := record.CheckOffice(s.office); err != nil {
-			return err
-		}
-		return record.FreeReserve(s.office)
+	folder := record.DirOf(s.office)
+	if _, err := os.Stat(filepath.Join(folder, "record.db")); err == nil {
+		return nil, fmt.Errorf("--no-record would part the office from its record %s: move that folder away first", folder)
 	}
-	office.OpenRecord = func(ctx context.Context) (single.Recorder, error) {
-		r, err := record.Open(ctx, record.Options{
-			Office: s.office, Program: s.program, Every: s.record.every, Log: office.Log, Metrics: registry,
-			VerifyEvery: s.record.verifyEvery, Say: office.Say,
-		})
-		if err != nil {
-			return nil, err // Not a Recorder that is there and nil.
-		}
-		return r, nil
-	}
-	return nil
+	return nil, nil
 }
 
 // followRecord returns the record of a node, with its folder, the file of the office at a start and the entries of a part.

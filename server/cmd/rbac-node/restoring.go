@@ -42,7 +42,6 @@ func prepareRestore(flags *flag.FlagSet) func([]string) error {
 	})
 }
 
-// restore puts a backup in place of an office.
 func (c *restoreCommand) restore(ctx context.Context) error {
 	if c.Office == "" {
 		return errors.New("give --office the file of the office")
@@ -73,7 +72,6 @@ func (c *restoreCommand) restore(ctx context.Context) error {
 	return err
 }
 
-// systemctl does something with a unit.
 func systemctl(verb, unit string) error {
 	command := exec.Command("systemctl", verb, "--", unit)
 	command.Stdout, command.Stderr = os.Stderr, os.Stderr

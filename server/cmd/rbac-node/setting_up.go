@@ -29,7 +29,6 @@ func prepareSetup(flags *flag.FlagSet) func([]string) error {
 	})
 }
 
-// setUp makes the files.
 func setUp(o setup.Options) error {
 	if o.Listen == "" {
 		o.Listen = "unix:/run/rbac/" + o.Office + ".sock"

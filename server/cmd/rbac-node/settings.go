@@ -35,7 +35,6 @@ type settings struct {
 	cluster                          clusterSettings
 }
 
-// define defines the flags, and where their values go.
 func (s *settings) define(flags *flag.FlagSet) {
 	flags.StringVar(&s.office, "office", "", "`file` of the office, which is made if it doesn't exist, for one machine")
 	flags.StringVar(&s.listen, "listen", "", "where clients connect, as `ADDRESS,..`: each HOST:PORT or unix:PATH")
@@ -66,7 +65,6 @@ func (s *settings) define(flags *flag.FlagSet) {
 	flags.Int64Var(&s.record.every, "record-base", 10_000, "commands between two copies of the office, from which a start does them again")
 }
 
-// allowedConnections returns the default of --connections.
 func allowedConnections() int {
 	if allowed := web.MaxConnections(); allowed < defaultConnections {
 		return allowed
@@ -113,7 +111,6 @@ func (s *settings) listenOr(other string) ([]front.Address, error) {
 	return front.ParseAddresses(s.listen)
 }
 
-// frontOptions returns the options of the front.
 func (s *settings) frontOptions(addresses []front.Address, log *logs.Logger, registry *prometheus.Registry) front.Options {
 	options := s.front
 	options.Addresses, options.Log, options.Metrics = addresses, log, registry

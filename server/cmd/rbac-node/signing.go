@@ -43,7 +43,6 @@ func prepareSign(flags *flag.FlagSet) func([]string) error {
 	return withArguments(0, func([]string) error { return c.sign() })
 }
 
-// sign signs the head.
 func (c *signCommand) sign() error {
 	if c.URL == "" || c.Key == "" || c.Heads == "" || (c.files.Cert == "") != (c.files.Key == "") {
 		return errUsage

@@ -2,9 +2,11 @@
 package api
 
 import (
+	"bytes"
 	"context"
 	"errors"
 	"fmt"
+	"io"
 	"net/http"
 	"strconv"
 	"strings"
@@ -160,8 +162,18 @@ func Close(w http.ResponseWriter) { w.Header().Set("Connection", "close") }
 
 // Write answers a request with a text of JSON, and returns the status.
 func Write(w http.ResponseWriter, status int, text []byte) int {
+	return WriteAs(w, status, "application/json", text)
+}
+
+// WriteLines answers a request with lines of JSON.
+func WriteLines(w http.ResponseWriter, text []byte) int {
+	return WriteAs(w, http.StatusOK, "application/jsonl", text)
+}
+
+// WriteAs answers a request with a text of a type, and returns the status.
+func WriteAs(w http.ResponseWriter, status int, kind string, text []byte) int {
 	head := w.Header()
-	head["Content-Type"] = []string{"application/json"}
+	head["Content-Type"] = []string{kind}
 	head["Content-Length"] = []string{strconv.Itoa(len(text))}
 	w.WriteHeader(status)
 	_, _ = w.Write(text) // If it fails, the client is gone.
@@ -257,4 +269,29 @@ func judgeBody(r *http.Request, most int64) error {
 		return tooLong(most)
 	}
 	return nil
+}
+
+// ReadBody returns the body of a request by POST, which may have at most this many bytes.
+func ReadBody(r *http.Request, most int64) ([]byte, error) {
+	if err := judgeBody(r, most); err != nil {
+		return nil, err
+	}
+	body, err := readAll(r)
+	if err != nil {
+		return nil, BadRequest(http.StatusBadRequest)
+	}
+	return body, nil
+}
+
+// readAll reads the body of a request that says how long it is. It takes little memory before the client has sent some of it.
+func readAll(r *http.Request) ([]byte, error) {
+	if r.ContentLength <= SmallBody {
+		body := make([]byte, r.ContentLength)
+		_, err := io.ReadFull(r.Body, body)
+		return body, err
+	}
+	var body bytes.Buffer
+	body.Grow(SmallBody)
+	_, err := body.ReadFrom(r.Body)
+	return body.Bytes(), err
 }

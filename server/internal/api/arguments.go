@@ -41,12 +41,17 @@ func (a *Arguments) Text(key string) string {
 	return ""
 }
 
+// SetText sets the text at a key.
+func (a *Arguments) SetText(key, text string) {
+	if place := a.place(key); place != nil {
+		*place = text
+	}
+}
+
 // setTexts sets texts: keys, each followed by its text.
 func (a *Arguments) setTexts(pairs []string) {
 	for i := 0; i+1 < len(pairs); i += 2 {
-		if place := a.place(pairs[i]); place != nil {
-			*place = pairs[i+1]
-		}
+		a.SetText(pairs[i], pairs[i+1])
 	}
 }
 
@@ -63,7 +68,7 @@ func (c *Call) Has(key string) bool {
 // LineWith returns the line of a call with another text at a key. The function has to be one without a number.
 func (c *Call) LineWith(key, text string) ([]byte, error) {
 	other := *c
-	other.setTexts([]string{key, text})
+	other.SetText(key, text)
 	err := other.write()
 	return other.Line, err
 }

@@ -84,7 +84,6 @@ func parseBody(name string, body []byte) (*Call, error) {
 	return newCall(name, found)
 }
 
-// newCall makes a call of what was read.
 func newCall(name string, found Fields) (*Call, error) {
 	call := &Call{}
 	if err := call.readFunction(name, found); err != nil {
@@ -147,7 +146,6 @@ func wrongKey(found Fields, key, wanted string) Refusal {
 	return BadRequestSince(http.StatusBadRequest, "%s is missing, and has to be %s", key, wanted)
 }
 
-// write makes the line.
 func (c *Call) write() error {
 	_, err := c.writeBehind(make([]byte, 0, 128))
 	return err

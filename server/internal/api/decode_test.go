@@ -178,34 +178,6 @@ func isRead(text []byte) bool {
 	return isWhole(value) && !strings.Contains(string(text), `\ud83d"`)
 }
 
-func TestPairsOf(t *testing.T) {
-	for _, test := range []struct{ name, answer string }{
-		{"pairs", `{"ok":true,"value":[["a","b"],["c","d"]]}`},
-		{"a name that is not ASCII", `{"ok":true,"value":[["é","b"]]}`},
-		{"spaces", `{"ok":true,"value": [ ["a", "b"] ] }`},
-		{"no pair", `{"ok":true,"value":[]}`},
-		{"an escape", `{"ok":true,"value":[["a","b"],["\"c\\","d"]]}`},
-	} {
-		t.Run(test.name, func(t *testing.T) {
-			var want [][2]string
-			if err := ValueOf([]byte(test.answer), &want); err != nil {
-				t.Fatal(err)
-			}
-			if pairs, err := PairsOf([]byte(test.answer)); err != nil || fmt.Sprint(pairs) != fmt.Sprint(want) {
-				t.Errorf("%v, %v instead of %v", pairs, err, want)
-			}
-		})
-	}
-	for _, answer := range []string{
-		`{"ok":true,"value":["a"]}`, `{"ok":true,"value":[["a"]]}`, `{"ok":true,"value":[["a","b","c"]]}`, `{"ok":true,"value":[["a",[]]]}`,
-		`{"ok":true,"value":[{"a":"b"}]}`, `{"ok":true,"value":[["a","b"]`, `{"ok":true}`,
-	} {
-		if pairs, err := PairsOf([]byte(answer)); err == nil {
-			t.Errorf("%s: %v", answer, pairs)
-		}
-	}
-}
-
 func BenchmarkParseLine(b *testing.B) {
 	line := []byte(`{"fn":"checkAccess","session":"session 17","operation":"open","object":"object 12"}`)
 	b.ReportAllocs()

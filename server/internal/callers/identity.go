@@ -83,10 +83,10 @@ func (s *Set) ofAuthorization(fields []string) (string, error) {
 	if name, known := s.tokens[sha256.Sum256([]byte(token))]; known {
 		return "token:" + name, nil
 	}
-	if s.verifier == nil {
+	if s.keys == nil {
 		return "", errors.New("unknown token")
 	}
-	name, err := s.verifier.caller(token, time.Now())
+	name, err := s.keys.caller(token, time.Now())
 	if err != nil {
 		return "", err
 	}

@@ -52,8 +52,8 @@ type keyring struct {
 	unverified sync.Once
 }
 
-// newVerifier reads the keys, if there is a file.
-func newVerifier(files Files, log *logs.Logger) (verifier, error) {
+// newKeyring reads the keys, if there is a file.
+func newKeyring(files Files, log *logs.Logger) (*keyring, error) {
 	if files.Keys == "" {
 		return nil, nil
 	}

@@ -61,7 +61,7 @@ func TestJWT(t *testing.T) {
 	if err != nil {
 		t.Fatal(err)
 	}
-	ring, err := newVerifier(Files{Issuer: "https://id", Audience: "rbac", Subject: "sub", Keys: write(t, "keys", setOf(t,
+	ring, err := newKeyring(Files{Issuer: "https://id", Audience: "rbac", Subject: "sub", Keys: write(t, "keys", setOf(t,
 		jose.JSONWebKey{Key: &key.PublicKey, KeyID: "k1", Algorithm: "ES256", Use: "sig"},
 		jose.JSONWebKey{Key: &slow.PublicKey, KeyID: "k2"}))}, logs.New(io.Discard))
 	if err != nil {
@@ -164,7 +164,7 @@ func TestKeys(t *testing.T) {
 	} {
 		t.Run(test.name, func(t *testing.T) {
 			log := &bytes.Buffer{}
-			_, err := newVerifier(Files{Keys: write(t, "keys", test.text), Issuer: "i", Audience: "a", Subject: "sub"}, logs.New(log))
+			_, err := newKeyring(Files{Keys: write(t, "keys", test.text), Issuer: "i", Audience: "a", Subject: "sub"}, logs.New(log))
 			if isBeside := strings.Contains(test.name, "beside"); isBeside != strings.Contains(log.String(), "a key is left out") && test.says == "" {
 				t.Errorf("the log: %s", log)
 			}
@@ -173,10 +173,10 @@ func TestKeys(t *testing.T) {
 			}
 		})
 	}
-	if _, err := newVerifier(Files{Keys: write(t, "keys", setOf(t, public)), Issuer: "i", Subject: "sub"}, logs.New(io.Discard)); err == nil {
+	if _, err := newKeyring(Files{Keys: write(t, "keys", setOf(t, public)), Issuer: "i", Subject: "sub"}, logs.New(io.Discard)); err == nil {
 		t.Error("no audience")
 	}
-	if ring, err := newVerifier(Files{}, logs.New(io.Discard)); ring != nil || err != nil {
+	if ring, err := newKeyring(Files{}, logs.New(io.Discard)); ring != nil || err != nil {
 		t.Error(ring, err)
 	}
 }
@@ -205,7 +205,7 @@ func TestSettableClaims(t *testing.T) {
 		{"sub", nil, "carla@example.com", ""},
 	} {
 		log := &bytes.Buffer{}
-		ring, err := newVerifier(Files{Keys: keys, Issuer: "i", Audience: "a", Subject: test.subject}, logs.New(log))
+		ring, err := newKeyring(Files{Keys: keys, Issuer: "i", Audience: "a", Subject: test.subject}, logs.New(log))
 		if err != nil {
 			t.Fatal(err)
 		}

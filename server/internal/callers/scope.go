@@ -49,7 +49,6 @@ func checkCaller(name string) error {
 // The kinds of names in scopes.
 const ofRole, ofObject, ofUser = "role", "object", "user"
 
-// checkScope reports what is wrong with a scope.
 func checkScope(scope string) error {
 	if scope == office {
 		return nil

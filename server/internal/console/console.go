@@ -60,7 +60,6 @@ func Serve(w http.ResponseWriter, r *http.Request) int {
 	return http.StatusOK
 }
 
-// fail answers with a status and its text.
 func fail(w http.ResponseWriter, status int) int {
 	w.Header().Set("Content-Type", "text/plain; charset=utf-8")
 	w.WriteHeader(status)

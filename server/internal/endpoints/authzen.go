@@ -11,13 +11,20 @@ import (
 
 // The shapes of the Authorization API 1.0 of OpenID. A subject asks for an action on a resource.
 
-// An entity is a subject or a resource.
-type entity struct{ kind, id string }
-
 // An evaluation is what one evaluation names. What it doesn't name has an empty text.
-type evaluation struct {
-	subject, resource entity
-	action            string
+type evaluation struct{ subjectType, subjectID, action, resourceType, resourceID string }
+
+// A part of an evaluation is a text at a key of an object, which is at another key.
+type part struct {
+	above, key string
+	text       *string
+}
+
+func (asked *evaluation) parts() []part {
+	return []part{
+		{"subject", "type", &asked.subjectType}, {"subject", "id", &asked.subjectID}, {"action", "name", &asked.action},
+		{"resource", "type", &asked.resourceType}, {"resource", "id", &asked.resourceID},
+	}
 }
 
 // A semantic says which of several evaluations are answered: all of them, or those up to the first with a decision.
@@ -27,7 +34,6 @@ var semantics = map[string]semantic{
 	"execute_all": {}, "deny_on_first_deny": {hasLast: true}, "permit_on_first_permit": {hasLast: true, last: true},
 }
 
-// evaluation answers one evaluation.
 func (e *Endpoints) evaluation(r *request) (int, error) {
 	fields, err := readObject(r)
 	if err != nil {
@@ -126,7 +132,6 @@ func (e *Endpoints) evaluateAll(r *request, evaluations []evaluation) ([]api.Dec
 	return decisions, nil
 }
 
-// evaluated returns the answer to several evaluations.
 func evaluated(decisions []api.Decision, wanted semantic) []byte {
 	text := []byte(`{"evaluations":[`)
 	for i, one := range decisions {
@@ -141,7 +146,6 @@ func evaluated(decisions []api.Decision, wanted semantic) []byte {
 	return append(text, `]}`...)
 }
 
-// appendDecision appends a decision as JSON.
 func appendDecision(text []byte, d api.Decision) []byte {
 	switch {
 	case d.IsAllowed:
@@ -162,14 +166,13 @@ func readObject(r *request) (api.Fields, error) {
 	return api.FieldsOf(string(body))
 }
 
-// readSemantic reads the options of evaluations.
 func readSemantic(options string) (wanted semantic, err error) {
 	if options == "" {
 		return wanted, nil
 	}
-	fields, err := fieldsAt("options", options)
+	fields, err := api.FieldsOf(options)
 	if err != nil {
-		return wanted, err
+		return wanted, notRead("options has to be an object")
 	}
 	if !fields.Has("evaluations_semantic") {
 		return wanted, nil
@@ -208,63 +211,27 @@ func readEvaluations(fields api.Fields, list []string) ([]evaluation, error) {
 }
 
 // readEvaluation reads an evaluation. What it leaves out is taken from another one.
-func readEvaluation(fields api.Fields, other evaluation) (read evaluation, err error) {
-	read = other
-	for name, one := range map[string]*entity{"subject": &read.subject, "resource": &read.resource} {
-		if value := fields.At(name); value != "" {
-			if *one, err = readEntity(name, value); err != nil {
-				return read, err
-			}
+func readEvaluation(fields api.Fields, other evaluation) (evaluation, error) {
+	for _, one := range other.parts() {
+		value := fields.At(one.above)
+		if value == "" {
+			continue
+		}
+		named, err := api.FieldsOf(value)
+		if err != nil {
+			return other, notRead("%s has to be an object", one.above)
+		}
+		if *one.text, err = api.Text(named.At(one.key)); err != nil {
+			return other, notRead("%s.%s has to be a text", one.above, one.key)
 		}
 	}
-	if !fields.Has("action") {
-		return read, nil
-	}
-	named, err := fieldsAt("action", fields.At("action"))
-	if err != nil {
-		return read, err
-	}
-	read.action, err = textAt("action", named, "name")
-	return read, err
+	return other, nil
 }
 
-// readEntity reads a subject or a resource.
-func readEntity(name string, value string) (read entity, err error) {
-	fields, err := fieldsAt(name, value)
-	if err != nil {
-		return read, err
-	}
-	if read.kind, err = textAt(name, fields, "type"); err != nil {
-		return read, err
-	}
-	read.id, err = textAt(name, fields, "id")
-	return read, err
-}
-
-// fieldsAt returns the object at a key.
-func fieldsAt(key string, value string) (api.Fields, error) {
-	fields, err := api.FieldsOf(value)
-	if err != nil {
-		return nil, notRead("%s has to be an object", key)
-	}
-	return fields, nil
-}
-
-// textAt returns the text at a key of an object that is at another key.
-func textAt(above string, fields api.Fields, key string) (string, error) {
-	text, err := api.Text(fields.At(key))
-	if err != nil {
-		return "", notRead("%s.%s has to be a text", above, key)
-	}
-	return text, nil
-}
-
-// check refuses an evaluation that lacks a part.
 func (asked evaluation) check() error {
-	texts := []string{asked.subject.kind, asked.subject.id, asked.action, asked.resource.kind, asked.resource.id}
-	for i, key := range []string{"subject.type", "subject.id", "action.name", "resource.type", "resource.id"} {
-		if texts[i] == "" {
-			return notRead("%s is missing", key)
+	for _, one := range asked.parts() {
+		if *one.text == "" {
+			return notRead("%s.%s is missing", one.above, one.key)
 		}
 	}
 	return nil
@@ -273,17 +240,17 @@ func (asked evaluation) check() error {
 // call returns the call that decides, or nil if the office knows no such subjects or resources. The object is the id of the resource if its
 // type is "object", and otherwise TYPE:ID. So a type has no colon: otherwise two resources could be one object.
 func (asked evaluation) call() (*api.Call, error) {
-	wanted := api.Arguments{Operation: asked.action, Object: asked.resource.id}
-	if asked.resource.kind != "object" {
-		wanted.Object = asked.resource.kind + ":" + asked.resource.id
+	wanted := api.Arguments{Operation: asked.action, Object: asked.resourceID}
+	if asked.resourceType != "object" {
+		wanted.Object = asked.resourceType + ":" + asked.resourceID
 	}
-	switch asked.subject.kind {
+	switch asked.subjectType {
 	case "session":
-		wanted.Session = asked.subject.id
+		wanted.Session = asked.subjectID
 	case "user":
-		wanted.User = asked.subject.id
+		wanted.User = asked.subjectID
 	}
-	if wanted.Session+wanted.User == "" || strings.Contains(asked.resource.kind, ":") {
+	if wanted.Session+wanted.User == "" || strings.Contains(asked.resourceType, ":") {
 		return nil, nil
 	}
 	return deciding(wanted)

@@ -1,10 +1,8 @@
 package endpoints
 
 import (
-	"bytes"
 	"net/http"
 	"net/url"
-	"strconv"
 
 	"rbac-node/internal/api"
 )
@@ -81,16 +79,10 @@ func readStop(target string) (bool, error) {
 	return false, notRead("a batch has no query but stop=first")
 }
 
-// writeLines answers a request with lines of JSON.
 func writeLines(w http.ResponseWriter, lines [][]byte) int {
-	var text bytes.Buffer
+	var text []byte
 	for _, line := range lines {
-		text.Write(line)
-		text.WriteByte('\n')
+		text = append(append(text, line...), '\n')
 	}
-	w.Header().Set("Content-Type", "application/jsonl")
-	w.Header().Set("Content-Length", strconv.Itoa(text.Len()))
-	w.WriteHeader(http.StatusOK)
-	_, _ = w.Write(text.Bytes()) // If it fails, the client is gone.
-	return http.StatusOK
+	return api.WriteLines(w, text)
 }

@@ -4,34 +4,29 @@ import (
 	"bytes"
 	"encoding/json"
 	"net/http"
-)
 
-// A right is a scope with what a caller may do in it.
-type right struct {
-	Functions []string `json:"functions"`
-	Scope     string   `json:"scope"`
-}
+	"rbac-node/internal/callers"
+)
 
 // caller answers who asks, and what that caller may do.
 func (e *Endpoints) caller(r *request) (int, error) {
 	value := struct {
-		Caller string  `json:"caller"`
-		Open   bool    `json:"open,omitempty"`
-		Rights []right `json:"rights"`
-	}{Caller: r.visit.Name(), Open: r.visit == nil, Rights: []right{}}
+		Caller string          `json:"caller"`
+		Open   bool            `json:"open,omitempty"`
+		Rights []callers.Grant `json:"rights"`
+	}{Caller: r.visit.Name(), Open: r.visit == nil, Rights: []callers.Grant{}}
 	grants, err := r.visit.Rights()
 	if err != nil {
 		return 0, err
 	}
 	for _, one := range grants {
 		if len(one.Functions) > 0 {
-			value.Rights = append(value.Rights, right{one.Functions, one.Scope})
+			value.Rights = append(value.Rights, one)
 		}
 	}
 	return r.replyValue(value)
 }
 
-// replyValue answers the request with a value.
 func (r *request) replyValue(value any) (int, error) {
 	var text bytes.Buffer
 	encoder := json.NewEncoder(&text)

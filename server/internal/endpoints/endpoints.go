@@ -101,7 +101,6 @@ var (
 	batching   = append(api.Functions(), api.DecideByUser)
 )
 
-// add adds what the endpoints are.
 func (e *Endpoints) add() {
 	e.at = map[string]endpoint{
 		"/v1/batch":              {"batch", post, e.batch, batching},
@@ -124,7 +123,6 @@ func (e *Endpoints) add() {
 	}
 }
 
-// find returns the endpoint at a target.
 func (e *Endpoints) find(target string) (found endpoint, has bool) {
 	path, _, _ := strings.Cut(target, "?")
 	if strings.HasPrefix(path, sessionsPath) {
@@ -167,7 +165,6 @@ func (e *Endpoints) Serve(w http.ResponseWriter, r *http.Request, visit *callers
 	e.Note(at.kind, status, start)
 }
 
-// serve answers a request for an endpoint.
 func (at endpoint) serve(r *request) (status int, err error) {
 	if r.kind, err = api.KindOfQuestions(r.Request); err != nil {
 		return 0, err
@@ -332,13 +329,11 @@ func (r *request) may(calls ...*api.Call) error {
 	return r.visit.May(calls...)
 }
 
-// reply answers the request with a text of JSON.
 func (r *request) reply(status int, text []byte) int {
 	r.visit.Done()
 	return api.Write(r.w, status, text)
 }
 
-// status answers the request by a status alone.
 func (r *request) status(status int) int {
 	r.visit.Done()
 	if status != http.StatusNoContent {

@@ -2,10 +2,9 @@ package endpoints
 
 import (
 	"bytes"
-	"encoding/json"
 	"errors"
+	"fmt"
 	"net/http"
-	"strconv"
 	"strings"
 
 	"rbac-node/internal/api"
@@ -27,12 +26,11 @@ const (
 
 // A page is the part of a list that is answered.
 type page struct {
-	rows []json.RawMessage
-	// next is what after has to be for the next part, or empty. last is the name of the last row.
-	next, last string
+	rows [][]byte
+	// next is what after has to be for the next part, or empty.
+	next string
 }
 
-// list answers a part of a list.
 func (e *Endpoints) list(r *request) (int, error) {
 	s, err := e.knownTo(r, api.Lists)
 	if err != nil {
@@ -94,7 +92,6 @@ func (e *Endpoints) lists(r *request) (int, error) {
 	return writeLines(r.w, answers), nil
 }
 
-// pages returns the answers to queries of several lists.
 func (e *Endpoints) pages(r *request, s *state.State, queries []listQuery) ([][]byte, error) {
 	answers := make([][]byte, len(queries))
 	for i, query := range queries {
@@ -112,7 +109,6 @@ func (e *Endpoints) pages(r *request, s *state.State, queries []listQuery) ([][]
 	return answers, nil
 }
 
-// page returns the rows of a list that are wanted.
 func (e *Endpoints) page(r *request, s *state.State, query listQuery) (page, error) {
 	name := query.list
 	switch {
@@ -122,22 +118,29 @@ func (e *Endpoints) page(r *request, s *state.State, query listQuery) (page, err
 			sessions = v.Sessions()
 			r.isAt(v.Numbers)
 		})
-		return pageOfSessions(sessions, query.Query), err
+		rows, byDigest := make([]state.Row, len(sessions)), make(map[string]state.Session, len(sessions))
+		for i, one := range sessions {
+			rows[i], byDigest[one.Digest] = state.Row{one.Digest, one.User}, one
+		}
+		return query.choose(rows, func(row state.Row) []byte { return textOfSession(byDigest[row[0]]) }), err
 	case name == "staticSets" || name == "dynamicSets":
 		sets, numbers, err := s.Sets(name == "staticSets")
 		r.isAt(numbers)
-		return pageOfSets(sets, query.Query), err
+		rows, byName := make([]state.Row, len(sets)), make(map[string]state.NamedSet, len(sets))
+		for i, one := range sets {
+			rows[i], byName[one.Name] = state.Row{one.Name}, one
+		}
+		return query.choose(rows, func(row state.Row) []byte { return textOfSet(byName[row[0]]) }), err
 	case query.holder != nil:
 		rows, err := e.permissionsOf(r, query.holder)
 		if err != nil {
 			return page{}, err
 		}
-		found, hasMore := query.Select(name, rows)
-		return pageOfRows(name, found, hasMore), nil
+		return query.choose(rows, textOfRow(name)), nil
 	}
 	rows, hasMore, numbers, err := s.Rows(name, query.Query)
 	r.isAt(numbers)
-	return pageOfRows(name, rows, hasMore), err
+	return query.page(rows, hasMore, textOfRow(name)), err
 }
 
 // isAt says in the head of the answer which revision of the policy it is from.
@@ -155,8 +158,8 @@ func (e *Endpoints) permissionsOf(r *request, holder *api.Call) (rows []state.Ro
 		code, name := api.CodeOf(answers[0])
 		return nil, api.Refusal{Status: api.StatusOf(answers[0]), Code: code, Name: name}
 	}
-	pairs, err := api.PairsOf(answers[0])
-	if err != nil {
+	var pairs [][2]string
+	if err := api.ValueOf(answers[0], &pairs); err != nil {
 		return nil, err
 	}
 	rows = make([]state.Row, len(pairs))
@@ -224,7 +227,6 @@ func readListLine(line []byte) (query listQuery, err error) {
 	return query, nil
 }
 
-// readListQuery reads what is wanted of a list.
 func readListQuery(list, text string) (query listQuery, err error) {
 	if query, err = newListQuery(list); err == nil {
 		err = readQuery(text, query.set)
@@ -234,24 +236,12 @@ func readListQuery(list, text string) (query listQuery, err error) {
 
 // newListQuery returns a query of a list that wants all rows.
 func newListQuery(list string) (query listQuery, err error) {
-	if columnsOf(list) == nil {
+	if state.Columns(list) == nil {
 		return query, noSuch("list", list)
 	}
 	return listQuery{list: list, Query: state.Query{Names: map[string]string{}, Limit: usualRows}}, nil
 }
 
-// columnsOf returns the names that the rows of a list can be chosen by.
-func columnsOf(list string) []string {
-	switch list {
-	case "sessions":
-		return []string{"session", "user"}
-	case "staticSets", "dynamicSets":
-		return []string{"set"}
-	}
-	return state.Columns(list)
-}
-
-// set sets what a key of a query means.
 func (q *listQuery) set(key, text string) (err error) {
 	switch {
 	case key == "contains":
@@ -262,7 +252,7 @@ func (q *listQuery) set(key, text string) (err error) {
 		q.After = strings.Split(text, nameSeparator)
 	case key == "limit":
 		q.Limit, err = readLimit(text)
-	case has(columnsOf(q.list), key):
+	case has(state.Columns(q.list), key):
 		q.Names[key] = text
 	case q.list != "permissions" || key != "user" && key != "role":
 		return notRead("the list %s has no key %s", q.list, echoed(key))
@@ -274,86 +264,70 @@ func (q *listQuery) set(key, text string) (err error) {
 	return err
 }
 
-// text returns the answer that has a page.
 func (p page) text() []byte {
 	text := []byte{'{'}
 	if p.next != "" {
 		text = append(api.AppendQuoted(append(text, `"next":`...), p.next), ',')
 	}
 	text = append(text, `"ok":true,"value":[`...)
-	for i, row := range p.rows {
-		if i > 0 {
-			text = append(text, ',')
-		}
-		text = append(text, row...)
-	}
-	return append(text, `]}`...)
+	return append(append(text, bytes.Join(p.rows, []byte(","))...), `]}`...)
 }
 
-// pageOfRows returns a page of rows of names: each is a text if the list has one column, and an object otherwise.
-func pageOfRows(list string, rows []state.Row, hasMore bool) (p page) {
-	columns := state.Columns(list)
+// choose returns the page of the wanted ones of rows that are in order. A function writes each.
+func (q listQuery) choose(rows []state.Row, text func(row state.Row) []byte) page {
+	found, hasMore := q.Select(q.list, rows)
+	return q.page(found, hasMore, text)
+}
+
+func (q listQuery) page(rows []state.Row, hasMore bool, text func(row state.Row) []byte) (p page) {
 	for _, row := range rows {
-		text := []byte{}
-		for i, column := range columns {
-			if len(columns) > 1 {
-				text = api.AppendKey(text, column) // The first comma becomes a brace.
-			}
-			text = api.AppendQuoted(text, row[i])
-		}
-		if len(columns) > 1 {
-			text[0] = '{'
-			text = append(text, '}')
-		}
-		p.rows = append(p.rows, text)
+		p.rows = append(p.rows, text(row))
 	}
 	if hasMore {
-		last := rows[len(rows)-1]
-		p.next = strings.Join(last[:len(columns)], nameSeparator)
+		p.next = strings.Join(state.KeyOf(q.list, rows[len(rows)-1]), nameSeparator)
 	}
 	return p
 }
 
-// pageOfSessions returns a page of sessions, in the order of their digests.
-func pageOfSessions(sessions []state.Session, query state.Query) (p page) {
-	for _, one := range sessions {
-		row := state.Row{one.Digest, one.User}
-		if !query.IsWanted([]string{"session", "user"}, row) {
-			continue
+// textOfRow returns what writes a row of names: a text if the list has one column, and an object otherwise.
+func textOfRow(list string) func(row state.Row) []byte {
+	columns := state.Columns(list)
+	return func(row state.Row) (text []byte) {
+		if len(columns) == 1 {
+			return api.AppendQuoted(nil, row[0])
 		}
-		text := api.AppendTexts([]byte(`{"roles":`), one.Active)
-		text = append(api.AppendQuoted(append(text, `,"session":`...), one.Digest), `,"since":"`...)
-		text = append(append(text, one.Since.UTC().Format(recorded.TimeLayout)...), `","used":"`...)
-		text = append(append(text, one.Used.UTC().Format(recorded.TimeLayout)...), `","user":`...)
-		if !p.add(append(api.AppendQuoted(text, one.User), '}'), one.Digest, query.Limit) {
-			break
+		for i, column := range columns {
+			text = api.AppendQuoted(api.AppendKey(text, column), row[i]) // The first comma becomes a brace.
 		}
+		text[0] = '{'
+		return append(text, '}')
 	}
-	return p
 }
 
-// pageOfSets returns a page of separation of duty sets, in the order of their names.
-func pageOfSets(sets []state.NamedSet, query state.Query) (p page) {
-	for _, one := range sets {
-		if !query.IsWanted([]string{"set"}, state.Row{one.Name}) {
-			continue
-		}
-		text := strconv.AppendInt([]byte(`{"cardinality":`), one.Cardinality, 10)
-		text = api.AppendTexts(append(text, `,"roles":`...), one.Roles)
-		text = api.AppendQuoted(append(text, `,"set":`...), one.Name)
-		if !p.add(append(text, '}'), one.Name, query.Limit) {
-			break
-		}
-	}
-	return p
+func textOfSession(one state.Session) []byte {
+	return fmt.Appendf(nil, `{"roles":%s,"session":"%s","since":"%s","used":"%s","user":%s}`, api.AppendTexts(nil, one.Active), one.Digest,
+		one.Since.UTC().Format(recorded.TimeLayout), one.Used.UTC().Format(recorded.TimeLayout), api.AppendQuoted(nil, one.User))
 }
 
-// add adds a row with a name, or says that there are more than there is room for.
-func (p *page) add(row json.RawMessage, name string, limit int) bool {
-	if len(p.rows) == limit {
-		p.next = p.last
-		return false
+func textOfSet(one state.NamedSet) []byte {
+	return fmt.Appendf(nil, `{"cardinality":%d,"roles":%s,"set":%s}`, one.Cardinality, api.AppendTexts(nil, one.Roles), api.AppendQuoted(nil, one.Name))
+}
+
+// room answers how many there are of each kind, and how many there may be.
+func (e *Endpoints) room(r *request) (int, error) {
+	s, err := e.knownTo(r, api.Lists)
+	if err != nil {
+		return 0, err
 	}
-	p.rows, p.last = append(p.rows, row), name
-	return true
+	var rooms []state.Room
+	err = s.Look(func(v *state.View) {
+		rooms = v.Rooms()
+		r.isAt(v.Numbers)
+	})
+	if err != nil {
+		return 0, err
+	}
+	return r.replyValue(struct {
+		Room []state.Room `json:"room"`
+	}{rooms})
 }

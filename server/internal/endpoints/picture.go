@@ -58,15 +58,12 @@ func (e *Endpoints) picture(r *request) (int, error) {
 		return 0, err
 	}
 	header := r.w.Header()
-	header.Set("Content-Type", "image/svg+xml")
 	header.Set("Content-Security-Policy", "default-src 'none'; style-src 'unsafe-inline'")
 	header.Set("X-Content-Type-Options", "nosniff")
 	header.Set("Cache-Control", "no-store")
-	_, _ = r.w.Write(drawn) // If it fails, the client is gone.
-	return http.StatusOK, nil
+	return api.WriteAs(r.w, http.StatusOK, "image/svg+xml", drawn), nil
 }
 
-// readPictureQuery reads what a picture is to show.
 func readPictureQuery(text string) (query pictureQuery, err error) {
 	texts := map[string]*string{"role": &query.role, "user": &query.user, "operation": &query.operation, "object": &query.object}
 	err = readQuery(text, func(key, value string) error {
@@ -129,7 +126,6 @@ func draw(ctx context.Context, program, text string) ([]byte, error) {
 	return drawn.Bytes(), nil
 }
 
-// text returns a picture as Graphviz reads it.
 func (q pictureQuery) text(part state.Part) string {
 	var out strings.Builder
 	out.WriteString("digraph roles {\nbgcolor=transparent; rankdir=TB; nodesep=0.4; ranksep=0.5;\n" +

@@ -2,24 +2,12 @@ package endpoints
 
 import (
 	"context"
-	"encoding/json"
 	"strconv"
 	"strings"
 
 	"rbac-node/internal/api"
 	"rbac-node/internal/recorded"
 )
-
-// An entry is one of the record, as it is answered.
-type entry struct {
-	Answer  json.RawMessage `json:"answer,omitempty"`
-	At      string          `json:"at"`
-	Caller  string          `json:"caller"`
-	Found   bool            `json:"found,omitempty"`
-	Number  int64           `json:"number"`
-	Reason  string          `json:"reason,omitempty"`
-	Request json.RawMessage `json:"request"`
-}
 
 // record answers the newest entries of the record that are wanted.
 func (e *Endpoints) record(r *request) (int, error) {
@@ -68,43 +56,31 @@ func (e *Endpoints) links(r *request) (int, error) {
 	if err != nil {
 		return 0, err
 	}
-	return r.replyValue(struct {
-		Entries [][]string `json:"entries"`
-		First   int64      `json:"first"`
-		Head    string     `json:"head"`
-	}{append([][]string{}, found.Entries...), found.First, found.Head})
+	return r.replyValue(found)
 }
 
-// replyRecord answers entries of the record.
 func (r *request) replyRecord(page recorded.Page) (int, error) {
 	value := struct {
-		Entries []entry `json:"entries"`
-		First   int64   `json:"first,omitempty"`
-		Head    string  `json:"head"`
-		Next    int64   `json:"next,omitempty"`
-	}{Entries: []entry{}, Head: page.Head}
+		Entries []recorded.Entry `json:"entries"`
+		First   int64            `json:"first,omitempty"`
+		Head    string           `json:"head"`
+		Next    int64            `json:"next,omitempty"`
+	}{Entries: append([]recorded.Entry{}, page.Entries...), Head: page.Head}
 	if page.First > 1 {
 		value.First = page.First
 	}
-	for _, one := range page.Entries {
-		value.Entries = append(value.Entries, entry{
-			json.RawMessage(one.Answer), one.At, one.Caller, one.IsFound, one.N, one.Reason, json.RawMessage(one.Request),
-		})
-		if page.HasMore {
-			value.Next = one.N
-		}
+	if page.HasMore {
+		value.Next = page.Entries[len(page.Entries)-1].N
 	}
 	return r.replyValue(value)
 }
 
-// readRecordQuery reads which entries are wanted.
 func readRecordQuery(text string) (query recorded.Query, err error) {
 	query.Limit = usualRows
 	err = readQuery(text, func(key, value string) error { return setFilter(&query, key, value) })
 	return query, err
 }
 
-// setFilter sets what a key of a query chooses.
 func setFilter(query *recorded.Query, key, text string) (err error) {
 	texts := map[string]*string{
 		"user": &query.User, "role": &query.Role, "object": &query.Object, "operation": &query.Operation, "set": &query.Set,

@@ -76,7 +76,6 @@ func (e *Endpoints) report(r *request) (int, error) {
 	}{office.At.UTC().Format(recorded.TimeLayout), made.Columns, made.Lines, office.Numbers.Policy, int(ticketAge / time.Second), name})
 }
 
-// readReportQuery reads which lines of a report are wanted.
 func readReportQuery(r *request) (query reportQuery, err error) {
 	query = reportQuery{name: strings.TrimPrefix(r.URL.Path, reportsPath), most: reports.MostLines, isCSV: true}
 	keys, known := reports.Filters(query.name)

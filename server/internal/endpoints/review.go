@@ -2,6 +2,7 @@ package endpoints
 
 import (
 	"encoding/hex"
+	"fmt"
 	"strconv"
 	"strings"
 
@@ -10,8 +11,8 @@ import (
 )
 
 const (
-	// longestReview is the most bytes of a review's name, and mostReviewed how many lines it has at most.
-	longestReview, mostReviewed = 256, 1_000_000
+	// mostReviewed is how many lines a review has at most. Its name is as long as a reason.
+	mostReviewed = 1_000_000
 	// mostReviewBytes is the most bytes of a request that ends a review.
 	mostReviewBytes = 4096
 	// sumBytes is how many bytes a SHA-256 digest has.
@@ -28,7 +29,6 @@ type review struct {
 	Open    int
 }
 
-// endReview records that a review of who has what has ended.
 func (e *Endpoints) endReview(r *request) (int, error) {
 	if err := r.may(api.NewOther(api.Review)); err != nil {
 		return 0, err
@@ -50,7 +50,6 @@ func (e *Endpoints) endReview(r *request) (int, error) {
 	}{number})
 }
 
-// readReview reads what a review is.
 func readReview(r *request) (ended review, err error) {
 	body, err := api.ReadBody(r.Request, mostReviewBytes)
 	if err != nil {
@@ -63,8 +62,8 @@ func readReview(r *request) (ended review, err error) {
 	if ended.Name, err = api.TextAt(fields, "review"); err != nil {
 		return ended, err
 	}
-	if !isReviewName(ended.Name) {
-		return ended, notRead("review has 1 to %d bytes, and no control character", longestReview)
+	if ended.Name == "" || !isReason(ended.Name) {
+		return ended, notRead("review has 1 to %d bytes, and no control character", longestReason)
 	}
 	if ended.Digest, err = api.TextAt(fields, "sha256"); err != nil {
 		return ended, err
@@ -80,19 +79,8 @@ func readReview(r *request) (ended review, err error) {
 	return ended, nil
 }
 
-// isReviewName reports whether a review can have a name.
-func isReviewName(name string) bool {
-	return name != "" && len(name) <= longestReview && strings.IndexFunc(name, func(letter rune) bool {
-		return letter < ' ' || 0x7f <= letter && letter < 0xa0
-	}) < 0
-}
-
 // text returns the entry of a review as it is recorded. Its keys are in this order.
 func (ended review) text() []byte {
-	text := append([]byte(recorded.ReviewPrefix), `"review":`...)
-	text = append(api.AppendQuoted(text, ended.Name), `,"sha256":`...)
-	text = append(api.AppendQuoted(text, ended.Digest), `,"kept":`...)
-	text = append(strconv.AppendInt(text, int64(ended.Kept), 10), `,"removed":`...)
-	text = append(strconv.AppendInt(text, int64(ended.Removed), 10), `,"open":`...)
-	return append(strconv.AppendInt(text, int64(ended.Open), 10), '}')
+	return fmt.Appendf(nil, `%s"review":%s,"sha256":"%s","kept":%d,"removed":%d,"open":%d}`, recorded.ReviewPrefix,
+		api.AppendQuoted(nil, ended.Name), ended.Digest, ended.Kept, ended.Removed, ended.Open)
 }

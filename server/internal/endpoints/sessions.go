@@ -69,7 +69,6 @@ func (e *Endpoints) makeSession(r *request) (int, error) {
 	return r.replyValue(o.made)
 }
 
-// readOpening reads the body of a request for a session.
 func readOpening(fields api.Fields) (*opening, error) {
 	o := &opening{made: made{Left: []left{}, Roles: []string{}}}
 	var err error

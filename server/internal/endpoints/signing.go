@@ -1,7 +1,6 @@
 package endpoints
 
 import (
-	"net/http"
 	"unicode/utf8"
 
 	"rbac-node/internal/api"
@@ -16,8 +15,6 @@ const (
 	openCaller = "open"
 )
 
-var badReason = api.Refusal{Status: http.StatusBadRequest, Code: 34, Name: "BadRequest"}
-
 // sign writes on a command who asks for it and why.
 func (r *request) sign(call *api.Call) error {
 	if call.Kind != api.Command && call.Kind != api.Entry {
@@ -29,7 +26,7 @@ func (r *request) sign(call *api.Call) error {
 		return nil
 	}
 	if len(reasons) > 1 || !isReason(reasons[0]) {
-		return badReason
+		return errNotRead
 	}
 	call.Reason = reasons[0]
 	return nil

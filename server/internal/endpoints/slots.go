@@ -94,7 +94,6 @@ func (s *slots) make(ctx context.Context, do func() error) error {
 	}
 }
 
-// slot takes a slot for the answer to a request.
 func (e *Endpoints) slot(r *request) (leave func(), err error) { return e.slots.enter(r.visit.Name()) }
 
 // readLarge reads the body of a request about many things, and calls a function that reads what it says. A body that is longer than one

@@ -52,13 +52,8 @@ func (e *Endpoints) snapshot(r *request) (int, error) {
 	}
 	r.isAt(numbers)
 	r.visit.Done()
-	head := r.w.Header()
-	head.Set(numberField, strconv.FormatInt(numbers.All, 10))
-	head.Set("Content-Type", "application/jsonl")
-	head.Set("Content-Length", strconv.Itoa(len(text)))
-	r.w.WriteHeader(http.StatusOK)
-	_, _ = r.w.Write(text) // If it fails, the client is gone.
-	return http.StatusOK, nil
+	r.w.Header().Set(numberField, strconv.FormatInt(numbers.All, 10))
+	return api.WriteLines(r.w, text), nil
 }
 
 // A watch writes the accepted commands to a client as they come.

@@ -14,6 +14,7 @@ import (
 	"time"
 
 	"github.com/prometheus/client_golang/prometheus"
+	"github.com/prometheus/client_golang/prometheus/promauto"
 
 	"rbac-node/internal/api"
 	"rbac-node/internal/logs"
@@ -75,9 +76,6 @@ type Feed struct {
 	// why says why there is no replay, or is empty.
 	why atomic.Value
 }
-
-// IsAccepted reports whether the office accepted what it answers.
-func IsAccepted(answer []byte) bool { return api.IsAccepted(answer) }
 
 // Open returns a feed whose replay answers.
 func Open(ctx context.Context, options Options) (*Feed, error) {
@@ -224,7 +222,6 @@ func (f *Feed) step(over <-chan struct{}) bool {
 	return true
 }
 
-// send passes the lines of units to the replay.
 func (f *Feed) send(units []*Unit) {
 	for _, u := range units {
 		u, sent := u, time.Now()
@@ -360,5 +357,25 @@ func (f *Feed) open(ctx context.Context) error {
 	case <-ctx.Done():
 		replay.Kill()
 		return ctx.Err()
+	}
+}
+
+// Figures are what is measured of a replay.
+type figures struct {
+	starts  prometheus.Counter
+	seconds prometheus.Histogram
+}
+
+func newFigures(registry prometheus.Registerer, name string, waiting func() int) figures {
+	make := promauto.With(prometheus.WrapRegistererWith(prometheus.Labels{"replay": name}, registry))
+	make.NewGaugeFunc(prometheus.GaugeOpts{
+		Name: "rbac_node_replay_waiting", Help: "How much that was asked at once waits for a replay.",
+	}, func() float64 { return float64(waiting()) })
+	return figures{
+		starts: make.NewCounter(prometheus.CounterOpts{Name: "rbac_node_replay_starts_total", Help: "Starts of a replay."}),
+		seconds: make.NewHistogram(prometheus.HistogramOpts{
+			Name: "rbac_node_replay_answer_seconds", Help: "How long a replay took for what was asked at once.",
+			Buckets: prometheus.ExponentialBuckets(0.00005, 2, 17),
+		}),
 	}
 }

@@ -41,7 +41,6 @@ func (k *keeping) answered(u *Unit) {
 	}
 }
 
-// takeAnswered returns the units that have been answered.
 func (k *keeping) takeAnswered() (answered []*Unit) {
 	k.mutex.Lock()
 	defer k.mutex.Unlock()

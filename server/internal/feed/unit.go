@@ -54,7 +54,6 @@ func (u *Unit) begin(ctx context.Context) {
 	u.ctx, u.Answers, u.done = ctx, make([][]byte, len(u.Lines)), make(chan struct{})
 }
 
-// release passes the answers on.
 func (u *Unit) release() {
 	close(u.done)
 	if u.Finally != nil {

@@ -51,27 +51,27 @@ func (a Address) IsLocal() bool { return a.Network == unix || a.tcp.IP.IsLoopbac
 
 // listen begins to listen. The folder of a socket and the socket are for the user and the group of the front.
 func (a Address) listen() (net.Listener, error) {
-	if a.Network != unix {
-		listener, err := net.ListenTCP("tcp", a.tcp)
-		if err != nil {
-			return nil, fmt.Errorf("listen: %w", err)
-		}
-		return listener, nil
-	}
-	if err := makeFolder(filepath.Dir(a.Place)); err != nil {
-		return nil, fmt.Errorf("listen: %w", err)
-	}
-	if err := removeOld(a.Place); err != nil {
-		return nil, fmt.Errorf("listen: %w", err)
-	}
-	// The socket never has more rights than it is to have, not even for a moment.
-	old := syscall.Umask(0o117)
-	defer syscall.Umask(old)
-	listener, err := net.Listen(unix, a.Place)
+	listener, err := a.open()
 	if err != nil {
 		return nil, fmt.Errorf("listen: %w", err)
 	}
 	return listener, nil
+}
+
+func (a Address) open() (net.Listener, error) {
+	if a.Network != unix {
+		return net.Listen("tcp", a.tcp.String())
+	}
+	if err := makeFolder(filepath.Dir(a.Place)); err != nil {
+		return nil, err
+	}
+	if err := removeOld(a.Place); err != nil {
+		return nil, err
+	}
+	// The socket never has more rights than it is to have, not even for a moment.
+	old := syscall.Umask(0o117)
+	defer syscall.Umask(old)
+	return net.Listen(unix, a.Place)
 }
 
 // makeFolder makes a folder with mode 0750, whatever the umask is, unless there is one.

@@ -240,7 +240,6 @@ func (f *Front) Close() {
 // errDenied says in the journal that a caller isn't allowed something.
 var errDenied = errors.New("the caller may not do this")
 
-// refuse answers a request without the office, and notes it.
 func (f *Front) refuse(w http.ResponseWriter, r *http.Request, caller string, why error, refusal api.Refusal) {
 	web.Refused(r.Context())
 	f.note(r, caller, why, refusal)

@@ -31,6 +31,7 @@ import (
 	"rbac-node/internal/faults"
 	"rbac-node/internal/logs"
 	"rbac-node/internal/office"
+	"rbac-node/internal/pause"
 	"rbac-node/internal/state"
 )
 
@@ -110,7 +111,7 @@ func isFinal(err error) bool {
 func (l *Ledger) commit(
 	ctx context.Context, what string, shape func(clientv3.Txn) clientv3.Txn,
 ) (*clientv3.TxnResponse, error) {
-	timeout, pause := firstAttemptTimeout, firstPause
+	timeout, rest := firstAttemptTimeout, firstPause
 	for {
 		limited, cancel := context.WithTimeout(ctx, timeout)
 		reply, err := shape(l.kv.Txn(limited)).Commit()
@@ -119,11 +120,11 @@ func (l *Ledger) commit(
 			return reply, nil
 		}
 		l.client.SetEndpoints(l.members...)
-		if isFinal(err) || wait(ctx, pause) != nil {
+		if isFinal(err) || pause.For(ctx, rest) != nil {
 			return nil, fmt.Errorf("%s: %w", what, err)
 		}
 		l.log.Warn("asking etcd again", "what", what, "error", err)
-		timeout, pause = twice(timeout, maxAttemptTimeout), twice(pause, maxPause)
+		timeout, rest = twice(timeout, maxAttemptTimeout), twice(rest, maxPause)
 	}
 }
 
@@ -135,19 +136,6 @@ func twice(one, longest time.Duration) time.Duration {
 	return one
 }
 
-// wait waits, unless the context ends before.
-func wait(ctx context.Context, pause time.Duration) error {
-	timer := time.NewTimer(pause)
-	defer timer.Stop()
-	select {
-	case <-timer.C:
-		return nil
-	case <-ctx.Done():
-		return ctx.Err()
-	}
-}
-
-// transact runs a transaction without a condition.
 func (l *Ledger) transact(ctx context.Context, what string, ops ...clientv3.Op) (*clientv3.TxnResponse, error) {
 	return l.commit(ctx, what, func(t clientv3.Txn) clientv3.Txn { return t.Then(ops...) })
 }
@@ -442,7 +430,7 @@ func (l *Ledger) Follow(ctx context.Context, after int64, deliver func(Entry) er
 			return err
 		}
 		l.log.Info("following the log anew", "revision", f.after)
-		if err := wait(ctx, firstPause); err != nil {
+		if err := pause.For(ctx, firstPause); err != nil {
 			return err
 		}
 	}
@@ -566,7 +554,6 @@ func (f *follower) page(ctx context.Context, keys []*mvccpb.KeyValue) (size int,
 	return size, nil
 }
 
-// deliverEntry delivers an entry.
 func (f *follower) deliverEntry(kv *mvccpb.KeyValue) error {
 	f.after = kv.CreateRevision
 	key := string(kv.Key)

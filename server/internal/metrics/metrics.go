@@ -41,23 +41,3 @@ func Flag(registry prometheus.Registerer, name, help string, is func() bool) {
 		return 0
 	})
 }
-
-// Gauges registers a gauge for each value of a label. The values of the label and of the gauges are read when they are asked for.
-func Gauges(registry prometheus.Registerer, name, help, label string, values func() map[string]float64) {
-	registry.MustRegister(&gauges{prometheus.NewDesc(name, help, []string{label}, nil), values})
-}
-
-type gauges struct {
-	about  *prometheus.Desc
-	values func() map[string]float64
-}
-
-// Describe implements prometheus.Collector.
-func (g *gauges) Describe(to chan<- *prometheus.Desc) { to <- g.about }
-
-// Collect implements prometheus.Collector.
-func (g *gauges) Collect(to chan<- prometheus.Metric) {
-	for label, value := range g.values() {
-		to <- prometheus.MustNewConstMetric(g.about, prometheus.GaugeValue, value, label)
-	}
-}

@@ -1,6 +1,7 @@
 package metrics
 
 import (
+	"fmt"
 	"net/http"
 	"net/http/httptest"
 	"strings"
@@ -16,28 +17,14 @@ func said(registry *prometheus.Registry) string {
 	return answer.Body.String()
 }
 
-func TestGauges(t *testing.T) {
-	registry := prometheus.NewPedanticRegistry()
-	values, is := map[string]float64{}, false
-	Gauges(registry, "ages", "How old.", "name", func() map[string]float64 { return values })
+func TestFlag(t *testing.T) {
+	registry, is := prometheus.NewPedanticRegistry(), false
 	Flag(registry, "open", "1 if it is open.", func() bool { return is })
-	for _, test := range []struct {
-		name   string
-		values map[string]float64
-		is     bool
-		wanted string
-	}{
-		{"nothing", nil, false, "# HELP open 1 if it is open.\n# TYPE open gauge\nopen 0\n"},
-		{"labels with signs", map[string]float64{"a": 1.5, "\"b\\\n": 2}, true,
-			"# HELP ages How old.\n# TYPE ages gauge\nages{name=\"\\\"b\\\\\\n\"} 2\nages{name=\"a\"} 1.5\n" +
-				"# HELP open 1 if it is open.\n# TYPE open gauge\nopen 1\n"},
-	} {
-		t.Run(test.name, func(t *testing.T) {
-			values, is = test.values, test.is
-			if given := said(registry); given != test.wanted {
-				t.Errorf("%q and not %q", given, test.wanted)
-			}
-		})
+	for _, value := range []int{0, 1} {
+		is = value == 1
+		if given, wanted := said(registry), fmt.Sprintf("# HELP open 1 if it is open.\n# TYPE open gauge\nopen %d\n", value); given != wanted {
+			t.Errorf("%q and not %q", given, wanted)
+		}
 	}
 }
 

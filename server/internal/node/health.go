@@ -53,7 +53,6 @@ func (n *Node) IsAlive(ctx context.Context) bool {
 	}
 }
 
-// addMetrics adds the metrics of the node.
 func (n *Node) addMetrics(registry prometheus.Registerer) {
 	gauge := func(name, help string, value func(api.Health) float64) {
 		metrics.Gauge(registry, "rbac_node_"+name, help, func() float64 { return value(n.Health()) })

@@ -121,7 +121,6 @@ func except(members []ledger.Member, out map[string]string) (rest []ledger.Membe
 	return rest
 }
 
-// differs says where two nodes have different snapshots.
 func differs(s office.Snapshot, name, other string) string {
 	return fmt.Sprintf("at revision %d the snapshot of %s differs from that of %s", s.Revision, name, other)
 }
@@ -174,7 +173,6 @@ func otherSettings(own ledger.Life, lives []ledger.Life) string {
 		own.Name, own.Settings, differ[0].Name, differ[0].Settings)
 }
 
-// snapshotAt returns the snapshot of a node at a revision.
 func snapshotAt(member ledger.Member, revision int64) (office.Snapshot, bool) {
 	for _, s := range member.Snapshots {
 		if s.Revision == revision {

@@ -14,6 +14,7 @@ import (
 
 	"rbac-node/internal/disk"
 	"rbac-node/internal/ledger"
+	"rbac-node/internal/pause"
 )
 
 const (
@@ -68,10 +69,8 @@ func (n *Node) enter(ctx context.Context) error {
 			n.log.Warn("waiting before it takes part", "why", why)
 		}
 		n.stage.Store(why)
-		select {
-		case <-time.After(lookInterval):
-		case <-ctx.Done():
-			return ctx.Err()
+		if err := pause.For(ctx, lookInterval); err != nil {
+			return err
 		}
 	}
 }
@@ -88,7 +87,6 @@ func (n *Node) hindrance(ctx context.Context) (string, error) {
 	return otherSettings(n.life, state.Lives), nil
 }
 
-// renewLife says that this node runs.
 func (n *Node) renewLife(ctx context.Context) error {
 	within, cancel := context.WithTimeout(ctx, lookTimeout)
 	defer cancel()

@@ -209,7 +209,6 @@ func (n *Node) work(life context.Context) error {
 	return err
 }
 
-// readLog feeds the entries of the log.
 func (n *Node) readLog(ctx context.Context) error {
 	return n.shared.Follow(ctx, n.applied.Load().Revision, func(entry ledger.Entry) error {
 		return n.submit(ctx, task{0, func() { n.apply(entry) }})

@@ -182,12 +182,11 @@ func TestAskRefusesWhatWaited(t *testing.T) {
 	}
 }
 
-// A node that could take no snapshots doesn't start.
-func TestNewWithoutDigester(t *testing.T) {
+// A node needs no program but the proved one.
+func TestNewWithoutPrograms(t *testing.T) {
 	t.Setenv("PATH", t.TempDir())
-	n, err := New(Options{Data: t.TempDir()}, newFakeLog(), logs.New(io.Discard), prometheus.NewRegistry())
-	if n != nil || err == nil || !strings.Contains(err.Error(), "sqlite3") {
-		t.Errorf("%v, %v", n, err)
+	if _, err := New(Options{Data: t.TempDir()}, newFakeLog(), logs.New(io.Discard), prometheus.NewRegistry()); err != nil {
+		t.Error(err)
 	}
 }
 

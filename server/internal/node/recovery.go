@@ -7,11 +7,11 @@ import (
 	"os"
 	"path/filepath"
 	"sort"
-	"time"
 
 	"rbac-node/internal/faults"
 	"rbac-node/internal/ledger"
 	"rbac-node/internal/office"
+	"rbac-node/internal/pause"
 )
 
 // recoverOffice makes the office from the newest snapshot that is good. It writes nothing to etcd, which may be full,
@@ -123,10 +123,8 @@ func (n *Node) fetch(ctx context.Context) (office.Snapshot, error) {
 			}
 			n.log.Warn("no snapshot from this node", "from", from, "revision", one.revision, "error", err)
 		}
-		select {
-		case <-time.After(lookInterval):
-		case <-ctx.Done():
-			return office.Snapshot{}, ctx.Err()
+		if err := pause.For(ctx, lookInterval); err != nil {
+			return office.Snapshot{}, err
 		}
 	}
 }

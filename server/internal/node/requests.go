@@ -29,7 +29,6 @@ type request struct {
 	size int
 }
 
-// newRequest returns a request.
 func newRequest(ctx context.Context, b api.Batch) *request {
 	r := &request{ctx: ctx, batch: b, reply: make(chan reply, 1)}
 	if b.Kind != api.Command {
@@ -70,7 +69,6 @@ func (n *Node) Do(ctx context.Context, b api.Batch) (api.Answers, error) {
 	return api.Answers{Texts: texts, Point: api.Point{Revision: at.Revision, Newest: newest, Policy: at.Policy}}, err
 }
 
-// command does a batch with commands.
 func (n *Node) command(ctx context.Context, b api.Batch) (api.Answers, error) {
 	if n.differs.Load() != "" {
 		return api.Answers{}, api.Diverged
@@ -170,7 +168,6 @@ func (n *Node) Settle(ctx context.Context) error {
 	}
 }
 
-// expire ends sessions that are too old.
 func (n *Node) expire(ctx context.Context) error {
 	if n.options.SessionAge <= 0 {
 		return nil

@@ -3,13 +3,10 @@ package office
 import (
 	"bytes"
 	"context"
-	"crypto/sha256"
-	"encoding/hex"
 	"errors"
 	"fmt"
 	"io"
 	"net/http"
-	"net/url"
 	"os"
 	"os/exec"
 	"path/filepath"
@@ -17,7 +14,6 @@ import (
 	"sort"
 	"strconv"
 	"strings"
-	"syscall"
 	"time"
 
 	"rbac-node/internal/disk"
@@ -36,29 +32,11 @@ const (
 	recordMark = "-record"
 	// copiedSuffix ends the name of a snapshot that another node has made.
 	copiedSuffix = "-copied"
-	// digester is the program that reads rows for a digest.
-	digester = "sqlite3"
 	// nameField is the field in the head of a reply that names the snapshot.
 	nameField = "Snapshot"
-	// memory is a folder of files in memory, since the program syncs often, which takes long on a disk. spareMemory is how much room there
-	// has to be besides some copies of an office.
-	memory              = "/dev/shm"
-	spareMemory, copies = 64 << 20, 4
 	// revisionQuery is how another snapshot than the newest one is asked for.
 	revisionQuery = "revision"
 )
-
-// rowsQuery prints all rows of an office of version 2, each table in its order. No name has the character between two
-// values.
-const rowsQuery = `.bail on
-.mode tabs
-SELECT 'meta_row', * FROM meta_row ORDER BY 1, 2, 3;
-SELECT 'name_row', * FROM name_row ORDER BY 1, 2, 3;
-SELECT 'pair_row', * FROM pair_row ORDER BY 1, 2, 3, 4;
-SELECT 'grant_row', * FROM grant_row ORDER BY 1, 2, 3, 4;
-SELECT 'set_row', * FROM set_row ORDER BY 1, 2, 3, 4;
-SELECT 'locked_row', * FROM locked_row ORDER BY 1, 2;
-`
 
 // Run runs a command of the program on the file of an office: init or check.
 func Run(ctx context.Context, program, command, file string) error {
@@ -66,22 +44,6 @@ func Run(ctx context.Context, program, command, file string) error {
 		return fmt.Errorf("%s %s: %w: %s", command, file, err, bytes.TrimSpace(said))
 	}
 	return nil
-}
-
-// Digest returns a digest of the rows of an office, which no program has open. Offices with the same rows have the same
-// digest, however their files came about.
-func Digest(ctx context.Context, file string) (string, error) {
-	hash, said := sha256.New(), bytes.Buffer{}
-	source := url.URL{Scheme: "file", Opaque: (&url.URL{Path: file}).EscapedPath(), RawQuery: "immutable=1"}
-	command := exec.CommandContext(ctx, digester, "-batch", "-readonly", source.String())
-	command.Stdin, command.Stdout, command.Stderr = strings.NewReader(rowsQuery), hash, &said
-	if err := command.Run(); err != nil {
-		return "", fmt.Errorf("digest by sqlite3: %w: %s", err, bytes.TrimSpace(said.Bytes()))
-	}
-	if said.Len() > 0 {
-		return "", fmt.Errorf("digest by sqlite3: %s", bytes.TrimSpace(said.Bytes()))
-	}
-	return hex.EncodeToString(hash.Sum(nil)), nil
 }
 
 // A Snapshot describes a state: the revision of the last entry in it, how many commands are in it, and a digest of its
@@ -102,7 +64,6 @@ type Snapshot struct {
 // ErrOther reports that an office isn't what it has to be.
 var ErrOther = errors.New("it is another office")
 
-// other reports that a snapshot has another digest.
 func other(s Snapshot, digest string) error {
 	return fmt.Errorf("%w: snapshot %d has the digest %s and not %s", ErrOther, s.Revision, digest, s.Digest)
 }
@@ -121,31 +82,21 @@ func (s Snapshot) IsSame(other Snapshot) bool {
 type Store struct {
 	dir     *os.File
 	program string
-	// making begins the names of folders in memory in which offices are made.
-	making string
+	// scratch has the folders in which offices are made.
+	scratch Scratch
 }
 
 // FolderIn returns the folder of the snapshots of a node whose folder this is.
 func FolderIn(data string) string { return filepath.Join(data, "snapshots") }
 
-// Open returns the store of a node, which it makes in the folder of the node. It deletes what a crash left unfinished. Without the
-// program that makes digests it fails, since the node could take no snapshot.
+// Open returns the store of a node, which it makes in the folder of the node. It deletes what a crash left unfinished.
 func Open(data, program string) (*Store, error) {
-	if _, err := exec.LookPath(digester); err != nil {
-		return nil, fmt.Errorf("snapshots need the program %s, which Debian's package of that name has: %w", digester, err)
-	}
 	folder := FolderIn(data)
 	if err := os.MkdirAll(folder, 0o700); err != nil {
 		return nil, fmt.Errorf("snapshots: %w", err)
 	}
-	absolute, err := filepath.Abs(folder)
-	if err != nil {
-		return nil, fmt.Errorf("snapshots: %w", err)
-	}
-	making := fmt.Sprintf("rbac-node-%d-%x-", os.Getuid(), sha256.Sum256([]byte(absolute)))
-	left, _ := filepath.Glob(filepath.Join(folder, unfinishedPrefix+"*"))
-	inMemory, _ := filepath.Glob(filepath.Join(memory, making+"*"))
-	for _, file := range append(left, inMemory...) {
+	left, _ := filepath.Glob(filepath.Join(disk.EscapeGlob(folder), unfinishedPrefix+"*")) // The pattern isn't wrong.
+	for _, file := range left {
 		if err := os.RemoveAll(file); err != nil {
 			return nil, fmt.Errorf("snapshots: %w", err)
 		}
@@ -154,7 +105,9 @@ func Open(data, program string) (*Store, error) {
 	if err != nil {
 		return nil, fmt.Errorf("snapshots: %w", err)
 	}
-	return &Store{dir, program, making}, nil
+	s := &Store{dir, program, ScratchOf("node", folder, folder)}
+	s.scratch.RemoveLeft()
+	return s, nil
 }
 
 // nameOf and parse write and read the name of a snapshot.
@@ -285,27 +238,16 @@ func (s *Store) Leave(ctx context.Context, lines []byte, file string, hangTimeou
 
 // build makes an office of lines in a folder of its own, for as long as somebody uses it.
 func (s *Store) build(ctx context.Context, lines []byte, hangTimeout time.Duration, use func(made string) error) error {
-	folder, err := s.scratch(len(lines))
+	folder, end, err := s.scratch.New(int64(len(lines)))
 	if err != nil {
 		return fmt.Errorf("office: %w", err)
 	}
-	defer os.RemoveAll(folder)
+	defer end()
 	made := filepath.Join(folder, "office")
 	if err := Make(ctx, s.program, made, lines, hangTimeout); err != nil {
 		return fmt.Errorf("office: %w", err)
 	}
 	return use(made)
-}
-
-// scratch returns an empty folder, in memory if there is room for an office of lines that have this many bytes.
-func (s *Store) scratch(size int) (string, error) {
-	var about syscall.Statfs_t
-	if err := syscall.Statfs(memory, &about); err == nil && int64(about.Bavail)*about.Bsize > int64(spareMemory+copies*size) {
-		if folder, err := os.MkdirTemp(memory, s.making); err == nil {
-			return folder, nil
-		}
-	}
-	return os.MkdirTemp(s.dir.Name(), unfinishedPrefix)
 }
 
 // SetAside gives a snapshot a name by which nobody takes it for one.
@@ -345,10 +287,10 @@ func (s *Store) Finish(ctx context.Context, file string, snapshot Snapshot) (Sna
 		return snapshot, other(snapshot, digest)
 	}
 	snapshot.Digest = digest
-	if err := os.Rename(file, s.Path(snapshot)); err != nil {
-		return snapshot, fmt.Errorf("snapshot: %w", err)
+	if err = os.Rename(file, s.Path(snapshot)); err == nil {
+		err = s.dir.Sync()
 	}
-	if err := s.dir.Sync(); err != nil {
+	if err != nil {
 		return snapshot, fmt.Errorf("snapshot: %w", err)
 	}
 	return snapshot, s.deleteOld()
@@ -371,8 +313,7 @@ func (s *Store) deleteOld() error {
 // Restore copies a snapshot to a file, unless the snapshot has changed.
 func (s *Store) Restore(ctx context.Context, snapshot Snapshot, file string) error {
 	digest, err := Digest(ctx, s.Path(snapshot))
-	var failed *exec.ExitError
-	if errors.As(err, &failed) && ctx.Err() == nil {
+	if err != nil && ctx.Err() == nil {
 		return fmt.Errorf("%w: snapshot %d: %v", ErrOther, snapshot.Revision, err)
 	}
 	if err != nil {

@@ -37,8 +37,8 @@ type place struct {
 }
 
 // Access prints who could do an operation on an object as the office was then, or what a user could do. The whole record is verified,
-// and what verify refuses is refused. The proved program does the commands again up to that place over the copy of the office with
-// which their part begins, and answers the questions over what that gives.
+// and what verify refuses is refused. librbac does the commands again up to that place over the copy of the office with which their part
+// begins, and answers the questions over what that gives.
 func (t *Tool) Access(ctx context.Context, query AccessQuery) error {
 	switch {
 	case query.User == "" && (query.Operation == "" || query.Object == ""):

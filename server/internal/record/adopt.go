@@ -12,7 +12,7 @@ import (
 
 	"rbac/clients/go/rbacoffice"
 
-	"rbac-node/internal/state"
+	"rbac-node/internal/office"
 )
 
 const (
@@ -177,7 +177,7 @@ func (r *Record) changed(ctx context.Context, copied string) (*changes, error) {
 	if err != nil {
 		return nil, err
 	}
-	after, err := readRows(ctx, copied, ofCopy, true)
+	after, err := readRows(ctx, copied, office.OfCopy, true)
 	if err != nil {
 		return nil, err
 	}
@@ -192,7 +192,7 @@ func (c *changes) compare(before, after []rbacoffice.Row) {
 		switch {
 		case len(before) > 0 && len(after) > 0 && before[0] == after[0]:
 			before, after = before[1:], after[1:]
-		case len(after) == 0 || len(before) > 0 && state.IsRowBefore(&before[0], &after[0]):
+		case len(after) == 0 || len(before) > 0 && office.IsRowBefore(&before[0], &after[0]):
 			c.Removed++
 			c.add("-", &before[0])
 			before = before[1:]
@@ -207,7 +207,7 @@ func (c *changes) compare(before, after []rbacoffice.Row) {
 // add adds a row as the file of an office has it, if there are few.
 func (c *changes) add(sign string, row *rbacoffice.Row) {
 	if len(c.Rows) < mostChanged {
-		table, values := state.RowInFile(row)
+		table, values := office.RowInFile(row)
 		c.Rows = append(c.Rows, append([]any{sign, table}, values...))
 	}
 }

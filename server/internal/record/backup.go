@@ -39,27 +39,25 @@ func (t *Tool) Backup(ctx context.Context, folder string) error {
 		return fmt.Errorf("backup: %w", err)
 	}
 	defer free()
-	making := filepath.Join(folder, makingBackup)
-	if err := os.RemoveAll(making); err != nil {
-		return fmt.Errorf("backup: %w", err)
-	}
-	if err := os.Mkdir(making, 0o700); err != nil {
-		return fmt.Errorf("backup: %w", err)
-	}
+	making, made := filepath.Join(folder, makingBackup), filepath.Join(folder, time.Now().UTC().Format("20060102-150405.000000"))
 	defer os.RemoveAll(making) // It has another name if all went well.
-	made := filepath.Join(folder, time.Now().UTC().Format("20060102-150405.000000"))
-	if t.Data != "" {
+	if err = os.RemoveAll(making); err == nil {
+		err = os.Mkdir(making, 0o700)
+	}
+	switch {
+	case err != nil:
+	case t.Data != "":
 		err = t.copyNode(ctx, files, making)
-	} else {
+	default:
 		err = t.copyPair(ctx, files, filepath.Join(making, "office"))
 	}
+	if err == nil {
+		err = os.Rename(making, made)
+	}
+	if err == nil {
+		err = disk.Sync(folder)
+	}
 	if err != nil {
-		return fmt.Errorf("backup: %w", err)
-	}
-	if err := os.Rename(making, made); err != nil {
-		return fmt.Errorf("backup: %w", err)
-	}
-	if err := disk.Sync(folder); err != nil {
 		return fmt.Errorf("backup: %w", err)
 	}
 	fmt.Fprintln(t.Out, made)
@@ -69,7 +67,7 @@ func (t *Tool) Backup(ctx context.Context, folder string) error {
 // linkOrCopy copies the file of an earlier part, which never changes. If a backup in the folder has the same, it becomes another name
 // of that.
 func linkOrCopy(path, to, folder string) error {
-	earlier, err := filepath.Glob(filepath.Join(escapeGlob(folder), "*", filepath.Base(filepath.Dir(to)), filepath.Base(path)))
+	earlier, err := filepath.Glob(filepath.Join(disk.EscapeGlob(folder), "*", filepath.Base(filepath.Dir(to)), filepath.Base(path)))
 	if err != nil {
 		return err
 	}
@@ -82,7 +80,6 @@ func linkOrCopy(path, to, folder string) error {
 	return disk.Copy(path, to)
 }
 
-// isSame reports whether two files have the same bytes.
 func isSame(one, other string) bool {
 	first, err := digestOfFile(one)
 	if err != nil {
@@ -92,7 +89,6 @@ func isSame(one, other string) bool {
 	return err == nil && first == second
 }
 
-// digestOfFile returns the SHA-256 of a file.
 func digestOfFile(path string) (sum string, err error) {
 	file, err := os.Open(path)
 	if err != nil {
@@ -159,7 +155,7 @@ func (k *keptPair) Close() {
 
 // begin copies the office, and opens the record as it is now.
 func (t *Tool) begin(ctx context.Context, path, to string) (*keptPair, error) {
-	if err := copyOffice(t.Office, to); err != nil {
+	if err := office.Copy(t.Office, to); err != nil {
 		return nil, err
 	}
 	opened, err := openView(ctx, path)
@@ -311,7 +307,6 @@ func isPaused(pid int) bool {
 	return len(tasks) > 0
 }
 
-// copyTable copies all rows of a table.
 func copyTable(ctx context.Context, from querier, to *sql.Tx, table string) error {
 	rows, err := from.QueryContext(ctx, "SELECT * FROM "+table)
 	if err != nil {

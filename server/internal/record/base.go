@@ -59,11 +59,11 @@ func mapped(ctx context.Context, program, path string) (rows string, err error) 
 	if err := disk.Close(db, mapSessions(ctx, db)); err != nil {
 		return "", err
 	}
-	o, err := readRows(ctx, path, ofCopy, true)
+	o, err := readRows(ctx, path, office.OfCopy, true)
 	if err != nil {
 		return "", err
 	}
-	return o.sums().all, office.Run(ctx, program, "check", path)
+	return o.sums().Digest, office.Run(ctx, program, "check", path)
 }
 
 // addBase makes a mapped copy of the office after the entry n a base, and deletes the oldest ones.
@@ -88,3 +88,31 @@ func addBase(dir, copied string, b base) error {
 	}
 	return err
 }
+
+const walSuffix = "-wal"
+
+func scratchOf(file, dir string) office.Scratch { return office.ScratchOf("record", file, dir) }
+
+// newScratch returns a new empty folder for copies of an office, and what ends its use.
+func newScratch(file, dir string) (path string, end func(), err error) {
+	size := int64(0)
+	for _, one := range []string{file, file + walSuffix} {
+		if about, err := os.Stat(one); err == nil {
+			size += about.Size()
+		}
+	}
+	return scratchOf(file, dir).New(size)
+}
+
+// A copyError is an error over a copy of an office. It names the office and not the copy, whose path is another one each time: the log
+// has one line for all errors of the same text.
+type copyError struct {
+	err             error
+	scratch, office string
+}
+
+func (e *copyError) Error() string {
+	return strings.NewReplacer(filepath.Join(e.scratch, "office"), e.office, e.scratch, "a copy").Replace(e.err.Error())
+}
+
+func (e *copyError) Unwrap() error { return e.err }

@@ -10,6 +10,7 @@ import (
 	"time"
 
 	"rbac-node/internal/disk"
+	"rbac-node/internal/pause"
 )
 
 const (
@@ -148,10 +149,8 @@ func verifyFile(ctx context.Context, path string, before entry, to int64) (last 
 		if last, err = followChain(ctx, path, last, end); err != nil {
 			return last, err
 		}
-		select {
-		case <-time.After(restVerifying):
-		case <-ctx.Done():
-			return last, ctx.Err()
+		if err := pause.For(ctx, restVerifying); err != nil {
+			return last, err
 		}
 	}
 	if _, named, is := namesOf(path); is && last.n != named {

@@ -6,6 +6,7 @@ import (
 
 	"rbac-node/internal/api"
 	"rbac-node/internal/feed"
+	"rbac-node/internal/office"
 	"rbac-node/internal/state"
 )
 
@@ -18,7 +19,7 @@ const (
 // recordedText returns what is recorded in place of the text that names a session. The office refuses a text that is no name
 // whatever else it has, so an empty one is refused in the same way.
 func recordedText(text string) string {
-	if len(text) == 0 || len(text) > longestName || strings.IndexFunc(text, state.IsControl) >= 0 {
+	if len(text) == 0 || len(text) > longestName || strings.IndexFunc(text, office.IsControl) >= 0 {
 		return ""
 	}
 	return state.DigestOf(text)

@@ -14,6 +14,7 @@ import (
 	"rbac-node/internal/disk"
 	"rbac-node/internal/logs"
 	"rbac-node/internal/office"
+	"rbac-node/internal/pause"
 )
 
 // patience is how long a node waits for those who read its record before it divides it at a later snapshot.
@@ -47,13 +48,10 @@ func lockDir(ctx context.Context, dir string, how int) (release func(), err erro
 	if err != nil {
 		return nil, err
 	}
-	err = syscall.Flock(int(folder.Fd()), how|syscall.LOCK_NB)
-	for errors.Is(err, syscall.EWOULDBLOCK) {
-		if err = wait(ctx, glance); err == nil {
-			err = syscall.Flock(int(folder.Fd()), how|syscall.LOCK_NB)
+	if err := disk.Lock(ctx, folder, how); err != nil {
+		if ctx.Err() != nil {
+			err = ctx.Err()
 		}
-	}
-	if err != nil {
 		_ = folder.Close()
 		return nil, fmt.Errorf("lock %s: %w", dir, err)
 	}
@@ -185,7 +183,7 @@ func (f *Follower) insist(ctx context.Context, do func() error) error {
 			return err
 		}
 		f.note(err, entriesWait)
-		if wait(ctx, retryPause) != nil {
+		if pause.For(ctx, retryPause) != nil {
 			return err
 		}
 	}
@@ -199,16 +197,6 @@ func (f *Follower) reload() error {
 		_ = f.db.Close()
 	}
 	return err
-}
-
-// wait waits, unless the context ends before.
-func wait(ctx context.Context, pause time.Duration) error {
-	select {
-	case <-time.After(pause):
-		return nil
-	case <-ctx.Done():
-		return ctx.Err()
-	}
 }
 
 // A next file is that in which a record is to go on after a head. It begins with a mapped copy of the office as it was then, and has the

@@ -67,12 +67,10 @@ type entry struct {
 // addEntry adds an entry with an answer.
 const addEntry = "INSERT INTO entry VALUES (?, ?, ?, ?, ?, ?, ?, ?)"
 
-// values returns the values of the columns.
 func (e *entry) values() []any {
 	return []any{e.n, e.at, e.caller, e.reason, e.request, e.answer, e.found, e.ch}
 }
 
-// head returns the number and the link.
 func (e *entry) head() Head { return Head{e.n, e.ch} }
 
 // size returns about how many bytes the entry takes.
@@ -149,7 +147,6 @@ func openFile(path, options string) (*sql.DB, error) {
 // A scanner is a row of a table.
 type scanner interface{ Scan(places ...any) error }
 
-// entryOf reads an entry from a row of the columns.
 func entryOf(row scanner) (entry, error) {
 	var e entry
 	var answer, chain sql.NullString
@@ -166,6 +163,21 @@ func entryOf(row scanner) (entry, error) {
 type querier interface {
 	QueryContext(ctx context.Context, query string, values ...any) (*sql.Rows, error)
 	QueryRow(query string, values ...any) *sql.Row
+}
+
+// eachRow does something with each row of a query.
+func eachRow(ctx context.Context, db querier, query string, values []any, do func(row scanner) error) error {
+	rows, err := db.QueryContext(ctx, query, values...)
+	if err != nil {
+		return err
+	}
+	defer rows.Close()
+	for rows.Next() {
+		if err := do(rows); err != nil {
+			return err
+		}
+	}
+	return rows.Err()
 }
 
 // lastOf returns the last entry that has an answer, and the last entry. If there is none, it is what the last part says of the one

@@ -10,6 +10,7 @@ import (
 	"time"
 
 	"rbac-node/internal/disk"
+	"rbac-node/internal/pause"
 )
 
 // An Export sends entries to a receiver of syslog.
@@ -75,14 +76,10 @@ func (t *Tool) Export(ctx context.Context, options Export) error {
 		if err != nil && !isLost || !options.IsFollowing {
 			return err
 		}
-		select {
-		case <-ctx.Done():
-		case <-time.After(exportPause):
-		}
+		_ = pause.For(ctx, exportPause) // It looks once more at the end.
 	}
 }
 
-// readPlace reads up to where was sent.
 func (x *exporter) readPlace() error {
 	text, err := os.ReadFile(x.Place)
 	if errors.Is(err, os.ErrNotExist) {
@@ -98,7 +95,6 @@ func (x *exporter) readPlace() error {
 	return nil
 }
 
-// writePlace writes up to where was sent.
 func (x *exporter) writePlace() error {
 	if x.sent == x.kept {
 		return nil
@@ -110,7 +106,6 @@ func (x *exporter) writePlace() error {
 	return nil
 }
 
-// sendNew sends the entries behind the place.
 func (x *exporter) sendNew(ctx context.Context) error {
 	return x.eachView(ctx, func(v *view) error {
 		if v.answered.n < x.sent.N {

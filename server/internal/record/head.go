@@ -132,6 +132,8 @@ func (r *Record) logHead() {
 	r.mutex.Unlock()
 	if head != last {
 		r.Log.Info("the head of the record", "entry", head.N, "chain", head.Chain)
+		r.headGauge.Reset()
+		r.headGauge.WithLabelValues(head.Chain).Set(float64(head.N))
 	}
 }
 
@@ -140,15 +142,7 @@ func (r *Record) addMetrics() {
 	if r.Metrics == nil {
 		return
 	}
-	const help = "The head of the record that was last logged: the number of its entry, and the link as a label."
-	metrics.Gauges(r.Metrics, "rbac_node_record_head", help, "chain", func() map[string]float64 {
-		r.mutex.Lock()
-		defer r.mutex.Unlock()
-		if r.announced.Chain == "" {
-			return nil
-		}
-		return map[string]float64{r.announced.Chain: float64(r.announced.N)}
-	})
+	r.Metrics.MustRegister(r.headGauge)
 	metrics.Flag(r.Metrics, "rbac_node_record_failing", "1 if the record can't be written: one machine refuses commands then.", func() bool {
 		return r.Why() != ""
 	})

@@ -8,7 +8,7 @@ import (
 	"testing"
 	"time"
 
-	"rbac-node/internal/single"
+	"rbac-node/internal/office"
 )
 
 // heldOffice names the variable with the office that this process holds when a test has started it.
@@ -37,7 +37,7 @@ func TestKilledHold(t *testing.T) {
 	if err := os.WriteFile(tool.Office, nil, 0o600); err != nil {
 		t.Fatal(err)
 	}
-	lock, err := single.Lock(context.Background(), tool.Office+".lock")
+	lock, err := office.Lock(context.Background(), tool.Office+".lock")
 	if err != nil {
 		t.Fatal(err)
 	}

@@ -53,7 +53,6 @@ type printer struct {
 	csv     *csv.Writer
 }
 
-// newPrinter begins to print.
 func newPrinter(to io.Writer, format Format, columns ...string) (*printer, error) {
 	t := &printer{format: format, columns: columns, out: bufio.NewWriter(to)}
 	if format == CSV {
@@ -76,7 +75,6 @@ func (t *printer) addNote(note string) (has bool, err error) {
 	return true, err
 }
 
-// add adds a line.
 func (t *printer) add(cells ...cell) (err error) {
 	switch t.format {
 	case CSV:
@@ -122,10 +120,8 @@ func min(a, b int) int {
 	return b
 }
 
-// quoted returns a text as JSON.
 func quoted(text string) string { return string(api.AppendQuoted(nil, text)) }
 
-// end writes what is left.
 func (t *printer) end() error {
 	if t.csv != nil {
 		t.csv.Flush()

@@ -46,7 +46,7 @@ func (r *Record) reconcile(ctx context.Context, scratch string) error {
 		return err
 	}
 	if bases, err := basesIn(r.dir); err == nil && len(bases) > 0 && bases[0].n == last.n && last.n == answered.n {
-		if bases[0].rows != want.all {
+		if bases[0].rows != want.Digest {
 			return errDiffers
 		}
 		return nil
@@ -111,24 +111,20 @@ func (r *Record) settle(open []entry, done int) error {
 
 // sumsOf describes the rows of an office that nobody writes meanwhile. Only one with a log is copied for that, and the copy, which has
 // the names of sessions, is there only as long as it is read. If the rows can't be read, the program says why it refuses a copy.
-func sumsOf(ctx context.Context, program, file, copied string) (s sums, err error) {
-	defer func() {
-		for _, left := range []string{copied, copied + walSuffix, copied + "-shm"} {
-			_ = os.Remove(left) // The folder is removed too.
-		}
-	}()
-	path, options := file, ofUnchanged
+func sumsOf(ctx context.Context, program, file, copied string) (s office.Sums, err error) {
+	defer office.RemoveCopy(copied) // The folder is removed too.
+	path, options := file, office.OfUnchanged
 	if log, logErr := os.Stat(file + walSuffix); logErr == nil && log.Size() > 0 {
-		if err := copyOffice(file, copied); err != nil {
+		if err := office.Copy(file, copied); err != nil {
 			return s, err
 		}
-		path, options = copied, ofCopy
+		path, options = copied, office.OfCopy
 	}
 	o, err := readRows(ctx, path, options, false)
 	if err == nil {
 		return o.sums(), nil
 	}
-	if errors.Is(err, errTwoNames) || copyOffice(file, copied) != nil {
+	if errors.Is(err, errTwoNames) || office.Copy(file, copied) != nil {
 		return s, err
 	}
 	if refused := office.Run(ctx, program, "check", copied); refused != nil {
@@ -154,7 +150,7 @@ func (r *Record) rerunFrom(ctx context.Context, scratch string, newest int64) (n
 		if b.n < p.first || b.n > newest {
 			continue
 		}
-		if o, err := readRows(ctx, filepath.Join(r.dir, b.name()), ofUnchanged, true); err == nil && o.sums().all == b.rows {
+		if o, err := readRows(ctx, filepath.Join(r.dir, b.name()), office.OfUnchanged, true); err == nil && o.sums().Digest == b.rows {
 			again, err := startRerun(o)
 			return b.n, again, err
 		}
@@ -173,8 +169,8 @@ func (p *part) rerun(ctx context.Context, program string, db querier, scratch st
 	if err := os.WriteFile(file, text, 0o600); err != nil {
 		return nil, err
 	}
-	o, err := readRows(ctx, file, ofUnchanged, true)
-	if err != nil || o.sums().all != p.rows || office.Run(ctx, program, "check", file) != nil {
+	o, err := readRows(ctx, file, office.OfUnchanged, true)
+	if err != nil || o.sums().Digest != p.rows || office.Run(ctx, program, "check", file) != nil {
 		return nil, errNoStart
 	}
 	return startRerun(o)

@@ -14,6 +14,7 @@ import (
 	"rbac-node/internal/api"
 	"rbac-node/internal/feed"
 	"rbac-node/internal/logs"
+	"rbac-node/internal/office"
 	"rbac-node/internal/programtest"
 	"rbac-node/internal/state"
 )
@@ -237,7 +238,7 @@ func TestDamagedBase(t *testing.T) {
 		t.Fatal(err)
 	}
 	path := filepath.Join(b.dir, base{1, b.newest()}.name())
-	if err := copyOffice(b.Office, path); err != nil {
+	if err := office.Copy(b.Office, path); err != nil {
 		t.Fatal(err)
 	}
 	if err := b.Before(context.Background()); err != nil {
@@ -294,11 +295,11 @@ func TestSessions(t *testing.T) {
 	if err != nil {
 		t.Fatal(err)
 	}
-	if err := copyOffice(b.Office, copied); err != nil {
+	if err := office.Copy(b.Office, copied); err != nil {
 		t.Fatal(err)
 	}
-	if given, err := mapped(context.Background(), b.Program, copied); err != nil || given != plain.all {
-		t.Errorf("%v, %v and not %v", err, given, plain.all)
+	if given, err := mapped(context.Background(), b.Program, copied); err != nil || given != plain.Digest {
+		t.Errorf("%v, %v and not %v", err, given, plain.Digest)
 	}
 	if text, err := os.ReadFile(copied); err != nil || bytes.Contains(text, []byte("secret")) {
 		t.Errorf("%v, or a name is left", err)

@@ -21,6 +21,7 @@ import (
 
 	"rbac-node/internal/feed"
 	"rbac-node/internal/logs"
+	"rbac-node/internal/office"
 )
 
 const (
@@ -71,6 +72,7 @@ type Record struct {
 	// head is the last entry with an answer. durable is the head that was last synced, and announced the one that was last logged.
 	head               entry
 	durable, announced Head
+	headGauge          *prometheus.GaugeVec
 	// based is the entry of the newest base, or the one at which making one was last tried. isMaking says that one is being made.
 	based    int64
 	isMaking bool
@@ -137,12 +139,14 @@ func (r *Record) say(stage string) {
 
 // newRecord returns a record that isn't open yet, and removes what a crash has left of copies.
 func newRecord(options Options) *Record {
-	r := &Record{Options: options, dir: options.Dir}
+	r := &Record{Options: options, dir: options.Dir, headGauge: prometheus.NewGaugeVec(prometheus.GaugeOpts{
+		Name: "rbac_node_record_head", Help: "The head of the record that was last logged: the number of its entry, and the link as a label.",
+	}, []string{"chain"})}
 	if r.dir == "" {
 		r.dir = DirOf(options.Office)
 	}
 	r.life, r.stop = context.WithCancel(context.Background())
-	removeScratch(r.Office, r.dir)
+	scratchOf(r.Office, r.dir).RemoveLeft()
 	return r
 }
 
@@ -193,7 +197,7 @@ func (r *Record) beginWith(ctx context.Context, p part, at string, refuse func(h
 		return err
 	}
 	err := r.withCopy(ctx, r.Office, func(copied, rows string) error {
-		o, err := readRows(ctx, copied, ofCopy, true)
+		o, err := readRows(ctx, copied, office.OfCopy, true)
 		if err == nil {
 			err = refuse(len(o.rows) > 0)
 		}
@@ -390,7 +394,7 @@ func (r *Record) IsDue() bool {
 func (r *Record) Rest() {
 	scratch, end, err := newScratch(r.Office, r.dir)
 	if err == nil {
-		err = copyOffice(r.Office, filepath.Join(scratch, "office"))
+		err = office.Copy(r.Office, filepath.Join(scratch, "office"))
 	}
 	r.mutex.Lock()
 	r.based, r.isMaking = r.head.n, true
@@ -454,7 +458,6 @@ func (r *Record) Close(isInOrder bool) error {
 	return nil
 }
 
-// newestBase returns the entry of the newest base.
 func (r *Record) newestBase() int64 {
 	if bases, err := basesIn(r.dir); err == nil && len(bases) > 0 {
 		return bases[0].n

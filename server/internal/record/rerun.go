@@ -8,6 +8,7 @@ import (
 
 	"rbac-node/internal/api"
 	"rbac-node/internal/faults"
+	"rbac-node/internal/office"
 )
 
 // A stop is an entry after which something is done with the rerun that has led there.
@@ -26,53 +27,36 @@ type rerun struct {
 
 // startRerun starts a rerun over an office that has these rows.
 func startRerun(o *officeRows) (*rerun, error) {
-	office, err := rbacoffice.Load(o.rows, 0)
+	loaded, err := rbacoffice.Load(o.rows, 0)
 	if err != nil {
 		return nil, fmt.Errorf("librbac and the rows of the office: %w", err)
 	}
-	return &rerun{office: office, version: o.version}, nil
+	return &rerun{office: loaded, version: o.version}, nil
 }
 
-// close frees the office.
 func (r *rerun) close() { r.office.Close() }
 
-// rows returns all rows of the office.
 func (r *rerun) rows() (*officeRows, error) {
 	rows, err := r.office.Rows()
 	return &officeRows{r.version, rows}, err
 }
 
-// hasRow reports whether a table has a row at an index.
 func (r *rerun) hasRow(table rbacoffice.Table, index int) (bool, error) {
 	found, err := r.office.RowsFrom(nil, table, index, 1)
 	return len(found) > 0, err
 }
 
-// mostRows is how many rows are read at once for a description.
-const mostRows = 1024
-
-// sums describes the rows of the office.
-func (r *rerun) sums() (sums, error) {
-	s := newSumming(r.version)
-	var rows []rbacoffice.Row
-	for table := 0; table < tablesOfRows; table++ {
-		for index := 0; ; index += len(rows) {
-			var err error
-			if rows, err = r.office.RowsFrom(rows[:0], rbacoffice.Table(table), index, mostRows); err != nil {
-				return sums{}, err
-			}
-			if len(rows) == 0 {
-				break
-			}
-			s.add(rows)
-		}
+func (r *rerun) sums() (office.Sums, error) {
+	o, err := r.rows()
+	if err != nil {
+		return office.Sums{}, err
 	}
-	return s.end(), nil
+	return o.sums(), nil
 }
 
 // has reports whether the office has the rows that the sums describe. How many each table has is compared before the digests.
-func (r *rerun) has(want *sums) (bool, error) {
-	for table, count := range want.counts {
+func (r *rerun) has(want *office.Sums) (bool, error) {
+	for table, count := range want.Counts {
 		for _, index := range []int{count - 1, count} {
 			if index < 0 {
 				continue
@@ -119,7 +103,7 @@ func (r *rerun) each(ctx context.Context, all entries) error {
 
 // fit does entries without an answer, one after another, and returns how many of them give these rows: the most that do, so that
 // nothing is left out that anybody got an answer to. It returns -1 if the rows never come. The entries get their answers.
-func (r *rerun) fit(ctx context.Context, open []entry, want *sums) (int, error) {
+func (r *rerun) fit(ctx context.Context, open []entry, want *office.Sums) (int, error) {
 	most := -1
 	same, err := r.has(want)
 	for i := 0; err == nil; i++ {
@@ -143,7 +127,6 @@ func (r *rerun) fit(ctx context.Context, open []entry, want *sums) (int, error) 
 	return -1, err
 }
 
-// answer does a command.
 func (r *rerun) answer(request string) (string, error) {
 	if r.version == 1 {
 		return r.answerInVersion1(request)

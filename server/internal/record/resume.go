@@ -45,7 +45,6 @@ func (f *Follower) openAt(ctx context.Context, head Head) error {
 	return nil
 }
 
-// path returns the path of the file at hand.
 func (f *Follower) path() string { return filepath.Join(f.dir, fileName) }
 
 // checkEarlier reads the file up to an entry, and ends the node if somebody has written it.

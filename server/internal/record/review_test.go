@@ -51,7 +51,7 @@ func TestReviewIsFoundAgain(t *testing.T) {
 	if err != nil {
 		t.Fatal(err)
 	}
-	if len(page.Entries) != 4 || page.Entries[1].Request != text || page.Entries[1].Answer != accepted || !page.Entries[1].IsFound {
+	if len(page.Entries) != 4 || string(page.Entries[1].Request) != text || string(page.Entries[1].Answer) != accepted || !page.Entries[1].IsFound {
 		t.Errorf("%+v", page.Entries)
 	}
 	var out bytes.Buffer

@@ -125,24 +125,15 @@ func (t *Tool) Show(ctx context.Context, filter Filter, format Format) error {
 
 // eachEntry does something with each entry that a condition chooses.
 func eachEntry(ctx context.Context, db querier, condition string, values []any, do func(e *entry) error) error {
-	rows, err := db.QueryContext(ctx, "SELECT "+columns+" FROM entry "+condition, values...)
-	if err != nil {
-		return err
-	}
-	defer rows.Close()
-	for rows.Next() {
-		e, err := entryOf(rows)
+	return eachRow(ctx, db, "SELECT "+columns+" FROM entry "+condition, values, func(row scanner) error {
+		e, err := entryOf(row)
 		if err != nil {
 			return err
 		}
-		if err := do(&e); err != nil {
-			return err
-		}
-	}
-	return rows.Err()
+		return do(&e)
+	})
 }
 
-// cellsOf returns what is shown of an entry.
 func cellsOf(e *entry, format Format) []cell {
 	cells := []cell{{strconv.FormatInt(e.n, 10), true}, {text: e.at}, {text: e.caller}, {text: e.reason}, {e.request, true}, {e.answer, true}}
 	if format != Text {

@@ -14,6 +14,8 @@ import (
 	"strings"
 	"syscall"
 	"time"
+
+	"rbac-node/internal/recorded"
 )
 
 // mostAnswered is how many bytes an answer of a front about its record may have.
@@ -118,13 +120,6 @@ func lastSigned(file io.Reader) (last Head, end int64, err error) {
 	}
 }
 
-// answeredLinks are entries as a front answers them.
-type answeredLinks struct {
-	Entries [][]string
-	First   int64
-	Head    string
-}
-
 // follow computes the links from a head to the one that the record has now, which it returns. It keeps one answer at a time.
 func (s *Signer) follow(ctx context.Context, last Head) (Head, error) {
 	given, err := s.ask(ctx, last.N)
@@ -179,7 +174,7 @@ func advance(at Head, entries [][]string, most int64) (Head, error) {
 }
 
 // ask returns the next entries after one, and the head.
-func (s *Signer) ask(ctx context.Context, after int64) (links answeredLinks, err error) {
+func (s *Signer) ask(ctx context.Context, after int64) (links recorded.Links, err error) {
 	url := fmt.Sprintf("%s/record/links?after=%d", strings.TrimSuffix(s.URL, "/"), after)
 	request, err := http.NewRequestWithContext(ctx, http.MethodGet, url, nil)
 	if err != nil {
@@ -200,6 +195,6 @@ func (s *Signer) ask(ctx context.Context, after int64) (links answeredLinks, err
 	if reply.StatusCode != http.StatusOK {
 		return links, fmt.Errorf("%s: the front answers %s: %s", url, reply.Status, strings.TrimSpace(string(text[:min(len(text), 200)])))
 	}
-	err = json.Unmarshal(text, &struct{ Value *answeredLinks }{&links})
+	err = json.Unmarshal(text, &struct{ Value *recorded.Links }{&links})
 	return links, err
 }

@@ -69,7 +69,6 @@ func (s *syslogSender) close() {
 	}
 }
 
-// send sends an entry of an office.
 func (s *syslogSender) send(ctx context.Context, office string, e *entry) error {
 	connection, err := s.connect(ctx)
 	if err != nil {

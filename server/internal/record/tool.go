@@ -8,12 +8,12 @@ import (
 	"os"
 	"path/filepath"
 	"sort"
-	"strings"
 	"syscall"
 	"time"
 
+	"rbac-node/internal/disk"
 	"rbac-node/internal/logs"
-	"rbac-node/internal/single"
+	"rbac-node/internal/office"
 )
 
 // A Tool does what commands other than serve do with the record of an office, or with that of a node of several machines, whose
@@ -25,7 +25,6 @@ type Tool struct {
 	Log      *logs.Logger
 }
 
-// dir returns the folder of the record.
 func (t *Tool) dir() string {
 	switch {
 	case t.Data != "":
@@ -63,10 +62,10 @@ func (t *Tool) lockIfFree(ctx context.Context) (*os.File, error) {
 	path := t.Office + ".lock"
 	if t.Data != "" {
 		path = filepath.Join(t.Data, "lock")
-	} else if err := single.CheckRestored(t.Office); err != nil {
+	} else if err := office.CheckRestored(t.Office); err != nil {
 		return nil, err
 	}
-	lock, err := single.Lock(within, path)
+	lock, err := office.Lock(within, path)
 	if errors.Is(err, os.ErrPermission) || errors.Is(err, syscall.EROFS) {
 		return lockReadOnly(path)
 	}
@@ -158,7 +157,7 @@ func partsIn(dir string) (parts, left []string, err error) {
 	if err != nil {
 		return nil, nil, err
 	}
-	found, err := filepath.Glob(filepath.Join(escapeGlob(dir), partPrefix+"*.db"))
+	found, err := filepath.Glob(filepath.Join(disk.EscapeGlob(dir), partPrefix+"*.db"))
 	if err != nil {
 		return nil, nil, err
 	}
@@ -195,11 +194,6 @@ func removeLeftNames(dir string) error {
 		}
 	}
 	return nil
-}
-
-// escapeGlob returns a pattern that matches a path alone.
-func escapeGlob(path string) string {
-	return strings.NewReplacer(`\`, `\\`, `*`, `\*`, `?`, `\?`, `[`, `\[`).Replace(path)
 }
 
 // eachView does something with each file of the record, in the order of their entries.
@@ -241,7 +235,7 @@ func (r *Record) withCopy(ctx context.Context, file string, work func(copied, ro
 	}
 	defer end()
 	copied := filepath.Join(scratch, "office")
-	if err := copyOffice(file, copied); err != nil {
+	if err := office.Copy(file, copied); err != nil {
 		return err
 	}
 	rows, err := mapped(ctx, r.Program, copied)

@@ -54,19 +54,13 @@ func (v *view) read(ctx context.Context) error {
 	if err := judgeVersion(v.tx); err != nil {
 		return err
 	}
-	rows, err := v.tx.QueryContext(ctx, "SELECT first, why, before, rows FROM part ORDER BY first")
-	if err != nil {
-		return err
-	}
-	defer rows.Close()
-	for rows.Next() {
+	err := eachRow(ctx, v.tx, "SELECT first, why, before, rows FROM part ORDER BY first", nil, func(row scanner) error {
 		var p part
-		if err := rows.Scan(&p.first, &p.why, &p.before, &p.rows); err != nil {
-			return err
-		}
+		err := row.Scan(&p.first, &p.why, &p.before, &p.rows)
 		v.parts = append(v.parts, p)
-	}
-	if err := rows.Err(); err != nil {
+		return err
+	})
+	if err != nil {
 		return err
 	}
 	if len(v.parts) == 0 {

@@ -1,6 +1,7 @@
 package record
 
 import (
+	"errors"
 	"fmt"
 	"sort"
 
@@ -12,9 +13,6 @@ import (
 // A way is one in which a user had access: by a session, or by a role that a session of the user could have alone.
 type way struct{ user, object, operation, role, session string }
 
-// trySession is the name of sessions that are only tried. No digest is one of them.
-const trySession = "access"
-
 // A RefusedError is that of a question about the office as it was: what it names wasn't there.
 type RefusedError struct{ Function, Answer string }
 
@@ -25,37 +23,29 @@ func (e *RefusedError) Error() string {
 // A permission is an object and an operation.
 type permission [2]string
 
-// access returns who had access. librbac decides each way: over a copy it makes a session of the user with the role alone, and is asked
-// for access by that session. Each session that was there is asked for access too.
-func (r *rerun) access(query AccessQuery) ([]way, error) {
+// access returns who had access. librbac says of each role that has a permission whether a session of the user could have it alone, and
+// decides for each session that was there.
+func (r *rerun) access(query AccessQuery) (ways []way, err error) {
+	permissions := []permission{{query.Object, query.Operation}}
+	if query.Object == "" || query.Operation == "" {
+		if permissions, err = r.permissionsOf(query); err != nil {
+			return nil, err
+		}
+	}
 	o, err := r.rows()
 	if err != nil {
 		return nil, err
 	}
-	tried, err := startRerun(o)
-	if err != nil {
-		return nil, err
-	}
-	defer tried.close()
-	permissions := []permission{{query.Object, query.Operation}}
-	if query.Object == "" || query.Operation == "" {
-		if permissions, err = tried.permissionsOf(query); err != nil {
+	for _, p := range permissions {
+		if ways, err = r.addRoles(ways, query.User, p); err == nil {
+			ways, err = r.addSessions(ways, o.rows, query.User, p)
+		}
+		if err != nil {
 			return nil, err
 		}
 	}
-	ways, err := tried.candidates(query.User, permissions)
-	if err != nil {
-		return nil, err
-	}
-	found, err := tried.sessionsWith(o.rows, query.User, permissions)
-	for i := 0; err == nil && i < len(ways); i++ {
-		var has bool
-		if has, err = tried.try(ways[i]); has {
-			found = append(found, ways[i])
-		}
-	}
-	sort.Slice(found, func(i, k int) bool { return found[i].isBefore(found[k]) })
-	return found, err
+	sort.Slice(ways, func(i, k int) bool { return ways[i].isBefore(ways[k]) })
+	return ways, nil
 }
 
 func (w way) isBefore(other way) bool {
@@ -68,7 +58,6 @@ func (w way) isBefore(other way) bool {
 	return false
 }
 
-// value reads the value of an answer to a function, if there is a place for it.
 func (r *rerun) value(value any, function string, arguments ...string) error {
 	call, err := api.NewCall(function, arguments...)
 	if err != nil {
@@ -80,9 +69,6 @@ func (r *rerun) value(value any, function string, arguments ...string) error {
 	}
 	if !api.IsAccepted(answer) {
 		return &RefusedError{function, string(answer)}
-	}
-	if value == nil {
-		return nil
 	}
 	return api.ValueOf(answer, value)
 }
@@ -101,70 +87,48 @@ func (r *rerun) permissionsOf(query AccessQuery) (chosen []permission, err error
 	return chosen, nil
 }
 
-// candidates returns the ways in which users are authorized for permissions, of one user if it has a name. Whether a session can have
-// them is another question.
-func (r *rerun) candidates(user string, permissions []permission) (ways []way, err error) {
-	users := map[string][]string{} // by their role
-	for _, one := range permissions {
-		var roles []string
-		if err := r.value(&roles, "permissionRoles", "object", one[0], "operation", one[1]); err != nil {
+// addRoles adds the roles to which a permission is granted, each with the users whose session could have it alone, or with one user if it
+// has a name.
+func (r *rerun) addRoles(ways []way, user string, p permission) ([]way, error) {
+	var roles, users []string
+	if err := r.value(&roles, "permissionRoles", "object", p[0], "operation", p[1]); err != nil {
+		return nil, err
+	}
+	for _, role := range roles {
+		if err := r.value(&users, "authorizedUsers", "role", role); err != nil {
 			return nil, err
 		}
-		for _, role := range roles {
-			if _, isKnown := users[role]; !isKnown {
-				var authorized []string
-				if err := r.value(&authorized, "authorizedUsers", "role", role); err != nil {
-					return nil, err
-				}
-				users[role] = authorized
+		for _, name := range users {
+			if user != "" && name != user {
+				continue
 			}
-			for _, name := range users[role] {
-				if user == "" || name == user {
-					ways = append(ways, way{user: name, object: one[0], operation: one[1], role: role})
-				}
+			sets, err := r.office.CreationConflicts(name, []string{role})
+			var refused *rbacoffice.RefusedError // Such as of a user who is locked.
+			if err != nil && !errors.As(err, &refused) {
+				return nil, err
+			}
+			if err == nil && len(sets) == 0 {
+				ways = append(ways, way{user: name, object: p[0], operation: p[1], role: role})
 			}
 		}
 	}
 	return ways, nil
 }
 
-// sessionsWith returns the sessions among the rows that had access to permissions. One of them is ended then: there may be room for no
-// other.
-func (r *rerun) sessionsWith(rows []rbacoffice.Row, user string, permissions []permission) (found []way, err error) {
-	var last *rbacoffice.Row
+// addSessions adds the sessions among the rows that had access to a permission, or those of one user.
+func (r *rerun) addSessions(ways []way, rows []rbacoffice.Row, user string, p permission) ([]way, error) {
 	for i := range rows {
-		row := &rows[i]
-		if row.Table != rbacoffice.Sessions {
+		session, of := rows[i].Names[0], rows[i].Names[1]
+		if rows[i].Table != rbacoffice.Sessions || user != "" && of != user {
 			continue
 		}
-		if last = row; user != "" && row.Names[1] != user {
-			continue
+		has, err := r.office.Check(session, p[1], p[0])
+		if err != nil {
+			return nil, err
 		}
-		for _, p := range permissions {
-			has, err := r.office.Check(row.Names[0], p[1], p[0])
-			if err != nil {
-				return nil, err
-			}
-			if has {
-				found = append(found, way{user: row.Names[1], object: p[0], operation: p[1], session: row.Names[0]})
-			}
+		if has {
+			ways = append(ways, way{user: of, object: p[0], operation: p[1], session: session})
 		}
 	}
-	if last == nil {
-		return nil, nil
-	}
-	return found, r.value(nil, "deleteSession", "user", last.Names[1], session, last.Names[0])
-}
-
-// try reports whether librbac lets a session of the user that has the role alone have access.
-func (r *rerun) try(w way) (bool, error) {
-	create := `{"fn":"createSession","user":` + quoted(w.user) + `,"roles":[` + quoted(w.role) + `],"session":"` + trySession + `"}`
-	if answer, err := r.office.Answer([]byte(create)); err != nil || !api.IsAccepted(answer) {
-		return false, err // If it is refused, the session has no access.
-	}
-	has, err := r.office.Check(trySession, w.operation, w.object)
-	if err == nil {
-		err = r.value(nil, "deleteSession", "user", w.user, session, trySession)
-	}
-	return has, err
+	return ways, nil
 }

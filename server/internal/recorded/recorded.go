@@ -3,6 +3,7 @@ package recorded
 
 import (
 	"context"
+	"encoding/json"
 	"errors"
 	"strings"
 	"time"
@@ -52,12 +53,15 @@ type Query struct {
 
 // An Entry is a command of the record, or says how a part of the record begins, or that a review has ended.
 type Entry struct {
-	N                  int64
-	At, Caller, Reason string
-	// Request and Answer are JSON. Answer is empty if nothing is known yet.
-	Request, Answer string
+	// Answer is JSON. It is empty if nothing is known yet.
+	Answer json.RawMessage `json:"answer,omitempty"`
+	At     string          `json:"at"`
+	Caller string          `json:"caller"`
 	// IsFound says that a start of the front has found out the answer.
-	IsFound bool
+	IsFound bool            `json:"found,omitempty"`
+	N       int64           `json:"number"`
+	Reason  string          `json:"reason,omitempty"`
+	Request json.RawMessage `json:"request"`
 }
 
 // A Page has entries, the newest first.
@@ -73,10 +77,10 @@ type Page struct {
 // Links are entries, the oldest first, as the texts whose digest, after the link before them, is the link of the entry. They show
 // that one head continues another.
 type Links struct {
-	Entries [][]string
-	// Head is durable. First is the first entry of the file that they begin in: what comes before it may have been moved away.
-	Head  string
-	First int64
+	Entries [][]string `json:"entries"`
+	// First is the first entry of the file that they begin in: what comes before it may have been moved away. Head is durable.
+	First int64  `json:"first"`
+	Head  string `json:"head"`
 }
 
 // A Command is one of the log with its answer.

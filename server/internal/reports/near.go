@@ -15,7 +15,6 @@ type dutySet struct {
 	masks map[int]uint32
 }
 
-// mask returns which members a role gives.
 func (s *dutySet) mask(r *roles, role int) (mask uint32) {
 	mask, has := s.masks[role]
 	if has {

@@ -45,7 +45,6 @@ func newGiven(office *state.Frozen, filter Filter) *given {
 	return g
 }
 
-// count returns how many of the grants a role gives.
 func (g *given) count(role int) int64 {
 	count, has := g.counts[role]
 	if has {
@@ -168,7 +167,6 @@ func sessions(office *state.Frozen, filter Filter) *Report {
 	return report
 }
 
-// writeSession makes the lines of a session.
 func (g *given) writeSession(one holder, hasEmpty bool, add func(cells ...string) error) error {
 	if len(one.roles) == 0 && hasEmpty {
 		return add(one.name, one.user, "", "", "", "")

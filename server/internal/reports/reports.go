@@ -5,6 +5,7 @@ package reports
 import (
 	"fmt"
 	"sort"
+	"strconv"
 
 	"rbac-node/internal/state"
 )
@@ -17,16 +18,20 @@ type Filter struct {
 	HasLeft bool
 }
 
-// filters has the keys of the filters of each report.
-var filters = map[string][]string{
-	"permissions": {"user", "role", "object", "operation"}, "sessions": {"user", "role", "object", "operation"},
-	"near": {"user", "set", "left"}, "room": nil, "dump": nil,
+// kinds has what makes each report, and the keys of its filters.
+var kinds = map[string]struct {
+	make func(office *state.Frozen, filter Filter) *Report
+	keys []string
+}{
+	"permissions": {permissions, []string{"user", "role", "object", "operation"}},
+	"sessions":    {sessions, []string{"user", "role", "object", "operation"}},
+	"near":        {near, []string{"user", "set", "left"}}, "room": {room, nil}, "dump": {dump, nil},
 }
 
 // Filters returns the keys of the filters of a report, and whether there is such a report.
 func Filters(name string) (keys []string, has bool) {
-	keys, has = filters[name]
-	return keys, has
+	kind, has := kinds[name]
+	return kind.keys, has
 }
 
 // A Report is a list of lines.
@@ -43,17 +48,8 @@ type Report struct {
 
 // New returns a report of an office.
 func New(name string, office *state.Frozen, filter Filter) (*Report, error) {
-	switch name {
-	case "permissions":
-		return permissions(office, filter), nil
-	case "sessions":
-		return sessions(office, filter), nil
-	case "near":
-		return near(office, filter), nil
-	case "room":
-		return room(office), nil
-	case "dump":
-		return dump(office), nil
+	if kind, has := kinds[name]; has {
+		return kind.make(office, filter), nil
 	}
 	return nil, fmt.Errorf("no report is called %q", name)
 }
@@ -138,4 +134,29 @@ func (r *roles) sessions(only string) (found []holder) {
 		found = append(found, next)
 	}
 	return found
+}
+
+// room returns how many there are of each kind, and how many there may be.
+func room(office *state.Frozen, _ Filter) *Report {
+	report := &Report{
+		Columns: []string{"kind", "count", "limit", "left"}, Lines: int64(len(office.Rooms)),
+		Numbers: map[string]bool{"count": true, "limit": true, "left": true},
+	}
+	report.Write = func(add func(cells ...string) error) error {
+		for _, one := range office.Rooms {
+			err := add(one.Kind, strconv.Itoa(one.Count), strconv.Itoa(one.Limit), strconv.Itoa(one.Limit-one.Count))
+			if err != nil {
+				return err
+			}
+		}
+		return nil
+	}
+	return report
+}
+
+// dump returns the office as request lines, byte for byte as tools/dump.sql prints it.
+func dump(office *state.Frozen, _ Filter) *Report {
+	return &Report{Lines: office.Count(), Write: func(add func(cells ...string) error) error {
+		return office.Dump(func(line []byte) error { return add(string(line)) })
+	}}
 }

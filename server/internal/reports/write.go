@@ -68,7 +68,6 @@ func (report *Report) WriteLines(to io.Writer, most int64) error {
 	return w.Flush()
 }
 
-// first makes the first lines.
 func (report *Report) first(most int64, add func(cells ...string) error) error {
 	made := int64(0)
 	err := report.Write(func(cells ...string) error {

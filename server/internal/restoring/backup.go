@@ -77,7 +77,6 @@ func (b *backup) Close() {
 	}
 }
 
-// openRecord opens the files of the record, if there is one.
 func (b *backup) openRecord(top *os.File, uid int) error {
 	folder, err := openIn(top, recordName, syscall.O_DIRECTORY, uid)
 	if errors.Is(err, os.ErrNotExist) {
@@ -109,7 +108,6 @@ func (b *backup) openIfThere(folder *os.File, prefix, name string, uid int) erro
 	return err
 }
 
-// open opens a file of a folder.
 func (b *backup) open(folder *os.File, prefix, name string, uid int) error {
 	file, err := openIn(folder, name, 0, uid)
 	if err != nil {

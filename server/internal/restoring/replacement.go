@@ -11,7 +11,7 @@ import (
 	"unicode"
 
 	"rbac-node/internal/disk"
-	"rbac-node/internal/single"
+	"rbac-node/internal/office"
 )
 
 const recordSuffix = ".record"
@@ -28,11 +28,11 @@ type plan struct {
 }
 
 // folder returns the folder in which all is prepared.
-func (r replacement) folder() string { return r.office + single.RestoringSuffix }
+func (r replacement) folder() string { return r.office + office.RestoringSuffix }
 
 func (r replacement) in(name string) string { return filepath.Join(r.folder(), name) }
 
-func (r replacement) planPath() string { return single.PlanOf(r.office) }
+func (r replacement) planPath() string { return office.PlanOf(r.office) }
 
 // judge refuses an office that another program has open, and what can't be moved away.
 func (r replacement) judge() error {
@@ -212,7 +212,6 @@ func (p *plan) keep(path string, by func(from, to string) error) error {
 	return nil
 }
 
-// exists reports whether there is something at a path.
 func exists(path string) (bool, error) {
 	_, err := os.Lstat(path)
 	if errors.Is(err, os.ErrNotExist) {

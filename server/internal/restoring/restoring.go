@@ -16,7 +16,7 @@ import (
 	"syscall"
 	"time"
 
-	"rbac-node/internal/single"
+	"rbac-node/internal/office"
 )
 
 // Options say what is restored, and in whose place.
@@ -55,9 +55,8 @@ func Run(ctx context.Context, o Options) (err error) {
 	return owner.do(func() error { return o.run(ctx, b) })
 }
 
-// run restores an opened backup.
 func (o *Options) run(ctx context.Context, b *backup) error {
-	lock, err := single.Lock(ctx, o.Office+".lock")
+	lock, err := office.Lock(ctx, o.Office+".lock")
 	if errors.Is(err, syscall.EWOULDBLOCK) {
 		return fmt.Errorf("%s: a front has the office: stop it first", o.Office)
 	}
@@ -123,4 +122,52 @@ func (o *Options) finish(r replacement, p plan) error {
 		return fmt.Errorf("an earlier command was interrupted, and is finished now: to restore %s, run the command again", o.Backup)
 	}
 	return nil
+}
+
+// An owner is the user and the group of a folder.
+type owner struct{ uid, gid int }
+
+func ownerOf(folder string) (owner, error) {
+	about, err := os.Stat(folder)
+	if err != nil {
+		return owner{}, err
+	}
+	stat, is := about.Sys().(*syscall.Stat_t)
+	if !is || !about.IsDir() {
+		return owner{}, fmt.Errorf("%s is no folder", folder)
+	}
+	return owner{int(stat.Uid), int(stat.Gid)}, nil
+}
+
+// do does something as the owner, if root runs this program. So the files that are made belong to the owner, and whoever may write the
+// folder can't lead root to another place by a link. Programs that are started meanwhile can't become root again.
+func (o owner) do(work func() error) (err error) {
+	if os.Geteuid() != 0 || o.uid == 0 {
+		return work()
+	}
+	groups, err := syscall.Getgroups()
+	if err != nil {
+		return err
+	}
+	defer func() {
+		for _, back := range []func() error{
+			func() error { return syscall.Setresuid(0, 0, 0) },
+			func() error { return syscall.Setresgid(0, 0, 0) },
+			func() error { return syscall.Setgroups(groups) },
+		} {
+			if failed := back(); err == nil {
+				err = failed
+			}
+		}
+	}()
+	if err := syscall.Setgroups([]int{o.gid}); err != nil {
+		return err
+	}
+	if err := syscall.Setresgid(o.gid, o.gid, 0); err != nil {
+		return err
+	}
+	if err := syscall.Setresuid(o.uid, o.uid, 0); err != nil {
+		return err
+	}
+	return work()
 }

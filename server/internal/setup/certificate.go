@@ -34,7 +34,6 @@ func (o Options) certificate() ([]file, error) {
 	return append(files, file{o.path("crt"), signed}), err
 }
 
-// request returns a request for a certificate.
 func (o Options) request(key *ecdsa.PrivateKey) ([]byte, error) {
 	names, addresses := o.hosts()
 	wanted := &x509.CertificateRequest{Subject: pkix.Name{CommonName: o.Hosts[0]}, DNSNames: names, IPAddresses: addresses}

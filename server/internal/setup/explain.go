@@ -38,7 +38,6 @@ func (o Options) explain(out io.Writer, files []file, tokens map[string]string) 
 	return err
 }
 
-// start returns the command that starts the front.
 func (o Options) start() string {
 	if o.Folder == packaged {
 		return fmt.Sprintf("systemctl enable %[1]s && systemctl restart %[1]s", o.units())

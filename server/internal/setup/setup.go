@@ -97,10 +97,8 @@ func Run(o Options, out io.Writer) error {
 	return o.explain(out, files, tokens)
 }
 
-// path returns the path of the file with this ending.
 func (o Options) path(ending string) string { return filepath.Join(o.Folder, o.Office+"."+ending) }
 
-// options returns the options of the front.
 func (o Options) options() string { return strings.Join(o.optionWords(), " ") }
 
 func (o Options) optionWords() []string {
@@ -141,7 +139,6 @@ func (o Options) groupID() (int, error) {
 	return strconv.Atoi(found.Gid)
 }
 
-// makeAll makes all files, or none.
 func makeAll(files []file, group int) (err error) {
 	var made []string
 	defer func() {

@@ -2,11 +2,12 @@ package single
 
 import (
 	"context"
-	"fmt"
+	"errors"
 	"time"
 
 	"rbac/clients/go/rbacoffice"
 
+	"rbac-node/internal/office"
 	"rbac-node/internal/state"
 )
 
@@ -42,24 +43,35 @@ func (o *Office) compareOften(ctx context.Context) {
 func (o *Office) compare(ctx context.Context) error {
 	var own []rbacoffice.Row
 	copied := o.File + ".comparing"
-	defer state.RemoveCopy(copied)
+	defer office.RemoveCopy(copied)
 	err := o.inTurn(ctx, func(*turn) error {
 		return o.feed.Quietly(func() error {
 			if err := o.state.Look(func(v *state.View) { own = v.Rows() }); err != nil {
 				return err
 			}
-			return state.Copy(o.File, copied)
+			return office.Copy(o.File, copied)
 		})
 	})
 	if err != nil {
 		return err
 	}
-	difference, err := state.Difference(ctx, own, copied)
-	if err == nil && difference != "" {
-		o.beginAgain(fmt.Errorf("%s", difference))
+	rows, version, err := office.ReadRows(ctx, copied, office.OfCopy, false)
+	if err != nil {
+		return err
 	}
-	return err
+	rest := own[:0]
+	for _, row := range own {
+		if row.Table != rbacoffice.ClosurePairs { // They follow from the others.
+			rest = append(rest, row)
+		}
+	}
+	if office.SumsOf(version, rest) != office.SumsOf(version, rows) {
+		o.beginAgain(errOtherRows)
+	}
+	return nil
 }
+
+var errOtherRows = errors.New("the two have other rows")
 
 // beginAgain says that the office in this process isn't that of the file, and lets both begin with the file.
 func (o *Office) beginAgain(why error) {

@@ -96,7 +96,6 @@ func (o *Office) Do(ctx context.Context, b api.Batch) (api.Answers, error) {
 // Await returns at once: the state has whatever was answered.
 func (o *Office) Await(context.Context, api.Kind) (api.Point, error) { return api.Point{}, nil }
 
-// numbers returns the numbers of this moment.
 func (o *Office) numbers() state.Numbers { return o.state.Numbers() }
 
 // admit returns a unit of commands, and of questions between them.

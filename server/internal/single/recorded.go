@@ -6,8 +6,43 @@ import (
 
 	"rbac-node/internal/api"
 	"rbac-node/internal/feed"
+	"rbac-node/internal/record"
 	"rbac-node/internal/recorded"
 )
+
+// A recorder is a *record.Record, or none.
+type recorder interface {
+	feed.Keeper
+	recorded.Reader
+	Admit(u *feed.Unit) error
+	Before(ctx context.Context) error
+	Why() string
+	Close(isInOrder bool) error
+}
+
+// checkRecord refuses what the record can't be that of, before the office is made.
+func (o *Office) checkRecord() error {
+	if o.Recording == nil {
+		return nil
+	}
+	if err := record.CheckOffice(o.File); err != nil {
+		return err
+	}
+	return record.FreeReserve(o.File)
+}
+
+func (o *Office) openRecord(ctx context.Context) error {
+	if o.Recording == nil {
+		return nil
+	}
+	options := *o.Recording
+	options.Office, options.Program, options.Log, options.Metrics, options.Say = o.File, o.Program, o.Log, o.Metrics, o.Say
+	opened, err := record.Open(ctx, options)
+	if err == nil {
+		o.record = opened
+	}
+	return err
+}
 
 // A noRecord is in place of the record of an office that keeps none. Nobody reads it.
 type noRecord struct{ recorded.Reader }

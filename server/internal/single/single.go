@@ -9,7 +9,6 @@ import (
 	"fmt"
 	"os"
 	"path/filepath"
-	"syscall"
 	"time"
 
 	"github.com/prometheus/client_golang/prometheus"
@@ -21,15 +20,11 @@ import (
 	"rbac-node/internal/feed"
 	"rbac-node/internal/logs"
 	"rbac-node/internal/office"
-	"rbac-node/internal/recorded"
+	"rbac-node/internal/record"
 )
 
-const (
-	// MostReads is after how many reads of its input a replay is started anew at a quiet moment.
-	MostReads = 900_000_000
-	// overlap is how long an earlier program may take to end that has the office open.
-	overlap = 5 * time.Second
-)
+// MostReads is after how many reads of its input a replay is started anew at a quiet moment.
+const MostReads = 900_000_000
 
 // Options are what an office needs.
 type Options struct {
@@ -46,24 +41,8 @@ type Options struct {
 	// Locked is called when the office belongs to this front, and is there. Say is called with what the start does from then on.
 	Locked func() error
 	Say    func(stage string)
-	// CheckRecord refuses what the record can't be that of, before the office is made, and OpenRecord opens the record. Without them
-	// nothing is recorded.
-	CheckRecord func() error
-	OpenRecord  func(ctx context.Context) (Recorder, error)
-}
-
-// A Recorder keeps the commands of an office with their answers.
-type Recorder interface {
-	feed.Keeper
-	recorded.Reader
-	// Admit writes the lines of a unit as they are recorded, or refuses it.
-	Admit(u *feed.Unit) error
-	// Before finds out which of the commands without an answer were done. No replay runs meanwhile.
-	Before(ctx context.Context) error
-	// Why says why no command is recorded now, or is empty.
-	Why() string
-	// Close ends the record. No replay runs any more, and the last one has ended in order or not.
-	Close(isInOrder bool) error
+	// Recording says how the record is kept. It is nil if nothing is recorded.
+	Recording *record.Options
 }
 
 // An Office is the office of a file.
@@ -72,12 +51,12 @@ type Office struct {
 	order
 	feed   *feed.Feed
 	lock   *os.File
-	record Recorder
+	record recorder
 }
 
 // Open opens the office of a file, and makes it if there is no file.
 func Open(ctx context.Context, options Options) (*Office, error) {
-	lock, err := Lock(ctx, options.File+".lock")
+	lock, err := office.Lock(ctx, options.File+".lock")
 	if err != nil {
 		return nil, err
 	}
@@ -90,29 +69,13 @@ func Open(ctx context.Context, options Options) (*Office, error) {
 	return o, nil
 }
 
-// RestoringSuffix is added to the path of an office for the folder in which a restore prepares what it puts in place of the office.
-const RestoringSuffix = ".restoring"
-
-// PlanOf returns the path of a file that is there while a restore of an office isn't finished.
-func PlanOf(office string) string { return filepath.Join(office+RestoringSuffix, "plan") }
-
-// CheckRestored refuses an office that is locked and whose restore isn't finished: it may have another record than its own.
-func CheckRestored(office string) error {
-	if _, err := os.Lstat(PlanOf(office)); !errors.Is(err, os.ErrNotExist) {
-		return fmt.Errorf("a restore of %s was interrupted: run its command, rbac-node restore, again", office)
-	}
-	return nil
-}
-
 // open opens the record and the office. The office is locked.
 func (o *Office) open(ctx context.Context) error {
-	if err := CheckRestored(o.File); err != nil {
+	if err := office.CheckRestored(o.File); err != nil {
 		return err
 	}
-	if o.CheckRecord != nil {
-		if err := o.CheckRecord(); err != nil {
-			return err
-		}
+	if err := o.checkRecord(); err != nil {
+		return err
 	}
 	if err := makeIfMissing(ctx, o.Program, o.File); err != nil {
 		return err
@@ -124,13 +87,8 @@ func (o *Office) open(ctx context.Context) error {
 	if err := o.Locked(); err != nil {
 		return err
 	}
-	var err error
-	if o.OpenRecord != nil {
-		record, err := o.OpenRecord(ctx)
-		if err != nil {
-			return err
-		}
-		o.record = record
+	if err := o.openRecord(ctx); err != nil {
+		return err
 	}
 	options := feed.Options{
 		Name: "office", Before: o.before, Observer: o, Keeper: o.record,
@@ -143,6 +101,7 @@ func (o *Office) open(ctx context.Context) error {
 		},
 		Reads: o.Reads, Log: o.Log, Metrics: o.Metrics,
 	}
+	var err error
 	if o.feed, err = feed.Open(ctx, options); err != nil {
 		return fmt.Errorf("the office %s doesn't open: %w", o.File, err)
 	}
@@ -155,43 +114,18 @@ func (o *Office) open(ctx context.Context) error {
 	return nil
 }
 
-// Lock returns a lock that no other program has. An earlier replay may need a moment to end.
-func Lock(ctx context.Context, path string) (*os.File, error) {
-	file, err := os.OpenFile(path, os.O_RDWR|os.O_CREATE|syscall.O_NOFOLLOW, 0o600)
-	if err != nil {
-		return nil, fmt.Errorf("lock: %w", err)
-	}
-	within, cancel := context.WithTimeout(ctx, overlap)
-	defer cancel()
-	for {
-		err := syscall.Flock(int(file.Fd()), syscall.LOCK_EX|syscall.LOCK_NB)
-		if err == nil {
-			return file, nil
-		}
-		select {
-		case <-within.Done():
-			_ = file.Close()
-			return nil, fmt.Errorf("lock %s, which another front has: %w", path, err)
-		case <-time.After(10 * time.Millisecond):
-		}
-	}
-}
-
 // makeIfMissing makes an office unless there is something at the path. After a crash there is a whole office or nothing.
 func makeIfMissing(ctx context.Context, program, path string) error {
 	if _, err := os.Lstat(path); !errors.Is(err, os.ErrNotExist) {
 		return err
 	}
 	making := path + ".making"
-	for _, left := range []string{making, making + "-wal"} {
-		if err := os.Remove(left); err != nil && !errors.Is(err, os.ErrNotExist) {
-			return fmt.Errorf("make an office: %w", err)
-		}
+	office.RemoveCopy(making)
+	err := office.Run(ctx, program, "init", making)
+	if err == nil {
+		err = os.Rename(making, path)
 	}
-	if err := office.Run(ctx, program, "init", making); err != nil {
-		return fmt.Errorf("make an office: %w", err)
-	}
-	if err := os.Rename(making, path); err != nil {
+	if err != nil {
 		return fmt.Errorf("make an office: %w", err)
 	}
 	return disk.Sync(filepath.Dir(path))
@@ -212,13 +146,6 @@ func (o *Office) Run(ctx context.Context) error {
 		err = closing
 	}
 	return err
-}
-
-// Close ends an office that Run was never called for.
-func (o *Office) Close() error {
-	ended, end := context.WithCancel(context.Background())
-	end()
-	return o.Run(ended)
 }
 
 // IsAlive reports whether the goroutine that feeds the replay goes on, before the context ends.

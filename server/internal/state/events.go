@@ -19,11 +19,10 @@ type Event struct {
 	Line   []byte
 }
 
-// keep keeps an accepted command for those who watch.
 func (s *State) keep(call *api.Call) {
 	line := call.Line
 	if isAboutSession(call.Function) {
-		line, _ = call.LineWith("session", digest(call.Session)) // An accepted one is short.
+		line, _ = call.LineWith("session", DigestOf(call.Session)) // An accepted one is short.
 	}
 	if cap(line) > len(line)+mostSpare {
 		line = append(make([]byte, 0, len(line)), line...)
@@ -47,7 +46,6 @@ func (s *State) forgetOldest() {
 	}
 }
 
-// forget forgets the commands that were kept.
 func (s *State) forget() {
 	s.events, s.eventBytes, s.forgotten = nil, 0, s.numbers.All
 	s.wake()

@@ -18,24 +18,32 @@ type Query struct {
 	Limit int
 }
 
-// A list is a table of the office, and the names of its columns.
+// A list is a table of the office, or made otherwise, and the names of its columns. The first ones are the key of a row, by which rows are
+// in order.
 type list struct {
 	table   rbacoffice.Table
 	columns []string
+	key     int
 }
 
 var lists = map[string]list{
-	"users": {rbacoffice.Users, []string{"user"}}, "locked": {rbacoffice.Locks, []string{"user"}},
-	"roles": {rbacoffice.Roles, []string{"role"}}, "objects": {rbacoffice.Objects, []string{"object"}},
-	"operations":   {rbacoffice.Permissions, []string{"operation"}},
-	"permissions":  {rbacoffice.Permissions, []string{"object", "operation"}},
-	"grants":       {rbacoffice.Grants, []string{"object", "operation", "role"}},
-	"assignments":  {rbacoffice.Assignments, []string{"user", "role"}},
-	"inheritances": {rbacoffice.Inheritances, []string{"asc", "desc"}},
+	"users": {rbacoffice.Users, []string{"user"}, 1}, "locked": {rbacoffice.Locks, []string{"user"}, 1},
+	"roles": {rbacoffice.Roles, []string{"role"}, 1}, "objects": {rbacoffice.Objects, []string{"object"}, 1},
+	"operations":   {rbacoffice.Permissions, []string{"operation"}, 1},
+	"permissions":  {rbacoffice.Permissions, []string{"object", "operation"}, 2},
+	"grants":       {rbacoffice.Grants, []string{"object", "operation", "role"}, 3},
+	"assignments":  {rbacoffice.Assignments, []string{"user", "role"}, 2},
+	"inheritances": {rbacoffice.Inheritances, []string{"asc", "desc"}, 2},
+	"staticSets":   {columns: []string{"set"}, key: 1},
+	"dynamicSets":  {columns: []string{"set"}, key: 1},
+	"sessions":     {columns: []string{"session", "user"}, key: 1},
 }
 
 // Columns returns the columns of a list, or nothing if there is no such list.
 func Columns(name string) []string { return lists[name].columns }
+
+// KeyOf returns the names by which a row of a list is in order.
+func KeyOf(name string, row Row) []string { return row[:lists[name].key] }
 
 // Rows returns rows of a list of names, in the order of their bytes, whether there are more, and the numbers of this moment.
 func (s *State) Rows(name string, query Query) (found []Row, hasMore bool, numbers Numbers, err error) {
@@ -45,8 +53,8 @@ func (s *State) Rows(name string, query Query) (found []Row, hasMore bool, numbe
 			found, hasMore = query.Select(name, v.operations())
 			return
 		}
-		one, wanted := lists[name], selection{Query: query, columns: lists[name].columns}
-		v.scan(one.table, v.place(one.table, wanted.first()), wanted.take)
+		wanted := selection{Query: query, list: lists[name]}
+		v.scan(wanted.table, v.place(wanted.table, wanted.first()), wanted.take)
 		found, hasMore = wanted.found, wanted.hasMore
 	})
 	return found, hasMore, numbers, err
@@ -68,7 +76,7 @@ func (v *View) operations() (rows []Row) {
 
 // Select returns the wanted ones of rows that are in order, and whether there are more.
 func (q Query) Select(name string, rows []Row) (found []Row, hasMore bool) {
-	wanted := selection{Query: q, columns: lists[name].columns}
+	wanted := selection{Query: q, list: lists[name]}
 	for _, row := range rows {
 		if !wanted.take(row) {
 			break
@@ -80,7 +88,7 @@ func (q Query) Select(name string, rows []Row) (found []Row, hasMore bool) {
 // A selection takes the wanted ones of rows that come in their order.
 type selection struct {
 	Query
-	columns []string
+	list
 	found   []Row
 	hasMore bool
 }
@@ -103,7 +111,7 @@ func (s *selection) take(row Row) bool {
 	isEnd := isOne && row[0] > name || row[0] > s.Prefix && !strings.HasPrefix(row[0], s.Prefix)
 	switch {
 	case isEnd:
-	case !strings.HasPrefix(row[0], s.Prefix) || len(s.After) > 0 && !rowOf(s.After).IsBefore(row) || !s.wants(s.columns, row):
+	case !strings.HasPrefix(row[0], s.Prefix) || len(s.After) > 0 && !rowOf(s.After).IsBefore(rowOf(row[:s.key])) || !s.wants(row):
 	case len(s.found) == s.Limit:
 		s.hasMore = true
 		return false
@@ -113,19 +121,14 @@ func (s *selection) take(row Row) bool {
 	return !isEnd
 }
 
-// IsWanted reports whether a row of a list with these columns is one of the wanted ones.
-func (q Query) IsWanted(columns []string, row Row) bool {
-	return strings.HasPrefix(row[0], q.Prefix) && (len(q.After) == 0 || row[0] > q.After[0]) && q.wants(columns, row)
-}
-
 // wants reports whether a row has the names and the text that are wanted.
-func (q Query) wants(columns []string, row Row) bool {
-	contains := q.Contains == ""
-	for i, column := range columns {
-		if name, has := q.Names[column]; has && row[i] != name {
+func (s *selection) wants(row Row) bool {
+	contains := s.Contains == ""
+	for i, column := range s.columns {
+		if name, has := s.Names[column]; has && row[i] != name {
 			return false
 		}
-		contains = contains || strings.Contains(row[i], q.Contains)
+		contains = contains || strings.Contains(row[i], s.Contains)
 	}
 	return contains
 }

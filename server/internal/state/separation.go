@@ -15,25 +15,33 @@ import (
 // mostHolders is how many holders of a set's members are named.
 const mostHolders = 100
 
+// The kinds of sets.
+const (
+	Static, Dynamic = "static", "dynamic"
+)
+
 // A Conflict is a separation of duty set that a command would violate.
 type Conflict struct {
-	NamedSet
-	IsStatic bool
+	Cardinality int64 `json:"cardinality"`
 	// Holders has those who would hold too many members, up to a bound, in the order of their names.
-	Holders []Holder
+	Holders []Holder `json:"holders,omitempty"`
+	Kind    string   `json:"kind"`
+	Roles   []string `json:"roles"`
+	Set     string   `json:"set"`
 }
 
-// A Holder is a user who would be authorized for too many members of a static set, or a session that would have too many of a dynamic
-// one.
+// A Holder is a user who would be authorized for too many members of a static set, or a session, by its digest, that would have too many
+// of a dynamic one.
 type Holder struct {
-	User, Digest string
-	Members      []Held
+	Members []Held `json:"members"`
+	Session string `json:"session,omitempty"`
+	User    string `json:"user"`
 }
 
 // Held is a member, and the roles by which a holder has it: those that the user is assigned to, or that were activated.
 type Held struct {
-	Role string
-	By   []string
+	By   []string `json:"by"`
+	Role string   `json:"role"`
 }
 
 // separating has the commands that can be refused by separation of duty, and the kinds of sets that refuse them.
@@ -79,8 +87,8 @@ func (s *State) Conflicts(call *api.Call) (found []Conflict, err error) {
 	if err := s.Look(func(v *View) { judged = v.judge(call) }); err != nil {
 		return nil, err
 	}
-	found = judged.conflicts(true, judged.static, judged.users)
-	return append(found, judged.conflicts(false, judged.dynamic, judged.sessions)...), nil
+	found = judged.conflicts(Static, judged.static, judged.users)
+	return append(found, judged.conflicts(Dynamic, judged.dynamic, judged.sessions)...), nil
 }
 
 // judge reads what has to be known about a command.
@@ -232,10 +240,10 @@ func (v *View) sessionsAfter(call *api.Call) (found []holding) {
 	name := call.Session
 	switch call.Function {
 	case "createSession":
-		return []holding{{call.User, digest(name), sorted(call.Roles)}}
+		return []holding{{call.User, DigestOf(name), sorted(call.Roles)}}
 	case "addActiveRole":
 		active := v.of(rbacoffice.ActivatedRoles, name)
-		return []holding{{call.User, digest(name), sorted(append(active, call.Role))}}
+		return []holding{{call.User, DigestOf(name), sorted(append(active, call.Role))}}
 	}
 	for _, one := range v.Sessions() {
 		found = append(found, holding{one.User, one.Digest, one.Active})
@@ -244,9 +252,9 @@ func (v *View) sessionsAfter(call *api.Call) (found []holding) {
 }
 
 // conflicts returns the sets of which one of some holders has too many members.
-func (j *judgement) conflicts(isStatic bool, sets []NamedSet, holders []holding) (found []Conflict) {
+func (j *judgement) conflicts(kind string, sets []NamedSet, holders []holding) (found []Conflict) {
 	for _, set := range sets {
-		one, masks := Conflict{NamedSet: set, IsStatic: isStatic}, j.masks(set.Roles)
+		one, masks := Conflict{Cardinality: set.Cardinality, Kind: kind, Roles: set.Roles, Set: set.Name}, j.masks(set.Roles)
 		for _, holder := range holders {
 			if one.Cardinality < 1 || len(one.Holders) == mostHolders {
 				break
@@ -256,7 +264,7 @@ func (j *judgement) conflicts(isStatic bool, sets []NamedSet, holders []holding)
 				all |= masks[role]
 			}
 			if int64(bits.OnesCount64(all)) >= one.Cardinality {
-				one.Holders = append(one.Holders, Holder{holder.user, holder.digest, j.held(one.Roles, holder.roles)})
+				one.Holders = append(one.Holders, Holder{j.held(one.Roles, holder.roles), holder.digest, holder.user})
 			}
 		}
 		if len(one.Holders) > 0 {

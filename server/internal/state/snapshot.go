@@ -1,8 +1,13 @@
 package state
 
 import (
+	"bytes"
+	"math/big"
 	"strconv"
 	"strings"
+	"time"
+
+	"rbac/clients/go/rbacoffice"
 
 	"rbac-node/internal/api"
 )
@@ -22,7 +27,7 @@ func (f *Frozen) Lines() []byte { return f.lines(func(one Session) string { retu
 func (f *Frozen) OfficeLines() []byte { return f.lines(func(one Session) string { return one.Name }) }
 
 func (f *Frozen) lines(nameOf func(Session) string) (lines []byte) {
-	_ = f.each(making, "session", nameOf, func(line []byte) error {
+	_ = f.each(making, nameOf, func(line []byte) error {
 		lines = append(append(lines, line...), '\n')
 		return nil
 	})
@@ -30,9 +35,11 @@ func (f *Frozen) lines(nameOf func(Session) string) (lines []byte) {
 }
 
 // Dump gives the lines of the office to a function until that fails, byte for byte as tools/dump.sql prints them. The line of a session
-// has its digest, and would be refused: nobody makes a session whose name is known. A line is valid until the function returns.
+// has its digest at a key of its own, and would be refused: nobody makes a session whose name is known.
 func (f *Frozen) Dump(add func(line []byte) error) error {
-	return f.each(dumping, "digest", func(one Session) string { return one.Digest }, add)
+	return f.each(dumping, func(one Session) string { return one.Digest }, func(line []byte) error {
+		return add(bytes.Replace(line, []byte(`,"session":`), []byte(`,"digest":`), 1)) // Within a name the quotation marks are escaped.
+	})
 }
 
 // Count returns how many lines there are.
@@ -51,43 +58,73 @@ func (f *Frozen) rowsOf(function string) []Row {
 	}[function]
 }
 
-// setsOf returns the sets that a function makes.
 func (f *Frozen) setsOf(function string) []NamedSet {
 	return map[string][]NamedSet{"createSsdSet": f.Graph.Static, "createDsdSet": f.Graph.Dynamic}[function]
 }
 
-// each gives the lines of some functions to another one until that fails. Sessions have their names at a key.
-func (f *Frozen) each(functions []string, key string, nameOf func(Session) string, add func(line []byte) error) error {
-	line := make([]byte, 0, 192)
+// each gives the lines of some functions to another one until that fails.
+func (f *Frozen) each(functions []string, nameOf func(Session) string, add func(line []byte) error) (err error) {
+	give := func(function string, arguments api.Arguments) {
+		var call *api.Call
+		if err == nil {
+			call, err = api.NewCallWith(function, arguments)
+		}
+		if err == nil {
+			err = add(call.Line)
+		}
+	}
 	for _, function := range functions {
-		begun := append(append(append([]byte(nil), `{"fn":"`...), function...), '"')
 		keys := api.Keys(function)
 		for _, row := range f.rowsOf(function) {
-			line = append(line[:0], begun...)
+			var arguments api.Arguments
 			for i, key := range keys {
-				line = api.AppendQuoted(api.AppendKey(line, key), row[i])
+				arguments.SetText(key, row[i])
 			}
-			if err := add(append(line, '}')); err != nil {
-				return err
-			}
+			give(function, arguments)
 		}
 		for _, set := range f.setsOf(function) {
-			line = api.AppendQuoted(api.AppendKey(append(line[:0], begun...), "set"), set.Name)
-			line = api.AppendTexts(api.AppendKey(line, "roles"), set.Roles)
-			line = strconv.AppendInt(api.AppendKey(line, "cardinality"), set.Cardinality, 10)
-			if err := add(append(line, '}')); err != nil {
-				return err
-			}
+			give(function, api.Arguments{Set: set.Name, Roles: set.Roles, Cardinality: strconv.FormatInt(set.Cardinality, 10)})
 		}
 		for i := 0; function == "createSession" && i < len(f.Sessions); i++ {
 			one := f.Sessions[i]
-			line = api.AppendQuoted(api.AppendKey(append(line[:0], begun...), "user"), one.User)
-			line = api.AppendTexts(api.AppendKey(line, "roles"), one.Active)
-			line = api.AppendQuoted(api.AppendKey(line, key), nameOf(one))
-			if err := add(append(line, '}')); err != nil {
-				return err
-			}
+			give(function, api.Arguments{User: one.User, Roles: one.Active, Session: nameOf(one)})
 		}
 	}
-	return nil
+	return err
+}
+
+// A Frozen is what was in an office at one place in the order. It never changes.
+type Frozen struct {
+	Numbers Numbers
+	// At is when it was made.
+	At                                                           time.Time
+	Users, Roles, Objects, Permissions, Grants, Assigned, Locked []Row
+	Graph                                                        *Graph
+	// Juniors has each role with its juniors, as bits for their places among the roles. It is nil unless it was asked for.
+	Juniors []*big.Int
+	// Sessions are in the order of their digests.
+	Sessions []Session
+	Rooms    []Room
+}
+
+// Freeze returns what is in the office now, without the juniors of roles.
+func (s *State) Freeze() (*Frozen, error) {
+	f := &Frozen{At: s.clock.Now()}
+	return f, s.Look(func(v *View) { v.freeze(f) })
+}
+
+// FreezeWithJuniors returns what is in the office now. There may be half a million pairs of a role and a junior.
+func (s *State) FreezeWithJuniors() (*Frozen, error) {
+	f := &Frozen{At: s.clock.Now()}
+	return f, s.Look(func(v *View) {
+		v.freeze(f)
+		f.Juniors = v.juniors(f.Roles)
+	})
+}
+
+func (v *View) freeze(f *Frozen) {
+	f.Numbers, f.Graph, f.Sessions, f.Rooms = v.Numbers, v.Graph(), v.Sessions(), v.Rooms()
+	f.Users, f.Roles, f.Objects = v.all(rbacoffice.Users), v.all(rbacoffice.Roles), v.all(rbacoffice.Objects)
+	f.Permissions, f.Grants = v.all(rbacoffice.Permissions), v.all(rbacoffice.Grants)
+	f.Assigned, f.Locked = v.all(rbacoffice.Assignments), v.all(rbacoffice.Locks)
 }

@@ -262,7 +262,6 @@ func (s *State) Try(calls []*api.Call) (answers [][]byte, err error) {
 	return answers, nil
 }
 
-// wake tells those who watch that there are commands.
 func (s *State) wake() {
 	close(s.changed)
 	s.changed = make(chan struct{})

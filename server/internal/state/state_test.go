@@ -123,7 +123,7 @@ func TestConflicts(t *testing.T) {
 		found, err := s.Conflicts(callsOf(t, test.line)[0])
 		var given []string
 		for _, one := range found {
-			given = append(given, map[bool]string{true: "static ", false: "dynamic "}[one.IsStatic]+one.Name)
+			given = append(given, one.Kind+" "+one.Set)
 		}
 		if err != nil || strings.Join(given, ", ") != test.wanted {
 			t.Errorf("%s: %q and not %q, %v", test.line, given, test.wanted, err)

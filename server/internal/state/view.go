@@ -175,12 +175,10 @@ func (v *View) place(table rbacoffice.Table, wanted Row) int {
 	})
 }
 
-// count returns how many rows a table has.
 func (v *View) count(table rbacoffice.Table) int {
 	return sort.Search(moreThanRows, func(i int) bool { return !v.from(table, i, 1) })
 }
 
-// all returns all rows of a table.
 func (v *View) all(table rbacoffice.Table) []Row {
 	found := make([]Row, 0, v.count(table))
 	v.scan(table, 0, func(row Row) bool {
@@ -190,24 +188,18 @@ func (v *View) all(table rbacoffice.Table) []Row {
 	return found
 }
 
-// of returns the second names of the rows with a first name.
-func (v *View) of(table rbacoffice.Table, first string) (names []string) {
-	v.scan(table, v.place(table, Row{first}), func(row Row) bool {
-		if row[0] == first {
-			names = append(names, row[1])
-		}
-		return row[0] == first
-	})
-	return names
+func (v *View) with(table rbacoffice.Table, first string) []rbacoffice.Row {
+	rows, err := v.state.office.RowsWith(table, first)
+	v.fail(err)
+	return rows
 }
 
-// has reports whether there is a row with one name.
-func (v *View) has(table rbacoffice.Table, name string) (has bool) {
-	v.scan(table, v.place(table, Row{name}), func(row Row) bool {
-		has = row[0] == name
-		return false
-	})
-	return has
+// of returns the second names of the rows with a first name.
+func (v *View) of(table rbacoffice.Table, first string) (names []string) {
+	for _, row := range v.with(table, first) {
+		names = append(names, row.Names[1])
+	}
+	return names
 }
 
 // Rows returns the rows of all tables.
@@ -218,10 +210,10 @@ func (v *View) Rows() []rbacoffice.Row {
 }
 
 // IsLocked reports whether a user is locked.
-func (v *View) IsLocked(user string) bool { return v.has(rbacoffice.Locks, user) }
+func (v *View) IsLocked(user string) bool { return len(v.with(rbacoffice.Locks, user)) > 0 }
 
 // HasRole reports whether there is a role.
-func (v *View) HasRole(role string) bool { return v.has(rbacoffice.Roles, role) }
+func (v *View) HasRole(role string) bool { return len(v.with(rbacoffice.Roles, role)) > 0 }
 
 // AssignedRoles returns the roles that a user is assigned to, in their order.
 func (v *View) AssignedRoles(user string) []string { return v.of(rbacoffice.Assignments, user) }
@@ -232,7 +224,6 @@ func (v *View) Users() []string { return firsts(v.all(rbacoffice.Users)) }
 // Permissions returns all permissions in their order: the object and the operation of each.
 func (v *View) Permissions() []Row { return v.all(rbacoffice.Permissions) }
 
-// firsts returns the first names of rows.
 func firsts(rows []Row) []string {
 	names := make([]string, len(rows))
 	for i, row := range rows {

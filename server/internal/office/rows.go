@@ -1,4 +1,4 @@
-package state
+package office
 
 import (
 	"context"
@@ -9,31 +9,26 @@ import (
 	"fmt"
 	"net/url"
 	"os"
-	"runtime/debug"
 	"sort"
 	"strconv"
 	"strings"
 
 	_ "github.com/mattn/go-sqlite3" // It reads the rows.
-	"golang.org/x/crypto/sha3"
 
 	"rbac/clients/go/rbacoffice"
 
 	"rbac-node/internal/disk"
 )
 
-// digestBytes is how many bytes of the SHA3-256 of a session's name are its name outside the office.
-const digestBytes = 16
+const (
+	// OfCopy opens a copy of an office that nobody else has. SQLite reads the log beside it.
+	OfCopy = "_locking_mode=EXCLUSIVE"
+	// OfUnchanged opens an office without a log, which nobody writes, and beside which nothing is made.
+	OfUnchanged = "mode=ro&immutable=1"
+)
 
-// DigestOf returns what is written in place of a text that may let others in: the name that a session has outside the office, or
-// what that name would be.
-func DigestOf(text string) string { return digest(text) }
-
-// digest returns the name that a session has outside the office: whoever knows its own name may use it.
-func digest(name string) string {
-	sum := sha3.Sum256([]byte(name))
-	return hex.EncodeToString(sum[:digestBytes])
-}
+// Version is the newest version of offices, which has locks.
+const Version = 2
 
 // rowsQuery reads the rows of an office as librbac takes them, except the pairs that follow from others: the table, three names and a number.
 // The kinds of a table of the file have the order of librbac's tables, and a kind that no office has gives a table that isn't there.
@@ -69,8 +64,8 @@ func RowInFile(row *rbacoffice.Row) (table string, values []any) {
 	return place.name, values
 }
 
-// AppendRow appends a row as it is written for a digest.
-func AppendRow(line []byte, row *rbacoffice.Row) []byte {
+// appendRow appends a row as it is written for a digest.
+func appendRow(line []byte, row *rbacoffice.Row) []byte {
 	place := inFile[row.Table]
 	line = append(append(line, place.name...), '\t')
 	if place.kind > 0 {
@@ -83,6 +78,35 @@ func AppendRow(line []byte, row *rbacoffice.Row) []byte {
 	return append(line, '\n')
 }
 
+// Sums describe the rows of an office: how many each table has, and a digest of all.
+type Sums struct {
+	Counts [len(inFile)]int
+	Digest string
+}
+
+// SumsOf describes the rows of an office of a version, which are in their order.
+func SumsOf(version int64, rows []rbacoffice.Row) (s Sums) {
+	hash, line := sha256.New(), []byte(nil)
+	fmt.Fprintf(hash, "meta_row\trbac\t%d\n", version)
+	for i := range rows {
+		s.Counts[rows[i].Table]++
+		line = appendRow(line[:0], &rows[i])
+		hash.Write(line)
+	}
+	s.Digest = hex.EncodeToString(hash.Sum(nil))
+	return s
+}
+
+// Digest returns a digest of the rows of an office of version 2, which no program has open. Offices with the same rows have the same
+// digest, however their files came about.
+func Digest(ctx context.Context, file string) (string, error) {
+	rows, version, err := ReadRows(ctx, file, OfUnchanged, true)
+	if err == nil && version != Version {
+		err = errOldVersion
+	}
+	return SumsOf(version, rows).Digest, err
+}
+
 // SortRows sorts rows by their tables and names, as librbac has them.
 func SortRows(rows []rbacoffice.Row) {
 	sort.Slice(rows, func(i, k int) bool { return IsRowBefore(&rows[i], &rows[k]) })
@@ -90,97 +114,42 @@ func SortRows(rows []rbacoffice.Row) {
 
 // IsRowBefore reports whether a row comes before another one: by their tables, names and numbers.
 func IsRowBefore(one, other *rbacoffice.Row) bool {
-	switch {
-	case one.Table != other.Table:
+	if one.Table != other.Table {
 		return one.Table < other.Table
-	case one.Names != other.Names:
-		return Row(one.Names).IsBefore(Row(other.Names))
+	}
+	for i, name := range one.Names {
+		if name != other.Names[i] {
+			return name < other.Names[i]
+		}
 	}
 	return one.Number < other.Number
 }
 
-// Digest returns the digest of the rows that office.Digest returns for a file with the same rows.
-func (s *State) Digest() (string, error) {
-	hash := sha256.New()
-	hash.Write([]byte("meta_row\trbac\t2\n"))
-	err := s.Look(func(v *View) {
-		for table := range inFile {
-			var line []byte
-			v.each(rbacoffice.Table(table), 0, func(row *rbacoffice.Row) bool {
-				line = AppendRow(line[:0], row)
-				hash.Write(line)
-				return true
-			})
-		}
-	})
-	return hex.EncodeToString(hash.Sum(nil)), err
-}
-
-// Load makes the office of the file of one that no program writes now, as Begin does. Commands that were kept are forgotten.
-func (s *State) Load(ctx context.Context, path string) error {
-	copied := path + ".reading"
-	defer RemoveCopy(copied)
-	if err := Copy(path, copied); err != nil {
-		return err
-	}
-	rows, hasLocks, err := readCopy(ctx, copied)
-	if err != nil {
-		return err
-	}
-	defer debug.FreeOSMemory() // At the limits the rows take more than the office.
-	if err := s.Begin(withClosure(rows), hasLocks); err != nil {
-		return fmt.Errorf("librbac and the rows of the file: %w", err)
-	}
-	return nil
-}
-
-// readCopy returns the sorted rows of a copy except the closure pairs, and whether it has a table of locks.
-func readCopy(ctx context.Context, copied string) (rows []rbacoffice.Row, hasLocks bool, err error) {
-	source := url.URL{Scheme: "file", Opaque: (&url.URL{Path: copied}).EscapedPath(), RawQuery: "_locking_mode=EXCLUSIVE"}
-	db, err := sql.Open("sqlite3", source.String())
-	if err == nil {
-		defer db.Close()
-		var version int64
-		rows, version, err = ReadRows(ctx, db, false)
-		hasLocks = version > 1
-	}
-	if err != nil {
-		return nil, false, fmt.Errorf("rows: %w", err)
-	}
-	SortRows(rows)
-	return rows, hasLocks, nil
-}
-
-// Difference compares the rows of an office with those of a copy of its file, and describes the first one that only one of the two has.
-func Difference(ctx context.Context, own []rbacoffice.Row, copied string) (string, error) {
-	others, _, err := readCopy(ctx, copied)
-	if err != nil {
-		return "", err
-	}
-	at := 0
-	for _, row := range own {
-		if row.Table == rbacoffice.ClosurePairs { // It follows from the others.
-			continue
-		}
-		if at == len(others) || others[at] != row {
-			return fmt.Sprintf("row %d of table %d isn't in the file so", at, row.Table), nil
-		}
-		at++
-	}
-	if at < len(others) {
-		return fmt.Sprintf("a row of table %d is in the file alone", others[at].Table), nil
-	}
-	return "", nil
-}
-
-var errNoRows = errors.New("it has a row that no office has")
+var (
+	errNoRows     = errors.New("it has a row that no office has")
+	errOldVersion = errors.New("it is an office of version 1, which has no digest: `rbac migrate` makes one of version 2 of it")
+)
 
 // IsControl reports whether a letter is in no name. One in a name would make two rows of one in a digest.
 func IsControl(letter rune) bool { return letter < ' ' || letter == 0x7f }
 
-// ReadRows reads the rows of an office as they are, with the closure pairs if they are wanted, and its version. One of version 1 has no
-// locks.
-func ReadRows(ctx context.Context, db *sql.DB, hasClosure bool) (all []rbacoffice.Row, version int64, err error) {
+// ReadRows reads the rows of the office in a file, in their order, with the closure pairs if they are wanted, and its version. One of
+// version 1 has no locks.
+func ReadRows(ctx context.Context, path, options string, hasClosure bool) (rows []rbacoffice.Row, version int64, err error) {
+	source := url.URL{Scheme: "file", Opaque: (&url.URL{Path: path}).EscapedPath(), RawQuery: options}
+	db, err := sql.Open("sqlite3", source.String())
+	if err == nil {
+		defer db.Close()
+		rows, version, err = readRows(ctx, db, hasClosure)
+	}
+	if err != nil {
+		return nil, 0, fmt.Errorf("%s: rows: %w", path, err)
+	}
+	SortRows(rows)
+	return rows, version, nil
+}
+
+func readRows(ctx context.Context, db *sql.DB, hasClosure bool) (all []rbacoffice.Row, version int64, err error) {
 	var tag string
 	var count int
 	err = db.QueryRowContext(ctx, "SELECT count(*), coalesce(max(tag), ''), coalesce(max(version), 0) FROM meta_row").Scan(&count, &tag, &version)
@@ -223,26 +192,28 @@ func ReadRows(ctx context.Context, db *sql.DB, hasClosure bool) (all []rbacoffic
 	return all, version, rows.Err()
 }
 
+// walSuffix is added to the path of an office for its log.
+const walSuffix = "-wal"
+
 // Copy copies the file of an office that no program writes now, and the log beside it if there is one: SQLite would change them.
 func Copy(path, copied string) error {
 	RemoveCopy(copied)
 	err := disk.Copy(path, copied)
 	if err == nil {
-		err = disk.Copy(path+"-wal", copied+"-wal")
+		err = disk.Copy(path+walSuffix, copied+walSuffix)
 		if errors.Is(err, os.ErrNotExist) {
 			err = nil
 		}
 	}
 	if err != nil {
 		RemoveCopy(copied)
-		return fmt.Errorf("rows: %w", err)
 	}
-	return nil
+	return err
 }
 
 // RemoveCopy removes a copy and what SQLite has made beside it.
 func RemoveCopy(copied string) {
-	for _, suffix := range []string{"", "-wal", "-shm", "-journal"} {
+	for _, suffix := range []string{"", walSuffix, "-shm", "-journal"} {
 		_ = os.Remove(copied + suffix) // Most aren't there.
 	}
 }

@@ -1,0 +1,51 @@
+package state
+
+import (
+	"context"
+	"encoding/hex"
+	"fmt"
+	"runtime/debug"
+
+	"golang.org/x/crypto/sha3"
+
+	"rbac/clients/go/rbacoffice"
+
+	"rbac-node/internal/office"
+)
+
+// digestBytes is how many bytes of the SHA3-256 of a session's name are its name outside the office.
+const digestBytes = 16
+
+// DigestOf returns what is written in place of a text that may let others in: the name that a session has outside the office, or
+// what that name would be. Whoever knows the session's own name may use it.
+func DigestOf(text string) string {
+	sum := sha3.Sum256([]byte(text))
+	return hex.EncodeToString(sum[:digestBytes])
+}
+
+// Digest returns the digest of the rows that office.Digest returns for a file with the same rows.
+func (s *State) Digest() (string, error) {
+	var rows []rbacoffice.Row
+	err := s.Look(func(v *View) { rows = v.Rows() })
+	return office.SumsOf(office.Version, rows).Digest, err
+}
+
+// Load makes the office of the file of one that no program writes now, as Begin does. Commands that were kept are forgotten.
+func (s *State) Load(ctx context.Context, path string) error {
+	copied := path + ".reading"
+	defer office.RemoveCopy(copied)
+	if err := office.Copy(path, copied); err != nil {
+		return fmt.Errorf("rows: %w", err)
+	}
+	rows, version, err := office.ReadRows(ctx, copied, office.OfCopy, false)
+	if err != nil {
+		return err
+	}
+	defer debug.FreeOSMemory() // At the limits the rows take more than the office.
+	// The file isn't asked for the closure pairs, since there may be half a million: librbac refuses pairs that don't follow from the
+	// inheritances. The rows are sorted, since librbac needs much longer for another order.
+	if err := s.Begin(append(rows, rbacoffice.Closure(rows)...), version > 1); err != nil {
+		return fmt.Errorf("librbac and the rows of the file: %w", err)
+	}
+	return nil
+}
