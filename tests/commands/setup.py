@@ -80,6 +80,16 @@ def check_ordinary_user(bench, without_packages):
     bench.same("what root can do", " ".join(words[words.index("apt-get") :]), f"apt-get install --no-install-recommends {' '.join(sorted(LISTED))}")
 
 
+def check_help(bench, without_packages):
+    """Whoever asks a command of bin/ what it does gets its first comment, and it does nothing. bin/setup accepts nothing else."""
+    for name in ("arm64", "demo", "image", "library", "package", "prove", "release", "setup", "test", "verify"):
+        first = re.search(r"^(?:# bin/|\"\"\")(.*)$", (TOP / "bin" / name).read_text(encoding="utf-8"), re.M)[1]
+        done = subprocess.run([TOP / "bin" / name, "--help"], env=without_packages, capture_output=True, text=True, timeout=60, check=False)
+        bench.same(f"bin/{name} --help", (done.returncode, first in done.stdout, done.stderr), (0, True, ""))
+    done = subprocess.run([TOP / "bin/setup", "--dry-run"], env=without_packages, capture_output=True, text=True, check=False)
+    bench.same("bin/setup with another word", (done.returncode, done.stdout), (2, ""))
+
+
 @pytest.mark.parametrize("program, wanted", [(PROGRAM, 0), ("/bin/true", 1)])
 def check_without_pytest(bench, without_packages, program, wanted):
     """The rows are answered without Python too. All other checks are counted as skipped."""
