@@ -258,13 +258,14 @@ def check_places(bench, packages):
 
 
 def check_policy(bench, packages):
-    """rbac-policy and rbac-people of the package find their modules, and the program in PATH."""
+    """rbac-policy and rbac-people of the package find their modules, and the program in PATH. They leave nothing in its folders."""
     path = bench.write("policy.toml", b"[roles.clerk]\n")
-    settings = {"PATH": f"{packages.root / 'usr/bin'}:{os.environ['PATH']}", "RBAC_PROGRAM": "", "PYTHONDONTWRITEBYTECODE": "1"}
+    settings = {"PATH": f"{packages.root / 'usr/bin'}:{os.environ['PATH']}", "RBAC_PROGRAM": "", "PYTHONDONTWRITEBYTECODE": ""}
     done = run([packages.root / "usr/bin/rbac-policy", "validate", path], **settings)
     bench.same("rbac-policy", done, (0, "valid: 1 roles, 0 permissions, 0 users\n", ""))
     done = run([packages.root / "usr/bin/rbac-people", "--help"], **settings)
     bench.same("rbac-people", (done[0], done[1].partition("\n")[0]), (0, "usage: rbac-people [-h] COMMAND ..."))
+    bench.same("what they leave", list(packages.root.rglob("__pycache__")), [])
 
 
 @pytest.mark.needs("sqlite3")

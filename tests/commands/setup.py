@@ -12,7 +12,10 @@ from needs import skip
 from program.bench import PROGRAM, TESTS
 
 TOP = TESTS.parent
-LISTED = re.sub(r"#.*", "", (TESTS / "packages").read_text(encoding="utf-8")).split()
+PACKAGES = (TESTS / "packages").read_text(encoding="utf-8")
+LISTED = re.sub(r"#.*", "", PACKAGES).split()
+# What `bin/setup --build` installs.
+TO_BUILD = re.sub(r"#.*", "", PACKAGES.partition("# Every test")[0]).split()
 
 # apt-get says what it would do, and with -y what it is given and whether servers may start. It can't do what $conflicts names.
 # dpkg-query says that what $there names is installed.
@@ -72,12 +75,24 @@ def without_packages(bench):
     return {**os.environ, "PATH": f"{folder}:{os.environ['PATH']}", "RBAC_PROGRAM": PROGRAM, "RBAC_ARCHIVE": "none"}
 
 
-def check_ordinary_user(bench, without_packages):
-    """Nothing is installed, and a line says what root can do."""
-    done = subprocess.run([TOP / "bin/setup"], env=without_packages, capture_output=True, text=True, check=False)
+@pytest.mark.parametrize("options, wanted", [([], LISTED), (["--build"], TO_BUILD)])
+def check_ordinary_user(bench, without_packages, options, wanted):
+    """Nothing is installed, and a line says what root can do: install all, or what the front and packages are built with."""
+    done = subprocess.run([TOP / "bin/setup", *options], env=without_packages, capture_output=True, text=True, check=False)
     words = done.stdout.split()
     bench.same("the end", (done.returncode, done.stdout.count("\n"), done.stderr), (3, 1, ""))
-    bench.same("what root can do", " ".join(words[words.index("apt-get") :]), f"apt-get install --no-install-recommends {' '.join(sorted(LISTED))}")
+    bench.same("what root can do", " ".join(words[words.index("apt-get") :]), f"apt-get install --no-install-recommends {' '.join(sorted(wanted))}")
+    bench.same("to build", {"golang-go", "gcc", "debhelper", "python3"} <= set(TO_BUILD) < set(LISTED) - {"chromium"}, True)
+
+
+def check_help(bench, without_packages):
+    """Whoever asks a command of bin/ what it does gets its first comment, and it does nothing. bin/setup accepts nothing else."""
+    for name in ("arm64", "demo", "image", "library", "package", "prove", "release", "setup", "test", "verify"):
+        first = re.search(r"^(?:# bin/|\"\"\")(.*)$", (TOP / "bin" / name).read_text(encoding="utf-8"), re.M)[1]
+        done = subprocess.run([TOP / "bin" / name, "--help"], env=without_packages, capture_output=True, text=True, timeout=60, check=False)
+        bench.same(f"bin/{name} --help", (done.returncode, first in done.stdout, done.stderr), (0, True, ""))
+    done = subprocess.run([TOP / "bin/setup", "--dry-run"], env=without_packages, capture_output=True, text=True, check=False)
+    bench.same("bin/setup with another word", (done.returncode, done.stdout), (2, ""))
 
 
 @pytest.mark.parametrize("program, wanted", [(PROGRAM, 0), ("/bin/true", 1)])

@@ -106,7 +106,9 @@ def answer_one(listener, answer, asked):
 
 
 def check_arguments(bench):
-    """Arguments that are no port, name or socket and no seconds are refused with status 2."""
+    """Arguments that are no port, name or socket and no seconds are refused with status 2. `--help` says what may be given."""
+    done = run([HEALTH, "--help"], env=dict(os.environ))
+    bench.same("the help", (done.status, done.out.split(b"  ")[0], done.err), (0, b"health [NAME|SOCKET|PORT [SECONDS]]", b""))
     port = str(free_port())
     for words in (["0"], ["65536"], [port, "0"], [port, "-1"], [port, "1", "1"], [""], [port, "1.5"]):
         done = run([HEALTH, *words], env=dict(os.environ))

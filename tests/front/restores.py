@@ -91,7 +91,7 @@ def check_restore(bench, maker):
             _, _, revision = asked(front, "addUser", {"user": user})
             known.append(revision)
         status, _, said = restore(front, backup, "--replace")
-        bench.same("while a front has it", (status, said), (1, f"rbac-node: {front.office}: a front has the office: stop it first\n"))
+        bench.same("while a front has it", (status, said), (1, f"rbac-node: {front.office}: a front has the office: stop it first, or name its unit by --unit\n"))
         front.end()
     earlier, before = rows_of(front.office, bench.path("earlier")), files_of(front)
     status, out, said = restore(front, backup)

@@ -3,6 +3,7 @@
 import os
 import re
 import shlex
+import shutil
 import signal
 import subprocess
 from pathlib import Path
@@ -142,3 +143,18 @@ def check_demo(bench):
     bench.same("removed", (demo.run("--remove")[0], os.path.exists(demo.folder)), (0, False))
     os.mkdir(demo.folder)
     bench.same("a folder of somebody else", (demo.run("--remove")[0], os.path.exists(demo.folder)), (1, True))
+
+
+@pytest.mark.parametrize("missing", ["go", "python3"])
+def check_demo_lacks(bench, missing):
+    """On a machine that lacks what the front is built with, one line of the demo says what installs it, and nothing is made."""
+    commands = bench.folder / "commands"
+    commands.mkdir()
+    for name in ("dirname", "readlink", "realpath", "sed"):
+        (commands / name).symlink_to(shutil.which(name))
+    for name in {"go", "gcc", "python3"} - {missing}:
+        (commands / name).symlink_to("/bin/true")
+    script, folder = [shutil.which("bash"), TESTS.parent / "bin/demo"], bench.path("demo")
+    done = subprocess.run([*script, folder], env={"PATH": str(commands)}, capture_output=True, text=True, timeout=SECONDS, check=False)
+    wanted = f"demo: there is no {missing}: bin/setup --build installs what this needs\n"
+    bench.same("what it says", (done.returncode, done.stdout, done.stderr, os.path.exists(folder)), (1, "", wanted, False))

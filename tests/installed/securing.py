@@ -152,7 +152,7 @@ denied,AT,"caller":"unix:0","session":"cdc56a5028e51232cb28194fb1eb93e7","operat
 {"ok":true,"value":[]}
 {"code":2,"error":"NoUser"}
 rbac:rbac 600
-rbac-node: /var/lib/rbac/office/office: a front has the office: stop it first
+rbac-node: /var/lib/rbac/office/office: a front has the office: stop it first, or name its unit by --unit
 rbac-node: backup /mnt/theirs: office: it is no file of its own: somebody has changed the backup
 active
 root restore of BACKUP: ticket 9

@@ -81,9 +81,9 @@ def check_pages(bench):
 
 
 def check_shown(bench):
-    """`tests/rules` shows a promise by its words, with the paths and the lines of its places."""
-    for words in (["full", "disk", "alarm"], ["watch", "resumes"], ["see", "the", "record"]):
+    """`tests/rules` shows a promise by its words, each an argument or all of them in one, with the paths and the lines of its places."""
+    for words in (["full", "disk", "alarm"], ["watch", "resumes"], ["see", "the", "record"], ["idle session"]):
         shown = subprocess.run([rules.ROOT / "tests/rules", *words], capture_output=True, text=True, check=False)
-        (promise,) = [one for one in promises() if all(word in one.words() for word in words)]
+        (promise,) = [one for one in promises() if all(word in one.words() for word in " ".join(words).split())]
         lines = [f"{place.path}:{place.line}  {place.name}" for place in (*promise.functions, *promise.tests)]
         bench.same(f"tests/rules {' '.join(words)}: places that aren't shown", [line for line in lines if line not in shown.stdout], [])

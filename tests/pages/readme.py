@@ -83,7 +83,7 @@ def check_two_commands(bench):
     bench.same("the gate runs the second command, then the proofs", f"\n{second} --gate && bin/prove || exit 1\n" in gate, True)
     bench.same("the page names the proofs", "`bin/prove`" in PAGE, True)
     setup = (ROOT / "bin/setup").read_text(encoding="utf-8")
-    said = "as root, or as a user with `sudo` without a password" in markdown.in_one_line(PAGE)
+    said = "As root, or as a user with `sudo` and no password" in markdown.in_one_line(PAGE)
     bench.same("who can install what is missing", ("neither root nor sudo" in setup, said), (True, True))
 
 
@@ -112,12 +112,12 @@ def check_first_minutes(bench):
 def check_limits(bench):
     """The limits that the page begins with are those of the sources."""
     most = {kind: f"{number:,}" for kind, (number, _) in sources.limits().items()}
-    said = [f"at most {most['user']} users and as many assignments", f"{most['role']} roles", f"{most['object']} objects"]
+    said = [f"at most {most['user']} users and {most['assignment']} assignments", f"{most['role']} roles", f"{most['object']} objects"]
     said += [f"{most['permission']} permissions", f"{most['grant']} grants", f"{most['session']} sessions"]
     (size,) = re.findall(r"^- \*\*Size\.\*\* (.*?)^- ", PAGE, re.M | re.S)
     for words in said:
         bench.same(f"the page states: {words}", words in markdown.in_one_line(size), True)
-    bench.same("as many assignments as users", most["assignment"], most["user"])
+    bench.same("one role for each user", most["assignment"], most["user"])
 
 
 def cell(section, row, column, table=0):

@@ -78,6 +78,8 @@ def check_mistakes(bench):
         (b"name,roles\nann,teller\n", "people.csv:1: the first line has no column user"),
         (b"", "people.csv:1: the first line has no column user"),
         (b"user,roles,roles\n", "people.csv:1: there are two columns roles"),
+        (b"user,role\nann,teller\n", "people.csv:1: the column role would be ignored; is roles meant?"),
+        (b"user,roles,Lock\nann,teller,yes\n", "people.csv:1: the column lock would be ignored; is locked meant?"),
         (b'user,roles\n"ann,teller\n', "people.csv:2: unexpected end of data"),
         (b"user\nm\xe4x\n", "people.csv: it is not UTF-8"),
     ):

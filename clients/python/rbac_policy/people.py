@@ -1,6 +1,7 @@
 """The people of a file in CSV, and the commands that make an office have them."""
 
 import csv
+import difflib
 import io
 from collections import Counter
 from collections.abc import Iterator
@@ -10,6 +11,7 @@ from pathlib import Path
 from .mistakes import name_fault
 from .model import Command, State, Stop, shown
 
+_COLUMNS = ("user", "roles", "locked")
 _YES, _NO = ("yes", "true", "1", "x"), ("no", "false", "0")
 
 # Above how many users who would be locked or deleted their number has to be confirmed: 5 of 100.
@@ -67,9 +69,14 @@ def read_people(path: str) -> People:
 def _judge_columns(found: People, columns: list[str]) -> None:
     if "user" not in columns:
         found.note(1, "the first line has no column user; it names the columns: user, roles, locked")
-    for name in ("user", "roles", "locked"):
+    for name in _COLUMNS:
         if columns.count(name) > 1:
             found.note(1, f"there are two columns {name}")
+    missing = [name for name in _COLUMNS if name not in columns]
+    for name in columns:
+        # Other columns are ignored, but one that is only misspelt would leave roles and locks as they are, and nobody would see it.
+        for near in difflib.get_close_matches(name, missing, 1, 0.8):
+            found.note(1, f"the column {shown(name)} would be ignored; is {near} meant?")
 
 
 def _read_row(found: People, line: int, columns: list[str], row: list[str]) -> None:
@@ -78,7 +85,7 @@ def _read_row(found: People, line: int, columns: list[str], row: list[str]) -> N
     if len(row) != len(columns):
         found.note(line, f"the line has {len(row)} fields, and the first line has {len(columns)}")
         return
-    cells = {name: cell.strip() for name, cell in zip(columns, row) if name in ("user", "roles", "locked")}
+    cells = {name: cell.strip() for name, cell in zip(columns, row) if name in _COLUMNS}
     roles = tuple(role.strip() for role in cells["roles"].split(";") if role.strip()) if "roles" in cells else None
     locked = cells.get("locked", "").lower()
     faults = [f"user: {fault}" for fault in [name_fault(cells["user"])] if fault]

@@ -58,7 +58,7 @@ func (s *settings) define(flags *flag.FlagSet) {
 	flags.StringVar(&s.origins, "origin", "", "origins from which browsers may send requests, as `ORIGIN,..`; it sets no CORS fields")
 	flags.StringVar(&s.front.Refused, "refused", "", "`file` for requests that are refused with 401, 403 or 421 (default: OFFICE.refused)")
 	flags.Float64Var(&s.front.DecisionsShare, "log-decisions", 0, "which `share` of the decisions is logged, from 0, for none, to 1")
-	flags.StringVar(&s.front.DecisionsFile, "decisions-file", "", "`file` for them, which may be moved away (default: the log on standard error)")
+	flags.StringVar(&s.front.DecisionsFile, "decisions-file", "", "`file` for the decisions, which may be moved away (default: the log on standard error)")
 	flags.BoolVar(&s.record.isOff, "no-record", false, "don't record commands")
 	flags.DurationVar(&s.record.verifyEvery, "record-verify", 6*time.Hour,
 		"after how much time the whole chain of the record is verified again; 0 is never")

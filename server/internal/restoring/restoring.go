@@ -58,7 +58,7 @@ func Run(ctx context.Context, o Options) (err error) {
 func (o *Options) run(ctx context.Context, b *backup) error {
 	lock, err := office.Lock(ctx, o.Office+".lock")
 	if errors.Is(err, syscall.EWOULDBLOCK) {
-		return fmt.Errorf("%s: a front has the office: stop it first", o.Office)
+		return fmt.Errorf("%s: a front has the office: stop it first, or name its unit by --unit", o.Office)
 	}
 	if err != nil {
 		return err
