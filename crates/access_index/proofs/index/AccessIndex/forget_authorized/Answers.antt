@@ -1,9 +1,8 @@
-use Rattle.std.proofs.Common.{◌≡◌, None, string_bytes, refl, ap}
+use Rattle.std.proofs.Common.{None, string_bytes, refl, ap}
 use Rattle.std.specs.Str.{bytes_eq}
-use Rattle.std.specs.Map.{lookup, update}
+use Rattle.std.specs.Map.{lookup}
 use Rattle.std.specs.HashMap.{get_by_text}
 use Rattle.std.proofs.lemmas.Map.Text.{hash_map_updates_text}
-use Rattle.rbac_sets.specs.Sets.{Bytes}
 use Rattle.bit_tables.proofs.ByName.{no_entries, updated_here}
 use Rattle.access_index.specs.Index.{authorized_row}
 use Rattle.access_index.proofs.AuthorizedLaws.{authorized_updated, keeps_authorized}
