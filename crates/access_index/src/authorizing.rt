@@ -19,7 +19,7 @@ use std::mem::replace;
 
 // A user to whom more roles than these are assigned has a row of the authorized ones. So many rows are compared in less than a
 // microsecond.
-const MANY: usize = 32;
+const MANY: usize = 16;
 
 impl AccessIndex {
     // Forgets which roles the user is authorized for.
