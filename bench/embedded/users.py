@@ -3,6 +3,7 @@
 from __future__ import annotations
 
 import json
+from functools import partial
 from typing import Iterator
 
 from .policy import Policy
@@ -10,6 +11,8 @@ from .policy import Policy
 Command = tuple[str, dict]
 # The most dynamic sets, and the most members of one.
 SETS, MEMBERS = 64, 32
+# The most roles.
+ROLES = 1024
 # How many roles of the worst office are in a chain, which makes the closure large, and to how many the permission is granted.
 CHAIN, GRANTED = 500, 480
 
@@ -52,12 +55,30 @@ def worst() -> Iterator[Command]:
         yield "createDsdSet", {"set": f"d{number:02}", "roles": members, "cardinality": cardinality}
 
 
+def apart(assigned: int) -> Iterator[Command]:
+    """Yields the commands of an office in which ann is assigned many roles, and the permission is granted to all others."""
+    roles = [f"r{number:04}" for number in range(ROLES)]
+    yield "addUser", {"user": "ann"}
+    yield "addPermObj", {"object": "safe"}
+    yield "addPermission", {"object": "safe", "operation": "open"}
+    for role in roles:
+        yield "addRole", {"role": role}
+    for above, below in zip(roles[:assigned], roles[1:assigned]):
+        yield "addInheritance", {"asc": above, "desc": below}
+    for role in roles[:assigned]:
+        yield "assignUser", {"user": "ann", "role": role}
+    for role in roles[assigned:]:
+        yield "grantPermission", {"object": "safe", "operation": "open", "role": role}
+
+
 # The offices by what the table says of them, with the user, the operation and the object, and the decision.
 OFFICES = {
     "1,000 users, 100 roles in a tree, no dynamic set": (Policy().commands, ["u0", "read", "o99"], 1),
     "the same, 10 dynamic sets of 5 roles": (lambda: with_sets(10, 5), ["u0", "read", "o99"], 1),
     "the same, 64 dynamic sets of 32 roles": (lambda: with_sets(64, 32), ["u0", "read", "o99"], 1),
     "the limits: 501 assigned roles, 480 granted ones that 64 dynamic sets of 32 roles forbid": (worst, ["ann", "open", "safe"], 0),
+    "the limits: 1,023 assigned roles, and the other one granted": (partial(apart, ROLES - 1), ["ann", "open", "safe"], 0),
+    "the limits: 32 assigned roles, and the 992 others granted": (partial(apart, 32), ["ann", "open", "safe"], 0),
 }
 
 

@@ -19,13 +19,14 @@ use Rattle.rbac_sets.specs.declared.row.Change.TheVariants.{Put, Take}
 use Rattle.admin_mgr.specs.RbacState.{empty_state}
 use Rattle.admin_mgr.specs.StoredSets.{is_among}
 use Rattle.admin_mgr.proofs.StateAfter.EmptyLaws.{empty_has_no_row}
+use Rattle.access_index.proofs.AuthorizedLaws.{authorized_again, authorized_others, authorized_same, none_authorized}
 use Rattle.access_index.proofs.BarLaws.{empty_alone, empty_bars_none}
 use Rattle.access_index.specs.declared.index.AccessIndex.{AccessIndex}
 use Rattle.bit_tables.specs.declared.table.BitTable.{BitTable}
 use Rattle.bit_tables.specs.declared.pair_table.PairTable.{PairTable}
 use Rattle.bit_tables.specs.Tables.{has_at, has_pair, is_in, row_at}
 use Rattle.access_index.specs.Following.{Follow}
-use Rattle.access_index.specs.Index.{AreTurned, Rows, Keeps, no_rows, rows_of, number_of, is_used, is_below, is_below_number, assigned_bits, session_bits, grant_bits, junior_bits, is_assigned, is_activated, is_granted, is_junior, row_by_set}
+use Rattle.access_index.specs.Index.{AreTurned, Rows, Keeps, no_rows, rows_of, number_of, is_used, is_below, is_below_number, assigned_bits, session_bits, grant_bits, junior_bits, is_assigned, is_activated, is_granted, is_junior, row_by_set, authorized_row}
 use Rattle.access_index.specs.private.Changing.{IsNowhere, rows_by}
 use Rattle.bit_tables.proofs.ByName.{same_bytes, same_pair, updated_here, updated_other}
 use Rattle.access_index.proofs.FollowLaws.{some-is, follow_put, follow_take, follow_more, follow_less, numbers_more, numbers_less}
@@ -59,6 +60,7 @@ keeps_same index rows rows' equal barred barred_by keeps = record {
   turned = keeps.turned;
   barred = barred_same (number_of index) (is_used index) index.barred rows.barred rows'.barred barred keeps.barred;
   barred_by = λ set. barred_same (number_of index) (is_used index) (row_by_set index set) (rows.barred_by set) (rows'.barred_by set) (barred_by set) (keeps.barred_by set);
+  authorized = keeps.authorized;
 }
 
 -- an index that knows less about barred roles keeps the same rows with others barred, as far as it knows them
@@ -75,6 +77,7 @@ keeps_forgotten index new rows barred barred_by same known keeps = subst (λ i. 
   turned = keeps.turned;
   barred = tt;
   barred_by = λ set. at set (row_by_set new set) (known set);
+  authorized = keeps.authorized;
 })
   where
     at : (set : Bytes) (row : Option BitRow) → IfSome row (λ r. (row_by_set index set ≡ Some r) × ((role : Bytes) → barred_by set role ≡ rows.barred_by set role))
@@ -96,6 +99,7 @@ keeps_barred index rows row follow keeps = record {
   turned = keeps.turned;
   barred = follow;
   barred_by = keeps.barred_by;
+  authorized = keeps.authorized;
 }
 
 -- an index with one more row of the roles that a set bars
@@ -117,6 +121,7 @@ keeps_counted index other rows name row changed follow keeps = record {
     | inr differ ↦
         subst (λ o. IfSome o (λ r. Follow (Unit {0}) (number_of index) (is_used index) (λ _. has r) (λ _. rows.barred_by set))) (sym (updated_other (row_by_set index) (row_by_set other) name (Some row) changed set differ)) (keeps.barred_by set)
   ];
+  authorized = keeps.authorized;
 }
 
 -- an index with a table that has the same rows
@@ -135,12 +140,14 @@ keeps_fitted index rows table same keeps = record {
   turned = keeps.turned;
   barred = keeps.barred;
   barred_by = keeps.barred_by;
+  authorized = λ user. authorized_again index table user (λ n. ap (λ row. is_in row n) (same user)) (authorized_row index user) (keeps.authorized user);
 }
 
 -- ---- an assigned role
 
 module _ (index : AccessIndex) (rows : Rows) (keeps : Keeps index rows) (session role : Bytes) (n : ℕ) (at : number_of index role ≡ Some n)
-    (table : BitTable) (others : (other : Bytes) (m : ℕ) → (other ≡ session → m ≢ n) → has_at table other m ≡ has_at index.assigned other m) where
+    (table : BitTable) (others : (other : Bytes) (m : ℕ) → (other ≡ session → m ≢ n) → has_at table other m ≡ has_at index.assigned other m)
+    (unknown : authorized_row index session ≡ None) where
   pub keeps_put_assigned : IsTrue (has_at table session n) → Keeps (record index { assigned = table }) (rows_by rows (Put (PairRow ASSIGNMENT session role)))
   keeps_put_assigned there = record {
     numbers = keeps.numbers;
@@ -154,6 +161,7 @@ module _ (index : AccessIndex) (rows : Rows) (keeps : Keeps index rows) (session
     turned = keeps.turned;
     barred = keeps.barred;
     barred_by = keeps.barred_by;
+    authorized = authorized_others index table session unknown (λ other m differ. others other m (λ same. absurd (differ same))) keeps.authorized;
   }
 
   pub keeps_take_assigned : has_at table session n ≡ false → Keeps (record index { assigned = table }) (rows_by rows (Take (PairRow ASSIGNMENT session role)))
@@ -169,6 +177,7 @@ module _ (index : AccessIndex) (rows : Rows) (keeps : Keeps index rows) (session
     turned = keeps.turned;
     barred = keeps.barred;
     barred_by = keeps.barred_by;
+    authorized = authorized_others index table session unknown (λ other m differ. others other m (λ same. absurd (differ same))) keeps.authorized;
   }
 
 -- ---- an activated role
@@ -188,6 +197,7 @@ module _ (index : AccessIndex) (rows : Rows) (keeps : Keeps index rows) (session
     turned = keeps.turned;
     barred = keeps.barred;
     barred_by = keeps.barred_by;
+    authorized = keeps.authorized;
   }
 
   pub keeps_take_activated : has_at table session n ≡ false → Keeps (record index { sessions = table }) (rows_by rows (Take (PairRow ACTIVATED_ROLE session role)))
@@ -203,6 +213,7 @@ module _ (index : AccessIndex) (rows : Rows) (keeps : Keeps index rows) (session
     turned = keeps.turned;
     barred = keeps.barred;
     barred_by = keeps.barred_by;
+    authorized = keeps.authorized;
   }
 
 -- ---- a grant
@@ -225,6 +236,7 @@ module _ (index : AccessIndex) (rows : Rows) (keeps : Keeps index rows) (object 
     turned = keeps.turned;
     barred = keeps.barred;
     barred_by = keeps.barred_by;
+    authorized = keeps.authorized;
   }
 
   pub keeps_take_grant : has_pair table object operation n ≡ false → Keeps (record index { grants = table }) (rows_by rows (Take (GrantRow object operation role)))
@@ -240,12 +252,14 @@ module _ (index : AccessIndex) (rows : Rows) (keeps : Keeps index rows) (object 
     turned = keeps.turned;
     barred = keeps.barred;
     barred_by = keeps.barred_by;
+    authorized = keeps.authorized;
   }
 
 -- ---- a closure pair
 
 module _ (index new : AccessIndex) (rows : Rows) (keeps : Keeps index rows) (senior junior : Bytes) (i j : ℕ) (at_senior : number_of index senior ≡ Some i) (at_junior : number_of index junior ≡ Some j)
-    (others : (k m : ℕ) → (k ≡ i → m ≢ j) → is_below new.juniors.items k m ≡ is_below index.juniors.items k m) (turned : AreTurned new.juniors.items new.seniors.items) where
+    (others : (k m : ℕ) → (k ≡ i → m ≢ j) → is_below new.juniors.items k m ≡ is_below index.juniors.items k m) (turned : AreTurned new.juniors.items new.seniors.items)
+    (unknown : (user : Bytes) → authorized_row index user ≡ None) where
   new_bits : Bytes → ℕ → Bool
   new_bits x m = is_below_number new.juniors.items (number_of index x) m
 
@@ -278,6 +292,7 @@ module _ (index new : AccessIndex) (rows : Rows) (keeps : Keeps index rows) (sen
     turned = turned;
     barred = keeps.barred;
     barred_by = keeps.barred_by;
+    authorized = none_authorized index (record index { juniors = new.juniors; seniors = new.seniors }) unknown;
   }
 
   pub keeps_take_junior : is_below new.juniors.items i j ≡ false → Keeps (record index { juniors = new.juniors; seniors = new.seniors }) (rows_by rows (Take (PairRow CLOSURE_PAIR senior junior)))
@@ -294,6 +309,7 @@ module _ (index new : AccessIndex) (rows : Rows) (keeps : Keeps index rows) (sen
     turned = turned;
     barred = keeps.barred;
     barred_by = keeps.barred_by;
+    authorized = none_authorized index (record index { juniors = new.juniors; seniors = new.seniors }) unknown;
   }
 
 -- ---- a row that the index doesn't have, and a take of what has no number
@@ -320,6 +336,7 @@ module _ (index : AccessIndex) (rows rows' : Rows) (keeps : Keeps index rows) wh
     turned = keeps.turned;
     barred = barred_same (number_of index) (is_used index) index.barred rows.barred rows'.barred barred keeps.barred;
     barred_by = λ set. barred_same (number_of index) (is_used index) (row_by_set index set) (rows.barred_by set) (rows'.barred_by set) (barred_by set) (keeps.barred_by set);
+    authorized = keeps.authorized;
   }
 
 pub keeps_put_other : (index : AccessIndex) (rows : Rows) → Keeps index rows → (row : Row) → IsOther row → Keeps index (rows_by rows (Put row))
@@ -402,7 +419,8 @@ module _ (index new : AccessIndex) (rows : Rows) (keeps : Keeps index rows) (rol
     (here : number_of new role ≡ Some n) (others : (other : Bytes) → other ≢ role → number_of new other ≡ number_of index other)
     (put : IsTrue (is_used new n)) (kept : (m : ℕ) → m ≢ n → is_used new m ≡ is_used index m)
     (same_assigned : new.assigned ≡ index.assigned) (same_sessions : new.sessions ≡ index.sessions) (same_grants : new.grants ≡ index.grants)
-    (same_juniors : new.juniors ≡ index.juniors) (same_seniors : new.seniors ≡ index.seniors) (same_barred : new.barred ≡ index.barred) (same_by_set : new.by_set ≡ index.by_set) where
+    (same_juniors : new.juniors ≡ index.juniors) (same_seniors : new.seniors ≡ index.seniors) (same_barred : new.barred ≡ index.barred) (same_by_set : new.by_set ≡ index.by_set)
+    (same_authorized : new.authorized ≡ index.authorized) where
   bits_at : (x : Bytes) (m : ℕ) → is_below_number index.juniors.items (number_of new x) m ≡ junior_bits index x m
   bits_at x m = elim (same_bytes x role) [
     | inl same ↦
@@ -437,6 +455,7 @@ module _ (index new : AccessIndex) (rows : Rows) (keeps : Keeps index rows) (rol
         turned = turned_same;
         barred = barred_more rows.barred index.barred new.barred (sym same_barred) keeps.barred;
         barred_by = λ set. barred_more (rows.barred_by set) (row_by_set index set) (row_by_set new set) (ap (λ sets. get_by_text sets set) (sym same_by_set)) (keeps.barred_by set);
+        authorized = authorized_same index new same_assigned same_juniors same_authorized keeps.authorized;
       }
     where
       unused_before : (m : ℕ) → is_used new m ≡ false → is_used index m ≡ false
@@ -447,7 +466,8 @@ module _ (index new : AccessIndex) (rows : Rows) (keeps : Keeps index rows) (rol
     (gone : number_of new role ≡ None) (others : (other : Bytes) → other ≢ role → number_of new other ≡ number_of index other)
     (free : is_used new n ≡ false) (kept : (m : ℕ) → m ≢ n → is_used new m ≡ is_used index m)
     (same_assigned : new.assigned ≡ index.assigned) (same_sessions : new.sessions ≡ index.sessions) (same_grants : new.grants ≡ index.grants)
-    (same_juniors : new.juniors ≡ index.juniors) (same_seniors : new.seniors ≡ index.seniors) (same_barred : new.barred ≡ index.barred) (same_by_set : new.by_set ≡ index.by_set) where
+    (same_juniors : new.juniors ≡ index.juniors) (same_seniors : new.seniors ≡ index.seniors) (same_barred : new.barred ≡ index.barred) (same_by_set : new.by_set ≡ index.by_set)
+    (same_authorized : new.authorized ≡ index.authorized) where
   -- the role has no juniors, so its row is empty
   own_row : (m : ℕ) → is_below index.juniors.items n m ≡ false
   own_row m = elim (cases_Bool (is_used index m)) [
@@ -493,13 +513,15 @@ module _ (index new : AccessIndex) (rows : Rows) (keeps : Keeps index rows) (rol
         turned = freed_turned;
         barred = barred_less rows.barred nowhere.barred index.barred new.barred (sym same_barred) keeps.barred;
         barred_by = λ set. barred_less (rows.barred_by set) (nowhere.barred_by set) (row_by_set index set) (row_by_set new set) (ap (λ sets. get_by_text sets set) (sym same_by_set)) (keeps.barred_by set);
+        authorized = authorized_same index new same_assigned same_juniors same_authorized keeps.authorized;
       }
 
 -- the empty index keeps no rows
 pub keeps_none : (index : AccessIndex) → ((role : Bytes) → number_of index role ≡ None) → ((n : ℕ) → is_used index n ≡ false) → ((user : Bytes) (n : ℕ) → assigned_bits index user n ≡ false)
     → ((session : Bytes) (n : ℕ) → session_bits index session n ≡ false) → ((p : Pair) (n : ℕ) → grant_bits index p n ≡ false) → ((i j : ℕ) → is_below index.juniors.items i j ≡ false)
-    → ((i j : ℕ) → is_below index.seniors.items i j ≡ false) → IfSome index.barred (λ row. (n : ℕ) → has row n ≡ false) → ((set : Bytes) → row_by_set index set ≡ None) → Keeps index no_rows
-keeps_none index numbers used assigned sessions grants juniors seniors barred by_set =
+    → ((i j : ℕ) → is_below index.seniors.items i j ≡ false) → IfSome index.barred (λ row. (n : ℕ) → has row n ≡ false) → ((set : Bytes) → row_by_set index set ≡ None)
+    → ((user : Bytes) → authorized_row index user ≡ None) → Keeps index no_rows
+keeps_none index numbers used assigned sessions grants juniors seniors barred by_set authorized =
     record {
       numbers = record {
         within = λ role n is. absurd (no role n is);
@@ -515,6 +537,7 @@ keeps_none index numbers used assigned sessions grants juniors seniors barred by
       turned = λ i j. seniors j i ∙ sym (juniors i j);
       barred = empty_row index.barred barred;
       barred_by = λ set. subst (λ row. IfSome row (λ r. Follow (Unit {0}) (number_of index) (is_used index) (λ _. has r) (λ _ role. false))) (sym (by_set set)) tt;
+      authorized = none_authorized index index authorized;
     }
   where
     no : (role : Bytes) (n : ℕ) → number_of index role ≡ Some n → ⊥

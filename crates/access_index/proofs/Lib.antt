@@ -1,3 +1,4 @@
+pub mod AuthorizedLaws
 pub mod BarLaws
 pub mod FindLaws
 pub mod FollowLaws

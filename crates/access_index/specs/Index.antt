@@ -1,5 +1,5 @@
 -- What an index for decisions has to do with the rows of a state.
-use Rattle.std.specs.Prelude.{◌≡◌, ◌&&◌, ℕ, Bool, false, not, nat_lt, Option, Some, None, List, IfSome}
+use Rattle.std.specs.Prelude.{◌≡◌, ◌↔◌, ◌⊎◌, ◌&&◌, ℕ, Bool, IsTrue, false, not, nat_lt, Option, Some, None, List, IfSome}
 use Rattle.std.specs.List.{slice_get}
 use Rattle.std.specs.HashMap.{get_by_text}
 use Rattle.bit_rows.specs.declared.row.BitRow.{BitRow}
@@ -54,6 +54,18 @@ junior_bits index senior n = is_below_number index.juniors.items (number_of inde
 abbrev pub row_by_set : AccessIndex → Bytes → Option BitRow
 row_by_set index set = get_by_text index.by_set set
 
+-- the row of the roles that a user is authorized for, if it is known
+abbrev pub authorized_row : AccessIndex → Bytes → Option BitRow
+authorized_row index user = get_by_text index.authorized user
+
+-- the number has the bit, or is in the row of a number that has it
+abbrev pub IsReached : List BitRow → (ℕ → Bool) → ℕ → Type 0
+IsReached rows bits n = (i : ℕ) × IsTrue (bits i) × ((i ≡ n) ⊎ IsTrue (is_below rows i n))
+
+-- the row has the numbers of the user's assigned roles and those of their juniors, and no others
+abbrev pub IsAuthorized : AccessIndex → Bytes → BitRow → Type 0
+IsAuthorized index user row = (n : ℕ) → IsTrue (has row n) ↔ IsReached index.juniors.items (assigned_bits index user) n
+
 -- whether the dynamic separation of duty set of this name bars the role: the role and its juniors are as many roles of the set as
 -- its cardinality, or more
 unfoldable pub is_barred_by : RbacState → Bytes → Bytes → Bool
@@ -86,7 +98,8 @@ abbrev pub is_junior : Rows → Bytes → Bytes → Bool
 is_junior rows senior role = rows.stored (PairRow CLOSURE_PAIR senior role)
 
 -- The index has the assignments, the activated roles, the grants and the closure pairs of these rows, the barred roles if it
--- knows them, and those that a dynamic set bars if it knows them. The row of a number that isn't used is empty.
+-- knows them, those that a dynamic set bars if it knows them, and those that a user is authorized for if it knows them. The row of a
+-- number that isn't used is empty.
 pub record Keeps (index : AccessIndex) (rows : Rows) : Type 0 where
   pub numbers : AreNumbers (number_of index) (is_used index)
   pub assigned : Follow Bytes (number_of index) (is_used index) (assigned_bits index) (is_assigned rows)
@@ -97,6 +110,7 @@ pub record Keeps (index : AccessIndex) (rows : Rows) : Type 0 where
   pub turned : AreTurned index.juniors.items index.seniors.items
   pub barred : IfSome index.barred (λ row. Follow (Unit {0}) (number_of index) (is_used index) (λ _. has row) (λ _. rows.barred))
   pub barred_by : (set : Bytes) → IfSome (row_by_set index set) (λ row. Follow (Unit {0}) (number_of index) (is_used index) (λ _. has row) (λ _. rows.barred_by set))
+  pub authorized : (user : Bytes) → IfSome (authorized_row index user) (IsAuthorized index user)
 
 -- the index has the rows of the state
 abbrev pub Indexes : AccessIndex → RbacState → Type 0

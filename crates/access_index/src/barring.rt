@@ -215,7 +215,7 @@ fn level_before<'a>(levels: &'a [BitRow], level: usize, row: &'a BitRow) -> &'a 
 }
 
 // The row of this number, or the empty one if there are fewer.
-fn row_at(rows: &[BitRow], number: usize) -> BitRow
+pub(crate) fn row_at(rows: &[BitRow], number: usize) -> BitRow
     ensures { (n : ℕ) → has result n ≡ is_below rows.now number n }
 {
     match rows.get(number) {

@@ -32,6 +32,7 @@ impl AccessIndex {
         }
         index.forget_all_barred();
         index.assigned.fit();
+        index.count_rows(alloc, rows);
         Ok(index)
     }
 
@@ -49,8 +50,11 @@ impl AccessIndex {
         ensures cause { IfErr result (λ refusal. refusal ≡ Refusal.Memory) }
     {
         self.forget_barred(changes);
+        let users = self.take_authorized(alloc, changes);
         self.change_bits(alloc, changes)?;
         self.free_numbers(changes);
+        self.count_users(alloc, users);
+        self.count_changed(alloc, changes);
         Ok(())
     }
 
@@ -134,6 +138,7 @@ impl AccessIndex {
         ensures cause { IfErr result (λ refusal. refusal ≡ Refusal.Memory) }
     {
         let number = self.number_for(alloc, role)?;
+        self.forget_authorized(user.as_str());
         self.assigned.put(alloc, user.as_str(), number)
     }
 
@@ -143,7 +148,9 @@ impl AccessIndex {
         ensures cause { IfErr result (λ refusal. refusal ≡ Refusal.Memory) }
     {
         if let Some(number) = self.number(role) {
-            return self.assigned.take(user.as_str(), number);
+            let user = user.as_str();
+            self.forget_authorized(user);
+            return self.assigned.take(user, number);
         }
         Ok(())
     }
@@ -204,6 +211,7 @@ impl AccessIndex {
     {
         let above = self.number_for(alloc, senior)?;
         let below = self.number_for(alloc, junior)?;
+        self.forget_all_authorized();
         self.put_junior(above, below)
     }
 
@@ -213,6 +221,7 @@ impl AccessIndex {
     {
         if let Some(above) = self.number(senior) {
             if let Some(below) = self.number(junior) {
+                self.forget_all_authorized();
                 self.take_junior(above, below);
             }
         }

@@ -1,12 +1,13 @@
 //! Decisions by the index.
-ghost use Rattle.std.specs.Prelude.{◌≡◌, ◌↔◌, ◌⊎◌, ℕ, IsTrue, None, false, IfSome, IfNone};
+ghost use Rattle.std.specs.Prelude.{◌≡◌, ◌↔◌, ◌⊎◌, ℕ, IsTrue, None, Some, false, IfSome, IfNone};
 ghost use Rattle.rbac_sets.specs.Sets.{Bytes, contains};
 ghost use Rattle.bit_rows.specs.Rows.{has};
 ghost use Rattle.admin_mgr.specs.RbacState.{RbacState};
 ghost use Rattle.admin_mgr.specs.Good.{IsGood};
 ghost use Rattle.access_index.specs.Decision.{HasNothing, HasNothingAssigned, IsDecision, IsUserDecision};
 ghost use Rattle.access_index.specs.private.Reaching.{Reaches};
-ghost use Rattle.access_index.specs.Index.{Indexes, is_below};
+ghost use Rattle.access_index.specs.Index.{Indexes, Keeps, Rows, is_below};
+ghost use Rattle.bit_tables.specs.Tables.{row_at};
 
 use crate::index::AccessIndex;
 use bit_rows::BitRow;
@@ -60,7 +61,21 @@ impl AccessIndex {
             return None;
         }
         let usable = roles.difference(barred);
-        Some(self.reaches(assigned, &usable))
+        Some(self.user_reaches(user, assigned, &usable))
+    }
+
+    // Whether one of the granted roles is one of the user's assigned ones, or a junior of one.
+    fn user_reaches(&self, user: &str, assigned: &BitRow, granted: &BitRow) -> bool
+        requires { row_at self.now.assigned user.now ≡ Some assigned.now }
+        ensures { (rows : Rows) → Keeps self.now rows → IsTrue result ↔ Reaches self.now.juniors.items assigned.now granted.now }
+    {
+        if self.authorized.is_empty() {
+            return self.reaches(assigned, granted);
+        }
+        match self.authorized.get(user) {
+            Some(authorized) => authorized.meets(granted),
+            None => self.reaches(assigned, granted),
+        }
     }
 
     // Whether one of the granted roles is one of the active ones, or a junior of one.

@@ -35,6 +35,8 @@ pub struct AccessIndex {
     // By dynamic separation of duty set the numbers of the roles that violate it alone, if they are known. There are so few sets
     // that names that collide cost little, so the hash needs no secret.
     pub(crate) by_set: HashMap<String, BitRow>,
+    // By user with many assigned roles the numbers of the roles that the user is authorized for, if they are known.
+    pub(crate) authorized: HashMap<String, BitRow, Seed>,
 }
 
 impl AccessIndex {
@@ -53,6 +55,7 @@ impl AccessIndex {
             grants: PairTable::new(alloc, seed),
             barred: Some(BitRow::empty()),
             by_set: HashMap::new(alloc),
+            authorized: HashMap::with_hasher(alloc, seed),
         }
     }
 

@@ -5,7 +5,8 @@
 //! two for each role, of its juniors and of its seniors. A decision looks up two rows and compares bits. A change of one row of a
 //! state changes one bit or two. Only the row of the barred roles is built anew, after a change of the role hierarchy or of a
 //! dynamic separation of duty set. There is a row for each set too: a change of a set counts that set again, and a change of the
-//! hierarchy all of them.
+//! hierarchy all of them. A user with many assigned roles has one more row, of the roles that the user is authorized for. It is
+//! counted anew after a change of the user's assignments or of the hierarchy.
 //!
 //! # Example
 //!
@@ -34,6 +35,7 @@
 
 pub use index::AccessIndex;
 
+mod authorizing;
 mod barring;
 pub mod changing;
 pub mod finding;

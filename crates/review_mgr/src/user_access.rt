@@ -1,11 +1,11 @@
 //! The decision about a user: whether some session that the user may create would have access.
-ghost use Rattle.std.specs.Prelude.{◌≡◌, ◌&&◌, not, Some, None, filter, IfOk, IfErr};
-ghost use Rattle.std.specs.List.{list_any};
-ghost use Rattle.rbac_sets.specs.Sets.{Triple, contains, members};
-ghost use Rattle.admin_mgr.specs.UserAccess.{could_have_access, stands_alone};
-ghost use Rattle.admin_mgr.specs.private.HolderRoles.{is_reached, run_of};
+ghost use Rattle.std.specs.Prelude.{◌≡◌, Some, None, filter, IfOk, IfErr};
+ghost use Rattle.rbac_sets.specs.Sets.{members};
+ghost use Rattle.admin_mgr.specs.UserAccess.{could_have_access};
+ghost use Rattle.admin_mgr.specs.private.HolderRoles.{run_of};
 ghost use Rattle.review_mgr.specs.Questions.{user_refused};
 ghost use Rattle.review_mgr.specs.Review.{is_grant_of};
+ghost use Rattle.review_mgr.specs.private.Usable.{could_use, has_usable};
 
 use crate::access::{granted_for, is_object, is_operation};
 use admin_mgr::{State, is_reached, stands_alone};
@@ -62,7 +62,7 @@ fn could_have_access(
 
 // Whether the user isn't locked, and one of the grants is to a role for which the user is authorized and that stands alone.
 fn is_usable(state: &State, user: &BorrowedName<'_>, granted: &[(Name, Name, Name)]) -> bool
-    ensures { result ≡ (not (contains state.now.facts.locked user.now) && list_any (λ (grant : Triple). is_reached state.now.facts.edges (run_of state.now.facts.assignments user.now) grant.2 && stands_alone state.now.facts grant.2) granted.now) }
+    ensures { result ≡ could_use state.now.facts user.now granted.now }
 {
     !state.locked().contains(user) && has_usable(state, assigned_to_user(state, user), granted)
 }
@@ -77,7 +77,7 @@ fn assigned_to_user<'a>(state: &'a State, user: &BorrowedName<'_>) -> &'a [(Name
 // Whether one of the grants is to a role that is one of `held`, pairs (user, role), or a junior of one, and that stands
 // alone.
 fn has_usable(state: &State, held: &[(Name, Name)], granted: &[(Name, Name, Name)]) -> bool
-    ensures { result ≡ list_any (λ (grant : Triple). is_reached state.now.facts.edges held.now grant.2 && stands_alone state.now.facts grant.2) granted.now }
+    ensures { result ≡ has_usable state.now.facts held.now granted.now }
 {
     granted.iter().any(|grant| is_reached(state.order(), held, &grant.2)
         && stands_alone(state, &grant.2))

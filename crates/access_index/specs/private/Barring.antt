@@ -32,6 +32,11 @@ abbrev pub at_least : List BitRow → ℕ → ℕ → Bool
 at_least levels zero n = true
 at_least levels (suc level) n = is_below levels level n
 
+-- whether the row is a closure pair
+abbrev pub is_of_closure : Row → Bool
+is_of_closure (PairRow kind a b) = nat_eq kind CLOSURE_PAIR
+is_of_closure _ = false
+
 -- whether the row is a closure pair, or one of a dynamic separation of duty set
 abbrev pub can_bar : Row → Bool
 can_bar (PairRow kind a b) = nat_eq kind CLOSURE_PAIR || nat_eq kind DYNAMIC_MEMBER

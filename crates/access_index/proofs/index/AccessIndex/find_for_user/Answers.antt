@@ -4,7 +4,7 @@ use Rattle.bit_rows.specs.Rows.{has}
 use Rattle.bit_tables.specs.Tables.{is_in}
 use Rattle.admin_mgr.specs.UserAccess.{stands_alone}
 use Rattle.access_index.specs.Following.{Follow}
-use Rattle.access_index.specs.Index.{is_used, number_of}
+use Rattle.access_index.specs.Index.{is_used, number_of, rows_of}
 use Rattle.access_index.proofs.FindLaws.{not_granted}
 use Rattle.access_index.proofs.UserLaws.{none_assigned, user_decision}
 use Rattle.access_index.proofs.index.AccessIndex.find_for_user.Goals as goal
@@ -31,4 +31,4 @@ returns-clause-found c S good keeps =
     let some_granted = c.if-is_empty-2.ensures.some refl in
     user_decision c.args.self.now S keeps c.args.user.now c.args.operation.now c.args.object.now c.in-Some-row.assigned.now c.in-Some-row-2.roles.now c.in-Some.barred c.difference-usable.result
     (λ n. ap (λ o. is_in o n) c.in-Some-row.ensures) (λ n. ap (λ o. is_in o n) c.in-Some-row-2.ensures) (subst (λ row. IfSome row (λ r. Follow (Unit {0}) (number_of c.args.self.now) (is_used c.args.self.now) (λ _. has r) (λ _ role. not (stands_alone S role)))) c.in-Some.is keeps.barred) c.difference-usable.ensures
-    good some_assigned.0 some_granted.0 some_assigned.1 some_granted.1 c.reaches.result c.reaches.ensures.0 c.reaches.ensures.1
+    good some_assigned.0 some_granted.0 some_assigned.1 some_granted.1 c.user_reaches.result (c.user_reaches.ensures (rows_of S) keeps).0 (c.user_reaches.ensures (rows_of S) keeps).1

@@ -32,7 +32,7 @@ returns-in-Some-clause-keeps c rows keeps nowhere =
     let new = get_by_text c.remove.new.self in
     let at = ap old (sym c.as_str.ensures.text) ∙ sym c.in-Some.ensures.value in
     let changed : (other : Bytes) → new other ≡ update bytes_eq old role None other = λ other. hash_map_updates_text c.as_str.result.now c.args.self.now.numbers c.remove.new.self None c.remove.ensures.updates other ∙ ap (λ bs. update bytes_eq old bs None other) c.as_str.ensures.text in
-    keeps_freed c.args.self.now _ rows keeps role nowhere c.in-Some.number at (updated_here old new role None changed) (updated_other old new role None changed) c.take.ensures.gone c.take.ensures.others refl refl refl refl refl refl refl
+    keeps_freed c.args.self.now _ rows keeps role nowhere c.in-Some.number at (updated_here old new role None changed) (updated_other old new role None changed) c.take.ensures.gone c.take.ensures.others refl refl refl refl refl refl refl refl
 
 pub returns-in-Some-clause-freed : goal.returns-in-Some-clause-freed
 returns-in-Some-clause-freed c =
@@ -67,4 +67,5 @@ returns-in_default-clause-keeps c rows keeps nowhere =
       turned = keeps.turned;
       barred = subst (λ (number : Bytes → Option ℕ). IfSome old.barred (λ row. Follow (Unit {0}) number (is_used old) (λ _. has row) (λ _. rows.barred))) same keeps.barred;
       barred_by = λ set. subst (λ (number : Bytes → Option ℕ). IfSome (row_by_set old set) (λ row. Follow (Unit {0}) number (is_used old) (λ _. has row) (λ _. rows.barred_by set))) same (keeps.barred_by set);
+      authorized = keeps.authorized;
     }

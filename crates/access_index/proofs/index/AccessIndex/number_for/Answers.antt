@@ -18,7 +18,7 @@ returns-clause-keeps c rows keeps =
     let found = c.in-Some-first_absent.ensures.some in
     let changed : (other : Bytes) → new other ≡ update bytes_eq old role w other = λ other. hash_map_updates_text (string_bytes c.in_ok-key.key) c.args.self.now.numbers c.insert.new.self w c.in_ok-insert.ensures.updates other ∙ ap (λ bs. update bytes_eq old bs w other) (c.in_ok-key.ensures.ok ∙ c.as_str.ensures.text) in
     keeps_numbered c.args.self.now _ rows keeps role c.in-Some-first_absent.number (sym c.number.ensures ∙ c.in_default.is) found.1 found.0 (updated_here old new role w changed) (updated_other old new role w changed)
-    c.put.ensures.there c.put.ensures.others refl refl refl refl refl refl refl
+    c.put.ensures.there c.put.ensures.others refl refl refl refl refl refl refl refl
 
 pub returns-clause-others : goal.returns-clause-others
 returns-clause-others c other n is =
