@@ -9,7 +9,7 @@ import pytest
 from .building import built
 
 OFFICES, MOST_ROLES = 1_000, 3
-CHANGED, CHANGES = 200, 8
+CHANGED, CHANGES, MANY_CHANGES = 200, 8, 2_000
 USERS = ["ann", "bob", "eve"]
 PERMISSIONS = [("safe", "open"), ("safe", "close"), ("vault", "open")]
 
@@ -140,6 +140,53 @@ def check_changed_offices(bench):
     bench.judge("decisions about users after commands", wrong)
     bench.same("at least 100 of each decision", min(counted.values()) >= 100, True)
     return {"commands between decisions about users": done, "decisions about users after commands": sum(counted.values())}
+
+
+def draw_small_change(draws, roles):
+    """Returns a random command that changes few of the roles for which users are authorized."""
+    role, other, user = draws.choice(roles), draws.choice(roles), draws.choice(USERS)
+    object, operation = draws.choice(PERMISSIONS)
+    grant = {"object": object, "operation": operation, "role": role}
+    changes = [
+        (6, "assignUser", {"user": user, "role": role}),
+        (3, "deassignUser", {"user": user, "role": role}),
+        (1, "addInheritance", {"asc": role, "desc": other}),
+        (1, "grantPermission", grant),
+        (3, "revokePermission", grant),
+        (3, "addRole", {"role": role}),
+        (1, "deleteRole", {"role": role}),
+    ]
+    return draws.choices([(function, it) for _, function, it in changes], [weight for weight, *_ in changes])[0]
+
+
+@pytest.mark.needs("python-headers")
+def check_many_roles(bench):
+    """Decisions about users with more and with fewer roles than have a row are right after each of many random commands."""
+    sys.path.insert(0, str(built() / "python"))
+    from rbac_office import Office
+
+    draws, counted, wrong = random.Random(67), {(is_many, says): 0 for is_many in (True, False) for says in (True, False)}, []
+    roles, edges = [f"r{number}" for number in range(40)], []
+    with Office() as office:
+        for function, it in draw_commands(draws)[1] + [("addRole", {"role": role}) for role in roles]:
+            if function not in ("createDsdSet", "lockUserAccount"):
+                is_done(office, function, it)
+        for _ in range(MANY_CHANGES):
+            function, it = draw_small_change(draws, roles)
+            if is_done(office, function, it) and function == "addInheritance":
+                edges.append(it)
+            if len(edges) > 6:
+                is_done(office, "deleteInheritance", edges.pop(draws.randrange(len(edges))))
+            for user in USERS:
+                is_many = len(office.call("assignedRoles", user=user)) > 16
+                for permission in PERMISSIONS:
+                    says = office.check_user(user, permission[1], permission[0])
+                    counted[is_many, says] += 1
+                    if says != has_grant(office, user, permission):
+                        wrong.append(f"{function} {it}, {user}, {permission}: {says}")
+    bench.judge("decisions about users with many roles", wrong)
+    bench.same("at least 100 of each decision, with many roles and with few", min(counted.values()) >= 100, True)
+    return {"decisions about users with many roles": sum(count for (is_many, _), count in counted.items() if is_many)}
 
 
 @pytest.mark.needs("python-headers")

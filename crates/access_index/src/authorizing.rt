@@ -17,7 +17,7 @@ use std::alloc::Global;
 use std::collections::HashMap;
 use std::mem::replace;
 
-// A user to whom more roles than these are assigned has a row of the authorized ones. So many rows are compared in less than a
+// A user to whom more roles than these are assigned has a row of the authorized ones. So many rows are compared in about half a
 // microsecond.
 const MANY: usize = 16;
 
