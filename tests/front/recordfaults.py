@@ -127,6 +127,11 @@ def check_disk_of_both(bench):
             while front.ask("addUser", {"user": f"u{done}"})[0] == 200 and done < 100_000:
                 done += 1
             full(bench, "a full disk", front)
+            bench.same("an end on a full disk", front.end(), 0)
+            front.start()
+            full(bench, "after that end", front)
+            bench.same("the alarm after that end", (is_failing(front), "full" in front.exchange("GET", "/healthz")[1]), (True, True))
+            bench.same("the replay after that end", "the replay has ended" in front.said(), False)
             for replay in front.replays():
                 os.kill(replay, signal.SIGKILL)
             until(lambda: "the replay answers again" in front.said(), "there is another replay", lambda: front.said()[-1500:])

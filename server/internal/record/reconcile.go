@@ -21,6 +21,7 @@ func (r *Record) Before(ctx context.Context) error {
 		return err
 	}
 	r.hasReserve, r.triedReserve = false, time.Time{} // The next command makes it again, once a replay has opened the office.
+	r.leaveSpare()
 	scratch, end, err := newScratch(r.Office, r.dir)
 	if err != nil {
 		return fmt.Errorf("record: %w", err)

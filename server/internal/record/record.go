@@ -63,8 +63,8 @@ type Record struct {
 	// keepsReserve says that room is kept on the disk, hasReserve that it is there, and triedReserve when that was last tried.
 	keepsReserve, hasReserve bool
 	triedReserve             time.Time
-	// besides is how many bytes have to be free when it is made.
-	besides int64
+	// besides is how many bytes have to be free when it is made, and spare how many have to be left then for the next command.
+	besides, spare int64
 	// open has the entries that the replay has got and not answered, and late those whose answers couldn't be kept yet.
 	open, late []entry
 

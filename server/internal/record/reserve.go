@@ -17,6 +17,8 @@ const (
 	reserveName = "reserve"
 	// reservePause is the time between two attempts to make it.
 	reservePause = time.Second
+	// spareRoom is how many bytes are left for a command when it was made again on a disk that was full.
+	spareRoom = 1 << 20
 )
 
 // errNoRoom says why no command is recorded.
@@ -81,18 +83,35 @@ func allocate(file *os.File) error {
 	return nil
 }
 
-// keepReserve makes the reserve if it isn't there, and refuses commands otherwise. It tries once a second.
+// leaveSpare demands room for the next command besides the reserve, if that was freed since the disk was full: the reserve may take up
+// all that is left, and then each command would fail at the office, and end the replay.
+func (r *Record) leaveSpare() {
+	_, err := os.Stat(filepath.Join(r.dir, reserveName))
+	r.mutex.Lock()
+	defer r.mutex.Unlock()
+	if errors.Is(err, os.ErrNotExist) && r.head.n > 1 {
+		r.spare = spareRoom
+	}
+}
+
+// keepReserve makes the reserve if it isn't there, and refuses commands without it or without room besides. It tries once a second.
 func (r *Record) keepReserve() error {
-	if r.hasReserve || !r.keepsReserve {
+	if r.hasReserve && r.spare == 0 || !r.keepsReserve {
 		return nil
 	}
 	if time.Since(r.triedReserve) < reservePause {
 		return errNoRoom
 	}
 	r.triedReserve = time.Now()
-	if err := makeReserve(r.dir, r.besides); err != nil {
-		return err
+	if !r.hasReserve {
+		if err := makeReserve(r.dir, r.besides); err != nil {
+			return err
+		}
+		r.hasReserve = true
 	}
-	r.hasReserve = true
+	if free, err := disk.Free(r.dir); err == nil && free < r.spare {
+		return errNoRoom
+	}
+	r.spare = 0
 	return nil
 }
