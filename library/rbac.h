@@ -19,7 +19,8 @@
  * - The thread has 128 KiB of stack left.
  *
  * A text is bytes with a length: it needs no zero at its end, and gets none. A pointer to a text may be null if its length
- * is 0. Any other null pointer is refused with RBAC_NULL, and nothing is done.
+ * is 0. Any other null pointer is refused with RBAC_NULL, and nothing is done. Behind what a call writes, the array `out` and the
+ * rows stay as they were; they stay altogether if the call is refused.
  */
 #ifndef RBAC_H
 #define RBAC_H

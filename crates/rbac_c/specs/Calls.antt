@@ -1,5 +1,5 @@
 -- What a call from C returns and leaves.
-use Rattle.std.specs.Prelude.{◌≡◌, ◌⊎◌, ◌<◌, ◌≤◌, ◌+◌, ◌^◌, ◌-ℤ◌, ℤ, pos, Bool, true, false, ℕ, List, [], ◌∷◌, length, map, take, Option, Some, None}
+use Rattle.std.specs.Prelude.{◌≡◌, ◌⊎◌, ◌<◌, ◌≤◌, ◌+◌, ◌^◌, ◌-ℤ◌, ℤ, pos, Bool, true, false, ℕ, List, [], ◌∷◌, ◌++◌, length, map, drop, Option, Some, None}
 use Rattle.std.specs.List.{flat_map}
 use Rattle.rbac_sets.specs.Refusal.{code_of}
 use Rattle.rbac_sets.specs.Table.{number_of}
@@ -14,30 +14,35 @@ use Rattle.role_lines.specs.StoredRow.{HasNames, IsRowAt, Parts, names_in, row_w
 use Rattle.rbac_c.specs.declared.calls.TheConstants.{DONE, BAD_NAME, MEMORY, CLOSED, SHORT, ABSENT}
 use Rattle.rbac_c.specs.declared.calls.RowLengths.{RowLengths}
 
--- the text stands at the beginning of the buffer, or the buffer is shorter than the text; either way this is the text's length
-abbrev pub Copies : List ℕ → List ℕ → ℕ → ℕ → Type 0
-Copies text out count code =
-    (count ≡ length text)
-    × (((code ≡ DONE) × (take (length text) out ≡ text))
-    ⊎ ((code ≡ SHORT) × (length out < length text)))
+-- a list of which these come first, and what was behind them stays
+abbrev pub over : {A : Type 0} → List A → List A → List A
+over written before = written ++ drop (length written) before
+
+-- the text is written to the beginning of the buffer, and what was behind it stays; or the text is longer than the buffer, which stays
+abbrev pub Writes : List ℕ → (before out : List ℕ) → ℕ → Type 0
+Writes text before out code = ((code ≡ DONE) × (out ≡ over text before)) ⊎ ((code ≡ SHORT) × ((out ≡ before) × (length out < length text)))
+
+-- the text is written, if it is short enough, and so is its length
+abbrev pub Copies : List ℕ → (before out : List ℕ) → ℕ → ℕ → Type 0
+Copies text before out count code = (count ≡ length text) × Writes text before out code
 
 -- The handle has an office, which answers the line, and the answer is copied. If an allocation failed, the line was done, or nothing
 -- was, and the office keeps no answer.
-abbrev pub AnswersIn : OfficeInMemory → OfficeInMemory → List ℕ → List ℕ → ℕ → ℕ → Type 0
-AnswersIn old new line out count code =
-    ((new ≡ after old line) × Copies new.kept out count code)
-    ⊎ ((code ≡ MEMORY) × ((count ≡ 0) × StopsAt old line new))
+abbrev pub AnswersIn : OfficeInMemory → OfficeInMemory → List ℕ → (before out : List ℕ) → ℕ → ℕ → Type 0
+AnswersIn old new line before out count code =
+    ((new ≡ after old line) × Copies new.kept before out count code)
+    ⊎ ((code ≡ MEMORY) × ((count ≡ 0) × ((out ≡ before) × StopsAt old line new)))
 
 -- the same for a handle: one without an office has none afterwards
-abbrev pub AnswersCall : Option OfficeInMemory → Option OfficeInMemory → List ℕ → List ℕ → ℕ → ℕ → Type 0
-AnswersCall None new line out count code = (new ≡ None) × ((count ≡ 0) × (code ≡ CLOSED))
-AnswersCall (Some old) None line out count code = ⊥
-AnswersCall (Some old) (Some new) line out count code = AnswersIn old new line out count code
+abbrev pub AnswersCall : Option OfficeInMemory → Option OfficeInMemory → List ℕ → (before out : List ℕ) → ℕ → ℕ → Type 0
+AnswersCall None new line before out count code = (new ≡ None) × ((count ≡ 0) × ((code ≡ CLOSED) × (out ≡ before)))
+AnswersCall (Some old) None line before out count code = ⊥
+AnswersCall (Some old) (Some new) line before out count code = AnswersIn old new line before out count code
 
 -- the answer that the office keeps is copied
-abbrev pub CopiesKept : Option OfficeInMemory → List ℕ → ℕ → ℕ → Type 0
-CopiesKept None out count code = (count ≡ 0) × (code ≡ CLOSED)
-CopiesKept (Some office) out count code = Copies office.kept out count code
+abbrev pub CopiesKept : Option OfficeInMemory → (before out : List ℕ) → ℕ → ℕ → Type 0
+CopiesKept None before out count code = (count ≡ 0) × ((code ≡ CLOSED) × (out ≡ before))
+CopiesKept (Some office) before out count code = Copies office.kept before out count code
 
 -- the decision about a holder, which is a user or a session
 abbrev pub IsDecided : OfficeInMemory → (of_user : Bool) → List ℕ → List ℕ → List ℕ → Bool → Type 0
@@ -70,19 +75,20 @@ IsAbsent office table index = (COUNT ≤ table) ⊎ ((t : Table) × ((number_of 
 abbrev pub HasRow : OfficeInMemory → ℕ → ℕ → Parts → Type 0
 HasRow office table index row = (t : Table) × ((number_of t ≡ table) × IsRowAt office.facts t index (Some row))
 
--- the names of the row are copied, one after the other, unless the buffer is shorter, and their lengths are written
-abbrev pub CopiesParts : Parts → List ℕ → RowLengths → ℕ → Type 0
-CopiesParts row out lengths code =
-    (lengths ≡ lengths_of row)
-    × (((code ≡ DONE) × (take (length (names_in row)) out ≡ names_in row))
-    ⊎ ((code ≡ SHORT) × (length out < length (names_in row))))
+-- what a caller lends for names, and for their lengths: of one row, or of each
+abbrev pub Buffers : Type 0 → Type 0
+Buffers L = List ℕ × L
+
+-- the names of the row are written, one after the other, if they are short enough, and so are their lengths
+abbrev pub CopiesParts : Parts → (before now : Buffers RowLengths) → ℕ → Type 0
+CopiesParts row before now code = (now.1 ≡ lengths_of row) × Writes (names_in row) before.0 now.0 code
 
 -- a row is copied, or there is none
-abbrev pub CopiesRow : Option OfficeInMemory → ℕ → ℕ → List ℕ → RowLengths → ℕ → Type 0
-CopiesRow None table index out lengths code = code ≡ CLOSED
-CopiesRow (Some office) table index out lengths code =
-    ((row : Parts) × (HasRow office table index row × CopiesParts row out lengths code))
-    ⊎ ((code ≡ ABSENT) × IsAbsent office table index)
+abbrev pub CopiesRow : Option OfficeInMemory → ℕ → ℕ → (before now : Buffers RowLengths) → ℕ → Type 0
+CopiesRow None table index before now code = (code ≡ CLOSED) × (now ≡ before)
+CopiesRow (Some office) table index before now code =
+    ((row : Parts) × (HasRow office table index row × CopiesParts row before now code))
+    ⊎ ((code ≡ ABSENT) × ((now ≡ before) × IsAbsent office table index))
 
 -- these are the rows from this place on, of those that `is_at` has at its places
 abbrev pub AreRowsAt : (is_at : ℕ → Option Parts → Type 0) → ℕ → List Parts → Type 0
@@ -93,25 +99,25 @@ AreRowsAt is_at index (row ∷ rows) = is_at index (Some row) × AreRowsAt is_at
 abbrev pub IsPast : (is_at : ℕ → Option Parts → Type 0) → ℕ → Type 0
 IsPast is_at index = (2 ^ 64 ≤ index) ⊎ is_at index None
 
--- These rows, from this place on, are copied: their names, one after the other, and their lengths. There is no further row, or no room
--- for its names or for its lengths.
-pub record CopiesFrom (is_at : ℕ → Option Parts → Type 0) (index : ℕ) (out : List ℕ) (lengths : List RowLengths) (rows : List Parts) : Type 0 where
+-- These rows, from this place on, are copied: their names, one after the other, and their lengths. What is behind them in both buffers
+-- stays. There is no further row, or no room for its names or for its lengths.
+pub record CopiesFrom (is_at : ℕ → Option Parts → Type 0) (index : ℕ) (before now : Buffers (List RowLengths)) (rows : List Parts) : Type 0 where
   pub are : AreRowsAt is_at index rows
-  pub names : take (length (flat_map names_in rows)) out ≡ flat_map names_in rows
-  pub lengths_are : take (length rows) lengths ≡ map lengths_of rows
-  pub last : (length rows ≡ length lengths) ⊎ (IsPast is_at (index + length rows)
-      ⊎ ((row : Parts) × (is_at (index + length rows) (Some row) × (length out < length (flat_map names_in rows) + length (names_in row)))))
+  pub names : now.0 ≡ over (flat_map names_in rows) before.0
+  pub lengths_are : now.1 ≡ over (map lengths_of rows) before.1
+  pub last : (length rows ≡ length now.1) ⊎ (IsPast is_at (index + length rows)
+      ⊎ ((row : Parts) × (is_at (index + length rows) (Some row) × (length now.0 < length (flat_map names_in rows) + length (names_in row)))))
 
 -- so many rows are copied
-abbrev pub CopiesSome : (is_at : ℕ → Option Parts → Type 0) → ℕ → List ℕ → List RowLengths → ℕ → Type 0
-CopiesSome is_at index out lengths count = (rows : List Parts) × ((count ≡ length rows) × CopiesFrom is_at index out lengths rows)
+abbrev pub CopiesSome : (is_at : ℕ → Option Parts → Type 0) → ℕ → (before now : Buffers (List RowLengths)) → ℕ → Type 0
+CopiesSome is_at index before now count = (rows : List Parts) × ((count ≡ length rows) × CopiesFrom is_at index before now rows)
 
 -- so many rows of the table are copied, or there is no such table
-abbrev pub CopiesRows : Option OfficeInMemory → ℕ → ℕ → List ℕ → List RowLengths → ℕ → ℕ → Type 0
-CopiesRows None table index out lengths count code = (count ≡ 0) × (code ≡ CLOSED)
-CopiesRows (Some office) table index out lengths count code =
-    ((t : Table) × ((number_of t ≡ table) × ((code ≡ DONE) × CopiesSome (IsRowAt office.facts t) index out lengths count)))
-    ⊎ ((count ≡ 0) × ((code ≡ ABSENT) × (COUNT ≤ table)))
+abbrev pub CopiesRows : Option OfficeInMemory → ℕ → ℕ → (before now : Buffers (List RowLengths)) → ℕ → ℕ → Type 0
+CopiesRows None table index before now count code = (count ≡ 0) × ((code ≡ CLOSED) × (now ≡ before))
+CopiesRows (Some office) table index before now count code =
+    ((t : Table) × ((number_of t ≡ table) × ((code ≡ DONE) × CopiesSome (IsRowAt office.facts t) index before now count)))
+    ⊎ ((count ≡ 0) × ((code ≡ ABSENT) × ((now ≡ before) × (COUNT ≤ table))))
 
 -- the row is added, or the office is the same: one of the row's names isn't a name, there is no such table, or an allocation failed
 abbrev pub AddsRowIn : OfficeInMemory → OfficeInMemory → ℕ → Parts → ℕ → Type 0

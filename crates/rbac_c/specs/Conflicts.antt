@@ -14,7 +14,7 @@ use Rattle.explanations.specs.Conflicts.{activation_refused, assignment_refused,
 use Rattle.role_lines.specs.Decision.{IsNameText}
 use Rattle.role_lines.specs.OfficeInMemory.{OfficeInMemory}
 use Rattle.role_lines.specs.StoredRow.{name_at, pair_at}
-use Rattle.rbac_c.specs.Calls.{CopiesSome}
+use Rattle.rbac_c.specs.Calls.{Buffers, CopiesSome}
 use Rattle.rbac_c.specs.declared.calls.RowLengths.{RowLengths}
 use Rattle.rbac_c.specs.declared.calls.TheConstants.{DONE, CLOSED}
 
@@ -85,43 +85,43 @@ module _ (S : RbacState) (user : List ℕ) (texts : List (List ℕ)) where
 -- ---- what is copied
 
 -- the names from this place on are copied, and this is how many there are in all
-abbrev pub CopiesNames : List Bytes → ℕ → List ℕ → List RowLengths → ℕ → ℕ → Type 0
-CopiesNames names index out lengths count total = (total ≡ length names) × CopiesSome (λ place row. row ≡ name_at names place) index out lengths count
+abbrev pub CopiesNames : List Bytes → ℕ → (before now : Buffers (List RowLengths)) → ℕ → ℕ → Type 0
+CopiesNames names index before now count total = (total ≡ length names) × CopiesSome (λ place row. row ≡ name_at names place) index before now count
 
 -- the same for pairs of names
-abbrev pub CopiesPairs : List Pair → ℕ → List ℕ → List RowLengths → ℕ → ℕ → Type 0
-CopiesPairs pairs index out lengths count total = (total ≡ length pairs) × CopiesSome (λ place row. row ≡ pair_at pairs place) index out lengths count
+abbrev pub CopiesPairs : List Pair → ℕ → (before now : Buffers (List RowLengths)) → ℕ → ℕ → Type 0
+CopiesPairs pairs index before now count total = (total ≡ length pairs) × CopiesSome (λ place row. row ≡ pair_at pairs place) index before now count
 
 -- nothing is copied, for this reason
-abbrev pub CopiesNothing : ℕ → ℕ → ℕ → ℕ → Type 0
-CopiesNothing reason count total code = (count ≡ 0) × ((total ≡ 0) × (code ≡ reason))
+abbrev pub CopiesNothing : ℕ → (before now : Buffers (List RowLengths)) → ℕ → ℕ → ℕ → Type 0
+CopiesNothing reason before now count total code = (now ≡ before) × ((count ≡ 0) × ((total ≡ 0) × (code ≡ reason)))
 
 -- the sets that an assignment would violate are copied from this place on, or the question is refused
-abbrev pub CopiesAssignment : Option OfficeInMemory → List ℕ → List ℕ → ℕ → List ℕ → List RowLengths → ℕ → ℕ → ℕ → Type 0
-CopiesAssignment None user role index out lengths count total code = CopiesNothing CLOSED count total code
-CopiesAssignment (Some office) user role index out lengths count total code =
-    ((names : List Bytes) × (ViolatesSets office.facts user role names × ((code ≡ DONE) × CopiesNames names index out lengths count total)))
-    ⊎ ((refusal : Refusal) × (RefusesAssignment office.facts user role refusal × CopiesNothing (code_of refusal) count total code))
+abbrev pub CopiesAssignment : Option OfficeInMemory → List ℕ → List ℕ → ℕ → (before now : Buffers (List RowLengths)) → ℕ → ℕ → ℕ → Type 0
+CopiesAssignment None user role index before now count total code = CopiesNothing CLOSED before now count total code
+CopiesAssignment (Some office) user role index before now count total code =
+    ((names : List Bytes) × (ViolatesSets office.facts user role names × ((code ≡ DONE) × CopiesNames names index before now count total)))
+    ⊎ ((refusal : Refusal) × (RefusesAssignment office.facts user role refusal × CopiesNothing (code_of refusal) before now count total code))
 
 -- the same for an activation
-abbrev pub CopiesActivation : Option OfficeInMemory → List ℕ → List ℕ → List ℕ → ℕ → List ℕ → List RowLengths → ℕ → ℕ → ℕ → Type 0
-CopiesActivation None user session role index out lengths count total code = CopiesNothing CLOSED count total code
-CopiesActivation (Some office) user session role index out lengths count total code =
+abbrev pub CopiesActivation : Option OfficeInMemory → List ℕ → List ℕ → List ℕ → ℕ → (before now : Buffers (List RowLengths)) → ℕ → ℕ → ℕ → Type 0
+CopiesActivation None user session role index before now count total code = CopiesNothing CLOSED before now count total code
+CopiesActivation (Some office) user session role index before now count total code =
     ((names : List Bytes)
-    × (ViolatesInSession office.facts user session role names × ((code ≡ DONE) × CopiesNames names index out lengths count total)))
-    ⊎ ((refusal : Refusal) × (RefusesActivation office.facts user session role refusal × CopiesNothing (code_of refusal) count total code))
+    × (ViolatesInSession office.facts user session role names × ((code ≡ DONE) × CopiesNames names index before now count total)))
+    ⊎ ((refusal : Refusal) × (RefusesActivation office.facts user session role refusal × CopiesNothing (code_of refusal) before now count total code))
 
 -- the same for an inheritance: each set, and who violates it
-abbrev pub CopiesInheritance : Option OfficeInMemory → (of_sessions : Bool) → List ℕ → List ℕ → ℕ → List ℕ → List RowLengths → ℕ → ℕ → ℕ → Type 0
-CopiesInheritance None of_sessions asc desc index out lengths count total code = CopiesNothing CLOSED count total code
-CopiesInheritance (Some office) of_sessions asc desc index out lengths count total code =
+abbrev pub CopiesInheritance : Option OfficeInMemory → (of_sessions : Bool) → List ℕ → List ℕ → ℕ → (before now : Buffers (List RowLengths)) → ℕ → ℕ → ℕ → Type 0
+CopiesInheritance None of_sessions asc desc index before now count total code = CopiesNothing CLOSED before now count total code
+CopiesInheritance (Some office) of_sessions asc desc index before now count total code =
     ((pairs : List Pair)
-    × (ViolatesByInheritance office.facts asc desc of_sessions pairs × ((code ≡ DONE) × CopiesPairs pairs index out lengths count total)))
-    ⊎ ((refusal : Refusal) × (RefusesInheritance office.facts asc desc refusal × CopiesNothing (code_of refusal) count total code))
+    × (ViolatesByInheritance office.facts asc desc of_sessions pairs × ((code ≡ DONE) × CopiesPairs pairs index before now count total)))
+    ⊎ ((refusal : Refusal) × (RefusesInheritance office.facts asc desc refusal × CopiesNothing (code_of refusal) before now count total code))
 
 -- the same for a new session: each set, and a role of it that the session would have
-abbrev pub CopiesCreation : Option OfficeInMemory → List ℕ → List (List ℕ) → ℕ → List ℕ → List RowLengths → ℕ → ℕ → ℕ → Type 0
-CopiesCreation None user texts index out lengths count total code = CopiesNothing CLOSED count total code
-CopiesCreation (Some office) user texts index out lengths count total code =
-    ((pairs : List Pair) × (ViolatesByCreation office.facts user texts pairs × ((code ≡ DONE) × CopiesPairs pairs index out lengths count total)))
-    ⊎ ((refusal : Refusal) × (RefusesCreation office.facts user texts refusal × CopiesNothing (code_of refusal) count total code))
+abbrev pub CopiesCreation : Option OfficeInMemory → List ℕ → List (List ℕ) → ℕ → (before now : Buffers (List RowLengths)) → ℕ → ℕ → ℕ → Type 0
+CopiesCreation None user texts index before now count total code = CopiesNothing CLOSED before now count total code
+CopiesCreation (Some office) user texts index before now count total code =
+    ((pairs : List Pair) × (ViolatesByCreation office.facts user texts pairs × ((code ≡ DONE) × CopiesPairs pairs index before now count total)))
+    ⊎ ((refusal : Refusal) × (RefusesCreation office.facts user texts refusal × CopiesNothing (code_of refusal) before now count total code))

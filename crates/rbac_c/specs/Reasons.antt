@@ -10,7 +10,7 @@ use Rattle.explanations.specs.UserReasons.{IsUserReason, UserReasonContent, Lock
 use Rattle.role_lines.specs.Decision.{Refuses, RefusesUser}
 use Rattle.role_lines.specs.OfficeInMemory.{OfficeInMemory}
 use Rattle.role_lines.specs.StoredRow.{Parts, parts}
-use Rattle.rbac_c.specs.Calls.{CopiesParts}
+use Rattle.rbac_c.specs.Calls.{Buffers, CopiesParts}
 use Rattle.rbac_c.specs.declared.calls.RowLengths.{RowLengths}
 use Rattle.rbac_c.specs.declared.calls.TheConstants.{CLOSED}
 use Rattle.rbac_c.specs.declared.explaining.TheConstants.{ALLOWED, LOCKED, NOT_GRANTED, NOT_AUTHORIZED, SEPARATED, NOT_ACTIVE}
@@ -29,11 +29,11 @@ pub record HasUserReason (S : RbacState) (user operation object : List ℕ) (rea
   pub reason_is : IsUserReason S user operation object reason
 
 -- the reason is copied, or the question is refused
-abbrev pub ExplainsUser : Option OfficeInMemory → List ℕ → List ℕ → List ℕ → List ℕ → RowLengths → ℕ → Type 0
-ExplainsUser None user operation object out lengths code = code ≡ CLOSED
-ExplainsUser (Some office) user operation object out lengths code =
-    ((reason : UserReasonContent) × (HasUserReason office.facts user operation object reason × CopiesParts (reason_parts reason) out lengths code))
-    ⊎ ((refusal : Refusal) × (RefusesUser office.facts user operation object refusal × (code ≡ code_of refusal)))
+abbrev pub ExplainsUser : Option OfficeInMemory → List ℕ → List ℕ → List ℕ → (before now : Buffers RowLengths) → ℕ → Type 0
+ExplainsUser None user operation object before now code = (code ≡ CLOSED) × (now ≡ before)
+ExplainsUser (Some office) user operation object before now code =
+    ((reason : UserReasonContent) × (HasUserReason office.facts user operation object reason × CopiesParts (reason_parts reason) before now code))
+    ⊎ ((refusal : Refusal) × (RefusesUser office.facts user operation object refusal × ((code ≡ code_of refusal) × (now ≡ before))))
 
 -- ---- about a session
 
@@ -49,8 +49,8 @@ pub record HasSessionReason (S : RbacState) (session operation object : List ℕ
   pub reason_is : IsSessionReason S session operation object reason
 
 -- the reason is copied, or the question is refused
-abbrev pub ExplainsSession : Option OfficeInMemory → List ℕ → List ℕ → List ℕ → List ℕ → RowLengths → ℕ → Type 0
-ExplainsSession None session operation object out lengths code = code ≡ CLOSED
-ExplainsSession (Some office) session operation object out lengths code =
-    ((reason : SessionReasonContent) × (HasSessionReason office.facts session operation object reason × CopiesParts (session_reason_parts reason) out lengths code))
-    ⊎ ((refusal : Refusal) × (Refuses office.facts session operation object refusal × (code ≡ code_of refusal)))
+abbrev pub ExplainsSession : Option OfficeInMemory → List ℕ → List ℕ → List ℕ → (before now : Buffers RowLengths) → ℕ → Type 0
+ExplainsSession None session operation object before now code = (code ≡ CLOSED) × (now ≡ before)
+ExplainsSession (Some office) session operation object before now code =
+    ((reason : SessionReasonContent) × (HasSessionReason office.facts session operation object reason × CopiesParts (session_reason_parts reason) before now code))
+    ⊎ ((refusal : Refusal) × (Refuses office.facts session operation object refusal × ((code ≡ code_of refusal) × (now ≡ before))))

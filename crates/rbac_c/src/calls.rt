@@ -1,4 +1,5 @@
-//! The functions that C calls. library/rbac.h says in words what each does.
+//! The functions that C calls. library/rbac.h says in words what each does. What stands in a buffer behind that which a call
+//! writes stays, and so does all of it if the call is refused.
 ghost use base.Fml.{Lft, Share};
 ghost use types.Logic.{sem};
 ghost use Rattle.std.specs.Prelude.{◌≡◌, ◌⊎◌, ◌<◌, Some, None, IfOk, IfErr, length, take};
@@ -89,7 +90,7 @@ pub extern "C" fn rbac_office_answer(
     out: &mut [u8],
     count: &mut usize,
 ) -> u32
-    ensures { AnswersCall office.old.office office.new.office line.now out.new count.new result }
+    ensures { AnswersCall office.old.office office.new.office line.now out.old out.new count.new result }
 {
     *count = 0;
     match replace(office, OfficeHandle::none()).into_box(alloc) {
@@ -111,7 +112,7 @@ pub extern "C" fn rbac_office_kept_answer(
     count: &mut usize,
 ) -> u32
     ensures keeps { office.new.office ≡ office.old.office }
-    ensures copies { CopiesKept office.old.office out.new count.new result }
+    ensures copies { CopiesKept office.old.office out.old out.new count.new result }
 {
     *count = 0;
     match replace(office, OfficeHandle::none()).into_box(alloc) {
@@ -173,7 +174,7 @@ pub extern "C" fn rbac_office_explain_user(
     lengths: &mut RowLengths,
 ) -> u32
     ensures keeps { office.new.office ≡ office.old.office }
-    ensures explains { ExplainsUser office.old.office user.now operation.now object.now out.new lengths.new result }
+    ensures explains { ExplainsUser office.old.office user.now operation.now object.now (out.old, lengths.old) (out.new, lengths.new) result }
 {
     match replace(office, OfficeHandle::none()).into_box(alloc) {
         Some(held) => {
@@ -197,7 +198,7 @@ pub extern "C" fn rbac_office_explain_session(
     lengths: &mut RowLengths,
 ) -> u32
     ensures keeps { office.new.office ≡ office.old.office }
-    ensures explains { ExplainsSession office.old.office session.now operation.now object.now out.new lengths.new result }
+    ensures explains { ExplainsSession office.old.office session.now operation.now object.now (out.old, lengths.old) (out.new, lengths.new) result }
 {
     match replace(office, OfficeHandle::none()).into_box(alloc) {
         Some(held) => {
@@ -226,7 +227,7 @@ pub extern "C" fn rbac_office_assignment_conflicts(
     total: &mut usize,
 ) -> u32
     ensures keeps { office.new.office ≡ office.old.office }
-    ensures copies { CopiesAssignment office.old.office user.now role.now index out.new lengths.new count.new total.new result }
+    ensures copies { CopiesAssignment office.old.office user.now role.now index (out.old, lengths.old) (out.new, lengths.new) count.new total.new result }
 {
     *count = 0;
     *total = 0;
@@ -259,7 +260,7 @@ pub extern "C" fn rbac_office_activation_conflicts(
     total: &mut usize,
 ) -> u32
     ensures keeps { office.new.office ≡ office.old.office }
-    ensures copies { CopiesActivation office.old.office user.now session.now role.now index out.new lengths.new count.new total.new result }
+    ensures copies { CopiesActivation office.old.office user.now session.now role.now index (out.old, lengths.old) (out.new, lengths.new) count.new total.new result }
 {
     *count = 0;
     *total = 0;
@@ -292,7 +293,7 @@ pub extern "C" fn rbac_office_inheritance_conflicts(
     total: &mut usize,
 ) -> u32
     ensures keeps { office.new.office ≡ office.old.office }
-    ensures copies { CopiesInheritance office.old.office of_sessions asc.now desc.now index out.new lengths.new count.new total.new result }
+    ensures copies { CopiesInheritance office.old.office of_sessions asc.now desc.now index (out.old, lengths.old) (out.new, lengths.new) count.new total.new result }
 {
     *count = 0;
     *total = 0;
@@ -335,7 +336,7 @@ pub extern "C" fn rbac_office_creation_conflicts(
     total: &mut usize,
 ) -> u32
     ensures keeps { office.new.office ≡ office.old.office }
-    ensures copies { CopiesCreation office.old.office user.now (divided roles.now role_lengths.now) index out.new lengths.new count.new total.new result }
+    ensures copies { CopiesCreation office.old.office user.now (divided roles.now role_lengths.now) index (out.old, lengths.old) (out.new, lengths.new) count.new total.new result }
 {
     *count = 0;
     *total = 0;
@@ -398,7 +399,7 @@ pub extern "C" fn rbac_office_row(
     lengths: &mut RowLengths,
 ) -> u32
     ensures keeps { office.new.office ≡ office.old.office }
-    ensures copies { CopiesRow office.old.office table index out.new lengths.new result }
+    ensures copies { CopiesRow office.old.office table index (out.old, lengths.old) (out.new, lengths.new) result }
 {
     match replace(office, OfficeHandle::none()).into_box(alloc) {
         Some(held) => {
@@ -423,7 +424,7 @@ pub extern "C" fn rbac_office_rows(
     count: &mut usize,
 ) -> u32
     ensures keeps { office.new.office ≡ office.old.office }
-    ensures copies { CopiesRows office.old.office table index out.new lengths.new count.new result }
+    ensures copies { CopiesRows office.old.office table index (out.old, lengths.old) (out.new, lengths.new) count.new result }
 {
     *count = 0;
     match replace(office, OfficeHandle::none()).into_box(alloc) {
@@ -491,7 +492,7 @@ fn answer(
     out: &mut [u8],
     count: &mut usize,
 ) -> u32
-    ensures { AnswersCall (Some office.old) (Some office.new) line.now out.new count.new result }
+    ensures { AnswersCall (Some office.old) (Some office.new) line.now out.old out.new count.new result }
 {
     *count = 0;
     match office.answer(alloc, line) {
@@ -551,7 +552,7 @@ fn explain_user(
     out: &mut [u8],
     lengths: &mut RowLengths,
 ) -> u32
-    ensures { ExplainsUser (Some office.now) user.now operation.now object.now out.new lengths.new result }
+    ensures { ExplainsUser (Some office.now) user.now operation.now object.now (out.old, lengths.old) (out.new, lengths.new) result }
 {
     match user_reason(office.state(), user, operation, object) {
         Ok(reason) => copy_row(&reason_row(&reason), out, lengths),
@@ -568,7 +569,7 @@ fn explain_session(
     out: &mut [u8],
     lengths: &mut RowLengths,
 ) -> u32
-    ensures { ExplainsSession (Some office.now) session.now operation.now object.now out.new lengths.new result }
+    ensures { ExplainsSession (Some office.now) session.now operation.now object.now (out.old, lengths.old) (out.new, lengths.new) result }
 {
     match session_reason(office.state(), session, operation, object) {
         Ok(reason) => copy_row(&session_reason_row(&reason), out, lengths),
@@ -605,7 +606,7 @@ fn row(
     out: &mut [u8],
     lengths: &mut RowLengths,
 ) -> u32
-    ensures { CopiesRow (Some office.now) table index out.new lengths.new result }
+    ensures { CopiesRow (Some office.now) table index (out.old, lengths.old) (out.new, lengths.new) result }
 {
     let Some(table) = table_numbered(table) else {
         return ABSENT;
@@ -625,7 +626,7 @@ fn rows(
     lengths: &mut [RowLengths],
     count: &mut usize,
 ) -> u32
-    ensures { CopiesRows (Some office.now) table index out.new lengths.new count.new result }
+    ensures { CopiesRows (Some office.now) table index (out.old, lengths.old) (out.new, lengths.new) count.new result }
 {
     let Some(table) = table_numbered(table) else {
         *count = 0;

@@ -1,5 +1,5 @@
 //! Texts and rows that are copied into the buffers of a caller.
-ghost use Rattle.std.specs.Prelude.{◌≡◌, ◌≤◌, ◌+◌, ◌↔◌, IsTrue, Some, IfSome, IfNone, option_map, length, take, ◌++◌};
+ghost use Rattle.std.specs.Prelude.{◌≡◌, ◌≤◌, ◌+◌, ◌↔◌, IsTrue, Some, IfSome, IfNone, option_map, length, take, drop, ◌++◌};
 ghost use Rattle.role_lines.specs.RowParts.{parts_of};
 ghost use Rattle.role_lines.specs.StoredRow.{name_at, names_in, pair_at};
 ghost use Rattle.rbac_c.specs.Calls.{Copies, CopiesParts, CopiesSome, IsPast, lengths_of};
@@ -23,7 +23,7 @@ pub(crate) enum Rows<'a> {
 
 // Copies a text into the buffer, if it is long enough, and writes the length of the text.
 pub(crate) fn copy(text: &[u8], out: &mut [u8], count: &mut usize) -> u32
-    ensures { Copies text.now out.new count.new result }
+    ensures { Copies text.now out.old out.new count.new result }
 {
     *count = text.len();
     if out.len() < text.len() {
@@ -35,7 +35,7 @@ pub(crate) fn copy(text: &[u8], out: &mut [u8], count: &mut usize) -> u32
 
 // Copies a row.
 pub(crate) fn copy_row(row: &RowParts<'_>, out: &mut [u8], lengths: &mut RowLengths) -> u32
-    ensures { CopiesParts (parts_of row.now) out.new lengths.new result }
+    ensures { CopiesParts (parts_of row.now) (out.old, lengths.old) (out.new, lengths.new) result }
 {
     *lengths = row_lengths(row);
     if !fits(row, out.len()) {
@@ -52,7 +52,7 @@ pub(crate) fn copy_rows(
     out: &mut [u8],
     lengths: &mut [RowLengths],
 ) -> usize
-    ensures { CopiesSome (row_of rows.entry) index out.new lengths.new result }
+    ensures { CopiesSome (row_of rows.entry) index (out.old, lengths.old) (out.new, lengths.new) result }
 {
     let mut at = 0;
     let mut count = 0;
@@ -142,6 +142,7 @@ fn put_row(row: &RowParts<'_>, out: &mut [u8], at: usize) -> usize
     requires { at + length (names_in (parts_of row.now)) ≤ length out.old }
     ensures end { result ≡ at + length (names_in (parts_of row.now)) }
     ensures names { take result out.new ≡ take at out.old ++ names_in (parts_of row.now) }
+    ensures behind { drop result out.new ≡ drop result out.old }
 {
     let second = put(row.first, out, at);
     let third = put(row.second, out, second);
@@ -153,6 +154,7 @@ fn put(text: &[u8], out: &mut [u8], at: usize) -> usize
     requires { at + length text.now ≤ length out.old }
     ensures end { result ≡ at + length text.now }
     ensures text { take result out.new ≡ take at out.old ++ text.now }
+    ensures behind { drop result out.new ≡ drop result out.old }
 {
     let end = at + text.len();
     out[at..end].copy_from_slice(text);
