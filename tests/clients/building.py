@@ -135,6 +135,7 @@ VERSIONS = {
 }
 
 
+@pytest.mark.gate
 @pytest.mark.needs("mypy", "black")
 def check_python_form(bench):
     """mypy finds nothing with --strict, and black changes nothing."""
@@ -153,6 +154,7 @@ def check_python_form(bench):
     bench.same("what black would change", run("black", "-q", "--check", "-l", WIDTH, *sources), (0, ""))
 
 
+@pytest.mark.gate
 @pytest.mark.needs("go")
 def check_go_form(bench):
     """gofmt changes nothing, and `go vet` finds nothing in the client, its driver and its example."""
@@ -172,6 +174,7 @@ def asked(bench, what, *command, **more):
         bench.same(what, (status, said.splitlines(keepends=True)[-1:]), (0, [PRINTED]))
 
 
+@pytest.mark.gate
 @pytest.mark.needs("mypy", "pip")
 def check_python_installed(bench):
     """pip installs the client into a new environment, without a network, and its types come with it."""
@@ -192,6 +195,7 @@ def check_python_installed(bench):
     bench.same("what mypy finds in a program that uses it", (found[0], found[1].partition(":")[0]), (0, "Success"))
 
 
+@pytest.mark.gate
 @pytest.mark.needs("go")
 def check_go_installed(bench):
     """A new module gets the client by a replace, without a network."""
@@ -282,6 +286,7 @@ def check_java_form(bench):
 ALWAYS = ("package.json", "README.md", "LICENSE")
 
 
+@pytest.mark.gate
 @pytest.mark.needs("node", "tsc")
 def check_node_installed(bench):
     """The files that package.json names are enough, in a folder as npm installs them. TypeScript finds the types there."""
@@ -309,6 +314,7 @@ def maven(folder, *words):
     return run("mvn", "-o", "-q", "-B", "-s", "../settings.xml", *words, cwd=folder)
 
 
+@pytest.mark.gate
 @pytest.mark.needs("mvn", "javac", "junit")
 def check_java_installed(bench):
     """Maven builds and installs the client from Debian's repository, and javac finds it there. Its tests are run by tests/native."""

@@ -66,6 +66,7 @@ def check_races(bench):
     judge(bench, events, others)
 
 
+@pytest.mark.gate
 @pytest.mark.xdist_group("go")
 def check_form(bench):
     """gofmt would change nothing, and `go vet` finds nothing."""

@@ -3,6 +3,8 @@
 from library.building import TOP
 from program.bench import TESTS
 
+import pytest
+
 from clients.building import run
 
 from .driving import go_environment
@@ -10,6 +12,7 @@ from .driving import go_environment
 FOLDERS = [TOP / "clients/go/rbacreplica", TESTS / "replica/drivers/go"]
 
 
+@pytest.mark.gate
 def check_go_form(bench):
     """gofmt changes nothing, and `go vet` finds nothing."""
     for folder in FOLDERS:
