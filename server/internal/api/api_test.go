@@ -9,7 +9,6 @@ import (
 	"time"
 
 	"rbac-node/internal/boottime"
-	"rbac-node/internal/office"
 )
 
 // The time of an answer is not after that of its age, if the process is paused before the answer is written.
@@ -47,7 +46,7 @@ func TestRead(t *testing.T) {
 		{"POST", "/v1/addUser", `{"user":"` + strings.Repeat("a", MaxBodyBytes) + `"}`, http.StatusRequestEntityTooLarge},
 		{"POST", "/v1/addUser", `{"user":"` + strings.Repeat("a", MaxBodyBytes-11) + `"}`, http.StatusRequestEntityTooLarge},
 		{"POST", "/v1/importAssignments", strings.Repeat("a", MaxBodyBytes+1), http.StatusRequestEntityTooLarge},
-		{"POST", "/v1/importAssignments", strings.Repeat("a", office.MaxLineBytes-100), 0},
+		{"POST", "/v1/importAssignments", strings.Repeat("a", MaxLineBytes-100), 0},
 	} {
 		request := httptest.NewRequest(one.method, one.target, strings.NewReader(one.body))
 		name, _, err := FunctionOf(request)

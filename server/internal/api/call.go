@@ -4,9 +4,10 @@ import (
 	"net/http"
 	"strings"
 	"unicode/utf8"
-
-	"rbac-node/internal/office"
 )
+
+// MaxLineBytes is the most bytes of a line that the replay accepts.
+const MaxLineBytes = 65_536
 
 // Importer is the function whose body is CSV. bin/commands writes the tables of all functions in table.go: a command changes the office
 // if it is accepted, a question changes nothing. The value at roles is a list of texts, that at cardinality a number, and all others are
@@ -167,8 +168,8 @@ func (c *Call) writeBehind(lines []byte) ([]byte, error) {
 	}
 	line = append(line, '}')
 	c.Line = line[begin:len(line):len(line)]
-	if len(c.Line) > office.MaxLineBytes {
-		return nil, BadRequestSince(http.StatusRequestEntityTooLarge, "the request makes a line of more than %d bytes", office.MaxLineBytes)
+	if len(c.Line) > MaxLineBytes {
+		return nil, BadRequestSince(http.StatusRequestEntityTooLarge, "the request makes a line of more than %d bytes", MaxLineBytes)
 	}
 	return line, nil
 }

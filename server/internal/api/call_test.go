@@ -10,8 +10,6 @@ import (
 	"os/exec"
 	"strings"
 	"testing"
-
-	"rbac-node/internal/office"
 )
 
 func TestParseBody(t *testing.T) {
@@ -222,9 +220,9 @@ func TestWhy(t *testing.T) {
 		`{"user":"ann"}`:                                  "fn is missing, and has to be a text",
 		`{"fn":7}`:                                        "fn has to be a text",
 		`["addUser"]`:                                     "this is no object of JSON",
-		`{"fn":"createSession","user":"a","session":"s","roles":"r"}`:                         "roles has to be a list of texts",
-		`{"fn":"setSsdSetCardinality","set":"s","cardinality":"2"}`:                           "cardinality has to be a number",
-		`{"fn":"importAssignments","csv":"` + strings.Repeat("x", office.MaxLineBytes) + `"}`: "the request makes a line of more than 65536 bytes",
+		`{"fn":"createSession","user":"a","session":"s","roles":"r"}`:                  "roles has to be a list of texts",
+		`{"fn":"setSsdSetCardinality","set":"s","cardinality":"2"}`:                    "cardinality has to be a number",
+		`{"fn":"importAssignments","csv":"` + strings.Repeat("x", MaxLineBytes) + `"}`: "the request makes a line of more than 65536 bytes",
 	} {
 		_, err := ParseLine([]byte(line))
 		refused := Refusal{}

@@ -15,7 +15,6 @@ import (
 	"rbac-node/internal/boottime"
 	"rbac-node/internal/ledger"
 	"rbac-node/internal/logs"
-	"rbac-node/internal/office"
 )
 
 // The age of an answer counts from the newest state that it may be of.
@@ -100,7 +99,7 @@ func TestApply(t *testing.T) {
 	asked := ""
 	n.perform(task{2, func() { asked = usersOf(t, n) }})
 	n.perform(task{1, func() { n.apply(entry(2, "c")) }})
-	lines := append(users("a"), nil, []byte(strings.Repeat("x", office.MaxLineBytes+1)))
+	lines := append(users("a"), nil, []byte(strings.Repeat("x", api.MaxLineBytes+1)))
 	n.perform(task{0, func() { n.apply(entryOf(1, append(lines, users("b")...))) }})
 	n.perform(task{0, func() { n.apply(entry(1, "d")) }})
 	n.perform(task{0, func() { n.apply(entry(2, "d")) }})

@@ -47,7 +47,7 @@ func (n *Node) partsOf(entry ledger.Entry, own *batch) (parts []part) {
 			p.rule = *u.Rule
 		}
 		for _, line := range u.Lines {
-			if len(line) > office.MaxLineBytes || len(bytes.TrimSpace(line)) == 0 {
+			if len(line) > api.MaxLineBytes || len(bytes.TrimSpace(line)) == 0 {
 				n.log.Error("a line of the log is no command", "revision", entry.Revision, "place", place)
 			} else {
 				p.calls, p.places = append(p.calls, callOf(line)), append(p.places, place)

@@ -16,8 +16,6 @@ import (
 )
 
 const (
-	// MaxLineBytes is the most bytes of a line that the replay accepts.
-	MaxLineBytes = 65_536
 	// maxWaitingLines is how many lines may wait for their answers.
 	maxWaitingLines = 8192
 	// chunk is the fewest bytes that one read of a full pipe returns.

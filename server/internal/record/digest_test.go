@@ -6,7 +6,6 @@ import (
 
 	"rbac-node/internal/api"
 	"rbac-node/internal/feed"
-	"rbac-node/internal/office"
 	"rbac-node/internal/state"
 )
 
@@ -42,7 +41,7 @@ func TestAdmit(t *testing.T) {
 			`{"fn":"createSession","user":"ann","roles":["a","b"],"session":"` + digest + `"}`},
 		{"no name", `{"fn":"deleteSession","user":"ann","session":"\u0001"}`, `{"fn":"deleteSession","user":"ann","session":""}`},
 		{"a line that the digest makes too long", `{"fn":"createSession","user":"ann","roles":[` + roles + `"` +
-			strings.Repeat("q", office.MaxLineBytes-len(roles)-65) + `"],"session":"s"}`, ""},
+			strings.Repeat("q", api.MaxLineBytes-len(roles)-65) + `"],"session":"s"}`, ""},
 	} {
 		t.Run(test.name, func(t *testing.T) {
 			call, err := api.ParseLine([]byte(test.line))
