@@ -10,22 +10,21 @@ use Rattle.sqlite_disk.specs.declared.Disk.{Ghosts}
 use Rattle.sqlite_store.specs.declared.store.FileStore.{FileStore}
 use Rattle.admin_mgr.specs.RbacState.{RbacState}
 use Rattle.rbac_sets.specs.declared.refusal.Refusal.{Refusal}
-use Rattle.rbac_sets.specs.declared.refusal.Refusal.TheVariants.{Store}
+use Rattle.rbac_sets.specs.declared.refusal.Refusal.TheVariants.{Memory, Store}
 use Rattle.role_tables.specs.TableContents.{contents_of}
 use Rattle.role_tables.specs.Office.{OfficeModel}
 use Rattle.role_tables.specs.OpeningChecks.{IsMemoryOrStore, is_opening_refusal, ReadsState, RefusedHaveNoState, RefusesContents}
 use Rattle.role_tables.specs.Runs.{IsInRun}
 use Rattle.role_tables.specs.Durability.{HoldsAsBefore, LeavesOnly, StaysOutside, WhateverIsDurable}
 use Rattle.role_cli.specs.Environment.{Environment, ReadFailed, WriteFailed}
-use Rattle.role_cli.specs.FailureCause.{IsCaused, IsOpeningFailure}
 use Rattle.role_cli.specs.FileWork.{DoesOnStore, FailsOnStore, WorksOnFiles}
-use Rattle.role_cli.specs.MemoryReplay.{FailsInMemory, ReplaysInMemory}
-use Rattle.role_cli.specs.ProgramOutcome.{FailsBy, FailsIn, IsDone, IsDoneIn, is_memory_replay}
-use Rattle.role_cli.specs.Work.{BeginsRun, DoesOverSomeState, FailsOnConnection, FailsOrFindsNoOffice, IsUnopened, NoneBeginsOverRefused, StartsWell}
+use Rattle.role_cli.specs.ProgramOutcome.{FailsBy, FailsIn, FailsInMemory, IsDone, IsDoneIn, ReplaysInMemory, is_memory_replay}
+use Rattle.role_cli.specs.ServedConnections.{Known}
+use Rattle.role_cli.specs.Work.{BeginsRun, DoesOverSomeState, FailsOnConnection, FailsOrFindsNoOffice, IsCaused, IsOpeningFailure, IsUnopened, NoneBeginsOverRefused, StartsWell}
 use Rattle.role_cli.specs.declared.choice.Choice.{Choice}
 use Rattle.role_cli.specs.declared.choice.Choice.TheVariants as choice
 use Rattle.role_cli.specs.declared.failure.Failure.{Failure}
-use Rattle.role_cli.specs.declared.failure.Failure.TheVariants.{Refused}
+use Rattle.role_cli.specs.declared.failure.Failure.TheVariants.{Refused, Stopped}
 use Rattle.role_cli.specs.declared.memory_file.MemoryFile.{MemoryFile}
 use Rattle.role_cli.specs.declared.store_after.StoreAfter.{StoreAfter}
 use Rattle.role_cli.specs.declared.store_after.StoreAfter.TheVariants as after
@@ -94,8 +93,17 @@ fails_in_file in_memory g image chosen failure untouched cannot from to became p
 
 less_in_memory : (in_memory : Ghosts MemoryFile) (failure : Failure) (kept untouched : Type 0) (from to : Environment) → (kept → untouched)
     → FailsInMemory in_memory failure kept from.remaining to.remaining from.written to.written → FailsInMemory in_memory failure untouched from.remaining to.remaining from.written to.written
-less_in_memory in_memory failure kept untouched from to keeps (inl over) = inl over
-less_in_memory in_memory failure kept untouched from to keeps (inr (unmade, same)) = inr (unmade, keeps same)
+less_in_memory in_memory (Stopped stop) kept untouched from to keeps over = over
+less_in_memory in_memory (Refused why) kept untouched from to keeps (unmade, same) = (unmade, keeps same)
+less_in_memory in_memory _ kept untouched from to keeps none = none
+
+-- no office could be created, and nothing was touched
+pub unmade_fails : (in_memory : Ghosts MemoryFile) (failure : Failure) (untouched : Type 0) (remaining now_remaining written now_written : Known)
+    → (failure ≡ Refused Memory) ⊎ (failure ≡ Refused Store) → untouched → FailsInMemory in_memory failure untouched remaining now_remaining written now_written
+unmade_fails in_memory failure untouched remaining now_remaining written now_written (inl is) same =
+    subst (λ why. FailsInMemory in_memory why untouched remaining now_remaining written now_written) (sym is) (inl refl, same)
+unmade_fails in_memory failure untouched remaining now_remaining written now_written (inr is) same =
+    subst (λ why. FailsInMemory in_memory why untouched remaining now_remaining written now_written) (sym is) (inr refl, same)
 
 -- a replay in memory that touched nothing before it failed
 pub fails_in_memory : (in_memory : Ghosts MemoryFile) {F : Type 0} (g : Ghosts F) (image : Image) (chosen : Choice) (failure : Failure) (kept untouched cannot : Type 0) (from to : Environment) (became : StoreAfter F g)

@@ -1,6 +1,6 @@
 -- What is at the path of an office before the work, and what is removed after it.
 use Rattle.std.proofs.Common.{◌≡◌, ◌∙◌, ◌≤◌, ℕ, Bool, true, false, List, [], ◌∷◌, ◌++◌, Option, Some, None, inl, inr, refl, sym, ap, subst, arith}
-use Rattle.std.specs.Prelude.{◌||◌, ◌⊎◌, ◌-◌, ◌^◌, IfSome, codes, nat_lt, if◌then◌else◌}
+use Rattle.std.specs.Prelude.{◌||◌, ◌⊎◌, ◌-◌, ◌^◌, IfSome, IsSomeAnd, codes, nat_lt, if◌then◌else◌}
 use Rattle.std.specs.List.{list_any}
 use Rattle.std.specs.Str.{bytes_eq}
 use Rattle.std.proofs.lemmas.Bool.{cases_Bool, ltb-false, true≢false}
@@ -9,8 +9,8 @@ use Rattle.rbac_sets.specs.Stream.{HasRisen, one_more}
 use Rattle.rbac_sets.proofs.Counting.{one_more-grows, one_more-most, risen_since}
 use Rattle.sqlite_disk.specs.declared.Disk.{Ghosts}
 use Rattle.sqlite_disk.specs.declared.Files.{Files}
-use Rattle.role_cli.specs.Leftovers.{IsBefore, IsBegun, IsLogWithoutPage, LeavesClosed, LeavesPaths, LeavesUnopened, RemovesEmpty, RemovesSiblings, Restores, leftovers, siblings, without_leftover, without_siblings}
-use Rattle.role_cli.specs.Paths.{Changes, ChangesKnown, ChangesOnly, Paths, index_of, length_in, log_of, only, with_entry, without}
+use Rattle.role_cli.specs.Leftovers.{HasNoPage, IsBefore, IsBegun, LeavesClosed, LeavesPaths, LeavesUnopened, RemovesEmpty, RemovesSiblings, Restores, leftovers, without_leftover, without_siblings}
+use Rattle.role_cli.specs.Paths.{Changes, ChangesKnown, ChangesOnly, Paths, index_of, length_in, log_of, with_entry, without}
 use Rattle.role_cli.specs.declared.choice.Choice.{Choice}
 use Rattle.role_cli.specs.declared.folder.Entry.{Entry}
 use Rattle.role_cli.specs.declared.folder.Entry.TheVariants as entry
@@ -61,7 +61,7 @@ removes_empty_later before path f g (Some old) now step (inl (nothing, empty, ch
 removes_empty_later before path f g (Some old) now step (inr kept) = inr kept
 
 pub siblings_later : (path : List ℕ) (f g : Type 0) (old now : Option Paths) → (f → g) → RemovesSiblings path f old now → RemovesSiblings path g old now
-siblings_later path = known_later (siblings path) (without_siblings path)
+siblings_later path = known_later (λ known. log_of path known ∷ (index_of path known ∷ [])) (without_siblings path)
 
 pub closed_later : {F : Type 0} {g : Ghosts F} (before : PathState) (path : List ℕ) (became : StoreAfter F g) (e f : Type 0) (old now : Option Paths) → (e → f)
     → LeavesClosed before path became e old now → LeavesClosed before path became f old now
@@ -130,7 +130,7 @@ one_beside path ending old mid f now same =
 both_beside : (path : List ℕ) (e f g : Type 0) (old : Paths) (mid now : Option Paths)
     → Changes (log_of path old ∷ []) (without (log_of path old) old) e old mid
     → ChangesKnown (λ known. index_of path known ∷ []) (λ known. without (index_of path known) known) f mid now → (e → g) → (f → g)
-    → Changes (siblings path old) (without_siblings path old) g old now
+    → Changes (log_of path old ∷ (index_of path old ∷ [])) (without_siblings path old) g old now
 both_beside path e f g old mid now (new, is, same, done) later step step_then =
     let then_it : Changes (index_of path new ∷ []) (without (index_of path new) new) f new now =
     subst (λ m. ChangesKnown (λ known. index_of path known ∷ []) (λ known. without (index_of path known) known) f m now) is later in
@@ -147,7 +147,7 @@ siblings_removed path e f g (Some old) mid now first later step step_then = both
 
 -- the file of a name was removed, which is that of the ending beside the path
 pub beside_removed : (path ending name : List ℕ) (f : Type 0) (old now : Option Paths) → IfSome old (λ known. name ≡ known.beside path ending)
-    → ChangesKnown (only name) (without name) f old now → ChangesKnown (λ known. known.beside path ending ∷ []) (λ known. without (known.beside path ending) known) f old now
+    → ChangesKnown (λ _. name ∷ []) (without name) f old now → ChangesKnown (λ known. known.beside path ending ∷ []) (λ known. without (known.beside path ending) known) f old now
 beside_removed path ending name f None now named = λ is. is
 beside_removed path ending name f (Some old) now named = subst (λ path. Changes (path ∷ []) (without path old) f old now) named
 
@@ -164,10 +164,10 @@ abbrev HasLengths : List ℕ → (file log : Option ℕ) → Option Paths → Ty
 HasLengths path file log paths = IfSome paths (λ known. (file ≡ length_in (known.at path)) × (log ≡ length_in (known.at (log_of path known))))
 
 pub none_left : (before : PathState) (path : List ℕ) (file log : Option ℕ) (f : Type 0) (paths : Option Paths) → HasLengths path file log paths
-    → ¬ ((before ≡ Bytes) × IsLogWithoutPage log) → ¬ ((before ≡ EmptyFile) × IsBegun file log) → ¬ ((before ≡ Nothing) × IsBegun file log) → Restores before path f paths paths
+    → ¬ ((before ≡ Bytes) × IsSomeAnd log HasNoPage) → ¬ ((before ≡ EmptyFile) × IsBegun file log) → ¬ ((before ≡ Nothing) × IsBegun file log) → Restores before path f paths paths
 none_left before path file log f None lengths no_log no_content no_file = refl
 none_left Bytes path file log f (Some known) (file_is, log_is) no_log no_content no_file =
-    inr (refl, inl (λ has. no_log (refl, subst IsLogWithoutPage (sym log_is) has)))
+    inr (refl, inl (λ has. no_log (refl, subst (λ log. IsSomeAnd log HasNoPage) (sym log_is) has)))
 none_left EmptyFile path file log f (Some known) (file_is, log_is) no_log no_content no_file =
     inr (refl, inl (λ has. no_content (refl, subst (λ f. IsBegun f log) (sym file_is) (subst (IsBegun (length_in (known.at path))) (sym log_is) has))))
 none_left Nothing path file log f (Some known) (file_is, log_is) no_log no_content no_file =
@@ -179,31 +179,31 @@ not_looked before path f None now same failed = same
 not_looked before path f (Some known) now same failed = inr (same, inr failed)
 
 pub log_removed : (path : List ℕ) (file log : Option ℕ) (name : List ℕ) (f : Type 0) (old now : Option Paths) → HasLengths path file log old
-    → IfSome old (λ known. name ≡ log_of path known) → IsLogWithoutPage log → ChangesKnown (only name) (without name) f old now → Restores Bytes path f old now
+    → IfSome old (λ known. name ≡ log_of path known) → IsSomeAnd log HasNoPage → ChangesKnown (λ _. name ∷ []) (without name) f old now → Restores Bytes path f old now
 log_removed path file log name f None now lengths named short is = is
 log_removed path file log name f (Some known) now (file_is, log_is) named short changes =
-    inl (subst IsLogWithoutPage log_is short, subst (λ path. Changes (path ∷ []) (without path known) f known now) named changes)
+    inl (subst (λ log. IsSomeAnd log HasNoPage) log_is short, subst (λ path. Changes (path ∷ []) (without path known) f known now) named changes)
 
 begun : (file log file_is log_is : Option ℕ) → file ≡ file_is → log ≡ log_is → IsBegun file log → IsBegun file_is log_is
 begun file log file_is log_is same_file same_log is = subst (IsBegun file_is) same_log (subst (λ f. IsBegun f log) same_file is)
 
 -- the log and its index were removed, and then the path leads to this
 all_changed : (path : List ℕ) (it : Entry) (e f g : Type 0) (old : Paths) (mid now : Option Paths)
-    → Changes (siblings path old) (without_siblings path old) e old mid → ChangesKnown (only path) (with_entry path it) f mid now → (e → g) → (f → g)
+    → Changes (log_of path old ∷ (index_of path old ∷ [])) (without_siblings path old) e old mid → ChangesKnown (λ _. path ∷ []) (with_entry path it) f mid now → (e → g) → (f → g)
     → Changes (log_of path old ∷ (index_of path old ∷ (path ∷ []))) (with_entry path it (without_siblings path old)) g old now
 all_changed path it e f g old mid now (new, is, same, done) later step step_then =
-    let then_it : Changes (path ∷ []) (with_entry path it new) f new now = subst (λ m. ChangesKnown (only path) (with_entry path it) f m now) is later in
-    changes_then (siblings path old) (path ∷ []) old new (without_siblings path old) (with_entry path it) e f g now same done then_it step step_then
+    let then_it : Changes (path ∷ []) (with_entry path it new) f new now = subst (λ m. ChangesKnown (λ _. path ∷ []) (with_entry path it) f m now) is later in
+    changes_then (log_of path old ∷ (index_of path old ∷ [])) (path ∷ []) old new (without_siblings path old) (with_entry path it) e f g now same done then_it step step_then
 
 pub content_removed : (path : List ℕ) (file log : Option ℕ) (e f g : Type 0) (old mid now : Option Paths) → HasLengths path file log old → IsBegun file log
-    → RemovesSiblings path e old mid → ChangesKnown (only path) (with_entry path (entry.File 0)) f mid now → (e → g) → (f → g) → Restores EmptyFile path g old now
-content_removed path file log e f g None mid now lengths is first later step step_then = subst (λ m. ChangesKnown (only path) (with_entry path (entry.File 0)) f m now) first later
+    → RemovesSiblings path e old mid → ChangesKnown (λ _. path ∷ []) (with_entry path (entry.File 0)) f mid now → (e → g) → (f → g) → Restores EmptyFile path g old now
+content_removed path file log e f g None mid now lengths is first later step step_then = subst (λ m. ChangesKnown (λ _. path ∷ []) (with_entry path (entry.File 0)) f m now) first later
 content_removed path file log e f g (Some known) mid now (file_is, log_is) is first later step step_then =
     inl (begun file log _ _ file_is log_is is, all_changed path (entry.File 0) e f g known mid now first later step step_then)
 
 pub file_removed : (path : List ℕ) (file log : Option ℕ) (e f g : Type 0) (old mid now : Option Paths) → HasLengths path file log old → IsBegun file log
-    → RemovesSiblings path e old mid → ChangesKnown (only path) (without path) f mid now → (e → g) → (f → g) → Restores Nothing path g old now
-file_removed path file log e f g None mid now lengths is first later step step_then = subst (λ m. ChangesKnown (only path) (without path) f m now) first later
+    → RemovesSiblings path e old mid → ChangesKnown (λ _. path ∷ []) (without path) f mid now → (e → g) → (f → g) → Restores Nothing path g old now
+file_removed path file log e f g None mid now lengths is first later step step_then = subst (λ m. ChangesKnown (λ _. path ∷ []) (without path) f m now) first later
 file_removed path file log e f g (Some known) mid now (file_is, log_is) is first later step step_then =
     inl (begun file log _ _ file_is log_is is, all_changed path entry.Nothing e f g known mid now first later step step_then)
 
@@ -227,10 +227,10 @@ module _ (path : List ℕ) (file log : Option ℕ) (first looked between last : 
   since : HasRisen between last → HasRisen first last
   since risen = risen_since first between last (omega (arith, up, up_then)) risen
 
-  pub file_restored : (before : PathState) → (before ≡ Nothing) × IsBegun file log → ChangesKnown (only path) (without path) (HasRisen between last) mid now → Restores before path (HasRisen first last) old now
+  pub file_restored : (before : PathState) → (before ≡ Nothing) × IsBegun file log → ChangesKnown (λ _. path ∷ []) (without path) (HasRisen between last) mid now → Restores before path (HasRisen first last) old now
   file_restored before (is, begun) gone = subst (λ b. Restores b path (HasRisen first last) old now) (sym is)
       (file_removed path file log (HasRisen looked between) (HasRisen between last) (HasRisen first last) old mid now lengths begun removed_first gone still since)
 
-  pub content_restored : (before : PathState) → (before ≡ EmptyFile) × IsBegun file log → ChangesKnown (only path) (with_entry path (entry.File 0)) (HasRisen between last) mid now → Restores before path (HasRisen first last) old now
+  pub content_restored : (before : PathState) → (before ≡ EmptyFile) × IsBegun file log → ChangesKnown (λ _. path ∷ []) (with_entry path (entry.File 0)) (HasRisen between last) mid now → Restores before path (HasRisen first last) old now
   content_restored before (is, begun) emptied = subst (λ b. Restores b path (HasRisen first last) old now) (sym is)
       (content_removed path file log (HasRisen looked between) (HasRisen between last) (HasRisen first last) old mid now lengths begun removed_first emptied still since)

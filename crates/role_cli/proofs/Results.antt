@@ -5,7 +5,7 @@ use Rattle.std.specs.Prelude.{IfErr, IfOk, IfSome, IsErr, IsOk, MatchResult, OnE
 use Rattle.std.specs.Result.{OnOk}
 use Rattle.rbac_sets.specs.declared.refusal.Refusal.{Refusal}
 use Rattle.rbac_sets.specs.declared.refusal.Refusal.TheVariants.{Memory, Store}
-use Rattle.role_cli.specs.FailureCause.{IsUnwritten}
+use Rattle.role_cli.specs.Work.{IsUnwritten}
 use Rattle.role_cli.specs.declared.failure.Failure.{Failure}
 use Rattle.role_cli.specs.declared.failure.Failure.TheVariants.{Refused}
 

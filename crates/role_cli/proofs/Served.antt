@@ -1,6 +1,6 @@
 -- Connections one after another.
 use Rattle.std.proofs.Common.{◌≡◌, ◌+◌, ◌-◌, ◌^◌, ◌<◌, ℕ, arith, inl, inr, Bool, false, true, List, [], ◌∷◌, ◌++◌, Option, Some, None, refl, sym, ap, subst, ◌∙◌}
-use Rattle.std.specs.Prelude.{◌||◌, if◌then◌else◌, map, min, nat_lt, ◌≤◌}
+use Rattle.std.specs.Prelude.{◌||◌, if◌then◌else◌, map, min, nat_lt, option_map, ◌≤◌}
 use Rattle.std.proofs.lemmas.List.{map-append}
 use Rattle.std.specs.List.{list_any}
 use Rattle.std.proofs.lemmas.Bool.{cases_Bool, eqb-true, lt-ltb, ltb-false, ltb-true, true≢false}
@@ -22,7 +22,7 @@ use Rattle.role_wire.proofs.Performed.{same_run}
 use Rattle.role_wire.proofs.Replayed.{runs_then}
 use Rattle.role_cli.specs.Environment.{HasFailed}
 use Rattle.role_cli.specs.Hosts.{clients_in_memory, known_clients, sent_in_memory}
-use Rattle.role_cli.specs.ServedConnections.{AreServed, Clients, HasFailedWrite, IsNextServed, IsServed, IsServedOver, SentReply, ServedAreAccepted, ServesConnections, TakesNext, bytes_of, is_closing, nothing_of}
+use Rattle.role_cli.specs.ServedConnections.{AreServed, Clients, IsNextServed, IsServed, IsServedOver, SentReply, ServedAreAccepted, ServesConnections, TakesNext, bytes_of, is_closing}
 use Rattle.role_cli.specs.declared.memory_host.MemoryHost.{MemoryHost}
 use Rattle.role_cli.specs.private.SomeConnection.{IsServedSomehow}
 
@@ -128,7 +128,7 @@ module _ {S : Type 0} (shown : Held S → State) where
   -- no read of a client in memory fails
   served_in_memory : (Other : Type 0) (sent left written : Option (List ℕ)) (filled : SentReply) (old new : OfficeModel S) (status : Option ℕ)
       → IsServedOver shown (HasRisen 0 0) (HasFailed 0 filled.failed_writes 0 0) sent left written (Some filled.bytes) old status new
-      → IsServedOver shown Other (HasFailedWrite (Some filled)) sent left written (Some filled.bytes) old status new
+      → IsServedOver shown Other (1 ≤ filled.failed_writes) sent left written (Some filled.bytes) old status new
   served_in_memory Other sent left written filled old new (Some status) served = served
   served_in_memory Other sent left written filled old new None (why, stops, read, wrote) = (why, stops, (λ is. absurd (no_rise (read is))), (λ is. some_failed filled.failed_writes (wrote is)))
 
@@ -191,7 +191,7 @@ module _ {S : Type 0} (shown : Held S → State) where
 
   served_continues : (may_fail : Type 0) (sent left : Option (List ℕ)) (reply : Option SentReply) (old new : OfficeModel S) (status : Option ℕ) → IsServed shown may_fail sent left reply old status new → Continues shown old new
   served_continues may_fail sent left reply old new (Some status) (taken, consumes, no_further, (body, tells, text)) = tells_continues old new _ status body tells
-  served_continues may_fail sent left reply old new None (why, (taken, consumes, no_further, stops), _, _) = stop_continues why old new _ (nothing_of (bytes_of reply)) (bytes_of reply) stops
+  served_continues may_fail sent left reply old new None (why, (taken, consumes, no_further, stops), _, _) = stop_continues why old new _ (option_map (λ (_ : SentReply). []) reply) (bytes_of reply) stops
 
   all_continue : (before now : Clients) (old new : OfficeModel S) (statuses : List (Option ℕ)) → AreServed shown before now old statuses new → Continues shown old new
   all_continue before now old new [] (_, same) = same_continues old new same

@@ -1,5 +1,5 @@
 -- What the arguments of a command line choose.
-use Rattle.std.specs.Prelude.{⊤, ◌≡◌, ◌≤◌, ◌⊎◌, ℕ, List, false, codes, Option, Some, None, IsSome, String, string_bytes}
+use Rattle.std.specs.Prelude.{⊤, ◌≡◌, ◌≤◌, ◌⊎◌, ℕ, List, false, codes, Option, Some, None, IsSome, IsSomeAnd, String, string_bytes}
 use Rattle.std.specs.Str.Parse.{digits_value, without_leading_plus}
 use Rattle.clap.specs.Words.{App, IsAmong, Kinds, Row, Text, fault_of, first_of, kind_of, one_of, takes}
 use Rattle.clap.specs.declared.error.kind.ErrorKind.{ErrorKind}
@@ -12,8 +12,7 @@ use Rattle.role_cli.specs.declared.choice.Unchosen.TheVariants as unchosen
 
 -- there is a text, and it is the number in digits
 abbrev pub IsWordOf : Option Text → ℕ → Type 0
-IsWordOf None n = ⊥
-IsWordOf (Some t) n = digits_value 10 (without_leading_plus t) ≡ n
+IsWordOf text n = IsSomeAnd text (λ digits. digits_value 10 (without_leading_plus digits) ≡ n)
 
 -- the text is the first value of the argument
 abbrev pub IsValueOf : {A : Type 0} → Text → List Row → String A → Type 0
@@ -39,8 +38,7 @@ ChoosesOf name rows (Migrate f) = (name ≡ codes "migrate") × IsValueOf (codes
 
 -- what the arguments choose, by their subcommand and its matches
 abbrev pub Chooses : Option (Text × List Row) → Choice → Type 0
-Chooses None c = ⊥
-Chooses (Some m) c = ChoosesOf m.0 m.1 c
+Chooses found c = IsSomeAnd found (λ m. ChoosesOf m.0 m.1 c)
 
 -- FILE and `--memory` are both given, or neither is
 abbrev pub HasBothOrNeither : List Row → Type 0
@@ -48,14 +46,12 @@ HasBothOrNeither rows = (IsSome (first_of (codes "FILE") rows) × IsInMemory row
 
 -- `replay` has both or neither
 abbrev pub ReplaysBothOrNeither : Option (Text × List Row) → Type 0
-ReplaysBothOrNeither None = ⊥
-ReplaysBothOrNeither (Some m) = (m.0 ≡ codes "replay") × HasBothOrNeither m.1
+ReplaysBothOrNeither found = IsSomeAnd found (λ m. (m.0 ≡ codes "replay") × HasBothOrNeither m.1)
 
 -- the arguments are no command line of the program, or ask for help
 abbrev pub IsFault : Unchosen → Type 0
 IsFault (unchosen.Fault e) = ⊤
-IsFault unchosen.Either = ⊥
-IsFault unchosen.Memory = ⊥
+IsFault _ = ⊥
 
 -- a fault has an error of one of these kinds
 abbrev pub IsFaultBy : Kinds → Unchosen → Type 0

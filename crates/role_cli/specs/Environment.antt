@@ -1,5 +1,5 @@
 -- What the work of a subcommand reads and writes besides its office: the standard input, the output, CSV files and clients.
-use Rattle.std.specs.Prelude.{⊤, ◌≡◌, ◌⊎◌, ◌+◌, ℕ, List, Some, None, take}
+use Rattle.std.specs.Prelude.{◌≡◌, ◌⊎◌, ◌+◌, ℕ, List, IfSome, take}
 use Rattle.rbac_sets.specs.Stream.{HasRisen}
 use Rattle.role_csv.specs.Assignments.{assignments, most_bytes}
 use Rattle.role_wire.specs.Replay.{IsAtBound}
@@ -35,15 +35,9 @@ WriteFailed before now = HasFailed before.failed_writes now.failed_writes before
 abbrev pub ReadFailed : Environment → Environment → Type 0
 ReadFailed before now = HasRisen before.failed_reads now.failed_reads ⊎ IsAtBound before.reads now.reads
 
--- a CSV file could not be opened or read
-abbrev pub CsvFailed : Environment → Environment → Type 0
-CsvFailed before now = HasRisen before.failed_csv now.failed_csv
-
--- These bytes were read of a CSV file: all of them, or one more than a text may have. A text that is longer is refused for any of its
--- first bytes that many (law `a_start_decides`).
+-- these bytes were read of a CSV file: all, or one more than a text may have, which decide as all would (law `a_start_decides`)
 abbrev pub IsReadOf : Known → List ℕ → Type 0
-IsReadOf None bytes = ⊤
-IsReadOf (Some text) bytes = bytes ≡ take (most_bytes + 1) text
+IsReadOf file bytes = IfSome file (λ text. bytes ≡ take (most_bytes + 1) text)
 
 -- the bytes that are read of a text list the same assignments as the text
 abbrev pub StartDecides : Type 0

@@ -91,18 +91,13 @@ module _ {D : Type 0} (g : Ghosts D) where
 
   -- ---- laws, over files that stored a good state whose texts are valid names
 
-  -- The work was over an office that began with this state, and the database file alone stores the state that it ended with.
-  abbrev pub EndsStored : Files D → RbacState → (OfficeModel (FileStore D g) → OfficeModel (FileStore D g) → Type 0) → Type 0
-  EndsStored files S Work =
-      (first last : OfficeModel (FileStore D g)) × (first.facts ≡ S) × Work first last × StoresAlone files last.facts
-
   -- The work of a subcommand that neither creates nor migrates an office was over the state that was stored, and the closed database
-  -- file stores what it led to.
+  -- file alone stores what it led to.
   abbrev pub WorkIsStored : (Choice → Environment → Environment → OfficeModel (FileStore D g) → OfficeModel (FileStore D g) → Type 0) → Type 0
   WorkIsStored Work = (chosen : Choice) (image : Image) (files : Files D) (from to : Environment) (S : RbacState)
       → makes chosen ≡ false → IsGood S → AreNamed S → StoresState image S
       → WorksAndCloses image files (λ before conn. WorksOnConnection (state over_files) chosen before (Work chosen from to) conn)
-      → EndsStored files S (Work chosen from to)
+      → (first last : OfficeModel (FileStore D g)) × (first.facts ≡ S) × Work chosen from to first last × StoresAlone files last.facts
 
   -- If no office was created, migrated or opened, the state that was stored still is.
   abbrev pub RefusedOpeningIsStored : Type 0

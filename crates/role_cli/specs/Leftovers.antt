@@ -1,5 +1,5 @@
 -- What is at the path of an office before the work, and what is removed if no office could be opened or created.
-use Rattle.std.specs.Prelude.{⊤, ◌≡◌, ◌⊎◌, ◌≤◌, ◌<◌, ◌+◌, ℕ, Bool, false, List, [], ◌∷◌, Option, Some, None, IfSome, if◌then◌else◌}
+use Rattle.std.specs.Prelude.{◌≡◌, ◌⊎◌, ◌≤◌, ◌<◌, ◌+◌, ℕ, Bool, false, List, [], ◌∷◌, Option, Some, None, IfSome, IsSomeAnd, if◌then◌else◌}
 use Rattle.rbac_sets.specs.Stream.{HasRisen, one_more}
 use Rattle.rbac_sets.specs.declared.refusal.Refusal.TheVariants.{Memory, NotAnOffice, Store}
 use Rattle.sqlite_disk.specs.declared.Disk.{Ghosts}
@@ -21,31 +21,26 @@ use Rattle.role_cli.specs.declared.store_after.StoreAfter.TheVariants as after
 
 -- there is a file that is not empty
 abbrev pub HasByte : Option ℕ → Type 0
-HasByte None = ⊥
-HasByte (Some length) = 1 ≤ length
+HasByte file = IsSomeAnd file (λ length. 1 ≤ length)
 
--- an opening would read the file as a new database: it has up to one byte, and the log beside it has none
-abbrev pub IsReadAsNew : (length : ℕ) (log : Option ℕ) → Type 0
-IsReadAsNew length log = (length ≤ 1) × ¬ (HasByte log)
+-- a file whose length is one of these
+abbrev pub IsFile : Entry → (ℕ → Type 0) → Type 0
+IsFile it Has = (length : ℕ) × (it ≡ entry.File length) × Has length
 
--- at the path is a file that is no new database
-abbrev pub IsOffice : List ℕ → Paths → Type 0
-IsOffice path known = (length : ℕ) × (known.at path ≡ entry.File length) × ¬ (IsReadAsNew length (length_in (known.at (log_of path known))))
-
--- at the path is a file that an opening would read as a new database
-abbrev pub IsNew : List ℕ → Paths → Type 0
-IsNew path known = (length : ℕ) × (known.at path ≡ entry.File length) × IsReadAsNew length (length_in (known.at (log_of path known)))
+-- an opening would read a file of this length at the path as a new database: it has up to one byte, and the log beside it has none
+abbrev pub IsReadAsNew : List ℕ → Paths → ℕ → Type 0
+IsReadAsNew path known length = (length ≤ 1) × ¬ (HasByte (length_in (known.at (log_of path known))))
 
 -- what was at the path of a new office
 abbrev pub IsStateOf : PathState → Entry → Type 0
 IsStateOf Nothing it = it ≡ entry.Nothing
 IsStateOf EmptyFile it = it ≡ entry.File 0
-IsStateOf Bytes it = (length : ℕ) × (it ≡ entry.File length) × (1 ≤ length)
+IsStateOf Bytes it = IsFile it (λ length. 1 ≤ length)
 
 -- This was at the path before the work: of an office, a file that is no new database.
 abbrev pub IsBefore : Choice → List ℕ → PathState → Paths → Type 0
 IsBefore (Init _) path before known = IsStateOf before (known.at path)
-IsBefore _ path before known = (before ≡ Bytes) × IsOffice path known
+IsBefore _ path before known = (before ≡ Bytes) × IsFile (known.at path) (λ length. ¬ (IsReadAsNew path known length))
 
 -- there can be no office at a path that leads to this
 abbrev pub IsNoPlaceFor : Choice → Entry → Type 0
@@ -56,7 +51,7 @@ IsNoPlaceFor _ it = length_in it ≡ None
 abbrev pub CannotBegin : Choice → List ℕ → Failure → Option Paths → (call_failed : Type 0) → Type 0
 CannotBegin chosen path failure paths call_failed =
     ((failure ≡ Refused Store) × IfSome paths (λ known. IsNoPlaceFor chosen (known.at path)))
-    ⊎ (((failure ≡ Refused NotAnOffice) × (creates chosen ≡ false) × IfSome paths (IsNew path))
+    ⊎ (((failure ≡ Refused NotAnOffice) × (creates chosen ≡ false) × IfSome paths (λ known. IsFile (known.at path) (IsReadAsNew path known)))
     ⊎ (((failure ≡ Refused Memory) ⊎ (failure ≡ Refused Store)) × call_failed))
 
 -- No work was done: it can't begin, or the files could not be opened.
@@ -70,28 +65,17 @@ OpensNoFile folder now_folder became = (now_folder ≡ folder) × (became ≡ af
 
 -- ---- after the work
 
--- the sizes of the header of a log, of the header of each page in it, and of the smallest page of a database
-abbrev pub shortest_log : ℕ
-shortest_log = 32 + 24 + 512
+-- a log of this length holds no whole page: it is shorter than its header, the header of a page, and the smallest page
+abbrev pub HasNoPage : ℕ → Type 0
+HasNoPage length = length < 32 + 24 + 512
 
--- a log of this length, if there is one, holds no whole page
-abbrev pub HasNoPage : Option ℕ → Type 0
-HasNoPage None = ⊤
-HasNoPage (Some length) = length < shortest_log
-
--- there is a log, and it holds no whole page
-abbrev pub IsLogWithoutPage : Option ℕ → Type 0
-IsLogWithoutPage None = ⊥
-IsLogWithoutPage (Some length) = length < shortest_log
-
--- there is a file of at most one page, the first one of a new database, and its log holds no whole page
+-- there is a file of at most one page, the first one of a new database, and a log, if there is one, holds no whole page
 abbrev pub IsBegun : (file log : Option ℕ) → Type 0
-IsBegun None log = ⊥
-IsBegun (Some length) log = (length ≤ 4096) × HasNoPage log
+IsBegun file log = IsSomeAnd file (λ length. (length ≤ 4096) × IfSome log HasNoPage)
 
 -- the log of an office holds no page, or an office was only begun where there was none
 abbrev pub HasLeftover : PathState → List ℕ → Paths → Type 0
-HasLeftover Bytes path known = IsLogWithoutPage (length_in (known.at (log_of path known)))
+HasLeftover Bytes path known = IsSomeAnd (length_in (known.at (log_of path known))) HasNoPage
 HasLeftover _ path known = IsBegun (length_in (known.at path)) (length_in (known.at (log_of path known)))
 
 -- the paths that this concerns
@@ -123,21 +107,16 @@ RemovesEmpty before path call_failed (Some known) now =
     ((before ≡ Nothing) × (known.at path ≡ entry.File 0) × Changes (path ∷ []) (without path known) call_failed known now)
     ⊎ ((now ≡ Some known) × ¬ ((before ≡ Nothing) × (known.at path ≡ entry.File 0)))
 
--- the log and its index
-abbrev pub siblings : List ℕ → Paths → List (List ℕ)
-siblings path known = log_of path known ∷ (index_of path known ∷ [])
-
 -- The log and its index are removed, and nothing else is touched.
 abbrev pub RemovesSiblings : List ℕ → (call_failed : Type 0) → Option Paths → Option Paths → Type 0
-RemovesSiblings path call_failed = ChangesKnown (siblings path) (without_siblings path) call_failed
+RemovesSiblings path call_failed = ChangesKnown (λ known. log_of path known ∷ (index_of path known ∷ [])) (without_siblings path) call_failed
 
 -- What is at the paths after an opening that failed: what it had begun is removed if the files were opened, and otherwise an empty file.
 abbrev pub LeavesUnopened : {F : Type 0} → PathState → List ℕ → Option (Files F) → (call_failed : Type 0) → Option Paths → Option Paths → Type 0
 LeavesUnopened before path (Some files) call_failed paths now = Restores before path call_failed paths now
 LeavesUnopened before path None call_failed paths now = RemovesEmpty before path call_failed paths now
 
--- What is at the paths after the files of a connection were closed: a leftover is removed, and so are the log and its index once the log
--- was copied into the file. Only then.
+-- What is at the paths after a close: a leftover is removed, and the log and its index too, but only once it was copied into the file.
 abbrev pub LeavesClosed : {F : Type 0} {g : Ghosts F}
     → PathState → List ℕ → StoreAfter F g → (call_failed : Type 0) → Option Paths → Option Paths → Type 0
 LeavesClosed before path (after.Closed files) call_failed paths now =
@@ -146,8 +125,7 @@ LeavesClosed before path (after.Left store) call_failed paths now = Restores bef
 LeavesClosed before path _ call_failed paths now = ⊥
 
 -- What is at the paths after the work, by how many calls of the folder had failed before and after it: nothing changed if nothing was
--- opened. What an opening that failed had begun is removed, unless another call failed too. If the work was done, the file is an office's:
--- it is removed only if the work failed where nothing was.
+-- opened. Otherwise a leftover is removed, unless a call failed that is no opening. The file of work that was done is an office's.
 abbrev pub LeavesPaths : {F : Type 0} {g : Ghosts F}
     → Choice → List ℕ → (has_failed : Bool) → StoreAfter F g → (failed now_failed : ℕ) → Option Paths → Option Paths → Type 0
 LeavesPaths chosen path has_failed after.Untouched failed now_failed paths now = now ≡ paths

@@ -1,13 +1,10 @@
 pub mod ArgumentChoice
-pub mod Around
 pub mod CommandLine
 pub mod Environment
 pub mod ErrorOutput
-pub mod FailureCause
 pub mod FileWork
 pub mod Hosts
 pub mod Leftovers
-pub mod MemoryReplay
 pub mod Paths
 pub mod ProgramOutcome
 pub mod ServedConnections

@@ -1,5 +1,5 @@
 -- What the paths of a folder lead to, and what calls change of it.
-use Rattle.std.specs.Prelude.{◌≡◌, ◌⊎◌, ℕ, false, List, [], ◌∷◌, Option, Some, None, codes, if◌then◌else◌}
+use Rattle.std.specs.Prelude.{◌≡◌, ◌⊎◌, ℕ, false, List, Option, Some, None, codes, if◌then◌else◌}
 use Rattle.std.specs.List.{list_any}
 use Rattle.std.specs.Str.{bytes_eq}
 use Rattle.role_cli.specs.declared.folder.Entry.{Entry}
@@ -46,7 +46,3 @@ Changes changed wanted call_failed old now = (new : Paths) × (now ≡ Some new)
 abbrev pub ChangesKnown : (Paths → List (List ℕ)) → (Paths → Paths) → (call_failed : Type 0) → Option Paths → Option Paths → Type 0
 ChangesKnown changed wanted call_failed None now = now ≡ None
 ChangesKnown changed wanted call_failed (Some old) now = Changes (changed old) (wanted old) call_failed old now
-
--- this path alone
-abbrev pub only : List ℕ → Paths → List (List ℕ)
-only path known = path ∷ []

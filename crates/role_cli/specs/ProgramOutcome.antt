@@ -1,21 +1,52 @@
 -- What the program did for the choice in its arguments.
-use Rattle.std.specs.Prelude.{◌≡◌, Bool, true, false, ℕ, List, [], string_bytes}
+use Rattle.std.specs.Prelude.{◌≡◌, ◌⊎◌, Bool, true, false, ℕ, List, [], string_bytes}
+use Rattle.std.specs.Io.KnownBytes.{Consumes, IsAtEnd}
 use Rattle.sqlite.specs.Held.{state}
 use Rattle.sqlite.specs.Files.{over_files}
 use Rattle.sqlite.specs.Recovery.{Image}
 use Rattle.sqlite_disk.specs.declared.Disk.{Ghosts}
+use Rattle.sqlite_store.specs.declared.store.FileStore.{FileStore}
+use Rattle.rbac_sets.specs.declared.refusal.Refusal.TheVariants as refusal
+use Rattle.admin_mgr.specs.RbacState.{empty_state}
+use Rattle.role_tables.specs.Durability.{IsDurable}
+use Rattle.role_tables.specs.Office.{OfficeModel}
+use Rattle.role_wire.specs.OfficeReplay.{IsHalted}
 use Rattle.role_cli.specs.Environment.{Environment, ReadFailed, WriteFailed}
-use Rattle.role_cli.specs.FailureCause.{IsCaused}
 use Rattle.role_cli.specs.FileWork.{DoesOnStore, FailsOnStore}
-use Rattle.role_cli.specs.MemoryReplay.{FailsInMemory, ReplaysInMemory}
-use Rattle.role_cli.specs.Work.{DoesOverSomeState, FailsOrFindsNoOffice}
+use Rattle.role_cli.specs.ServedConnections.{Known}
+use Rattle.role_cli.specs.Work.{AnswersInput, DoesOverSomeState, FailsOrFindsNoOffice, IsCaused}
 use Rattle.role_cli.specs.declared.choice.Choice.{Choice}
 use Rattle.role_cli.specs.declared.choice.Choice.TheVariants as choice
 use Rattle.role_cli.specs.declared.choice.Place.TheVariants.{File, Memory}
 use Rattle.role_cli.specs.declared.failure.Failure.{Failure}
+use Rattle.role_cli.specs.declared.failure.Failure.TheVariants.{Refused, Stopped}
 use Rattle.role_cli.specs.declared.memory_file.MemoryFile.{MemoryFile}
 use Rattle.role_cli.specs.declared.store_after.StoreAfter.{StoreAfter}
 use Rattle.role_cli.specs.declared.store_after.StoreAfter.TheVariants as after
+
+-- ---- a replay in memory
+
+-- an open office in memory, whose state is empty and is stored in its tables
+pub record IsNewOffice {g : Ghosts MemoryFile} (office : OfficeModel (FileStore MemoryFile g)) : Type 0 where
+  pub state_is : office.facts ≡ empty_state 2
+  pub is_closed : office.is_closed ≡ false
+  pub durable : IsDurable (state over_files office.conn) (empty_state 2)
+
+-- the lines were answered, over an office that was new
+abbrev pub ReplaysInMemory : Ghosts MemoryFile → (remaining now_remaining written now_written : Known) → Type 0
+ReplaysInMemory g remaining now_remaining written now_written = (first last : OfficeModel (FileStore MemoryFile g)) × IsNewOffice first
+    × AnswersInput (state over_files) first remaining now_remaining written now_written last
+
+-- The replay failed: it stopped over an office that was new, after these bytes were read; or none could be created, because an allocation
+-- failed, and nothing was touched.
+abbrev pub FailsInMemory : Ghosts MemoryFile → Failure → (untouched : Type 0) → (remaining now_remaining written now_written : Known) → Type 0
+FailsInMemory g (Stopped stop) untouched remaining now_remaining written now_written =
+    (taken : List ℕ) × (first left : OfficeModel (FileStore MemoryFile g)) × Consumes remaining now_remaining taken × IsNewOffice first
+    × IsHalted (state over_files) first left taken (IsAtEnd now_remaining) written now_written stop.cause stop.answered
+FailsInMemory g (Refused why) untouched remaining now_remaining written now_written = ((why ≡ refusal.Memory) ⊎ (why ≡ refusal.Store)) × untouched
+FailsInMemory g _ untouched remaining now_remaining written now_written = ⊥
+
+-- ---- any subcommand
 
 -- it is a replay over a new office in memory
 abbrev pub is_memory_replay : Choice → Bool

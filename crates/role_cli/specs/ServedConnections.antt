@@ -1,5 +1,5 @@
 -- What a server leaves of an office, one connection after another.
-use Rattle.std.specs.Prelude.{⊤, ◌≡◌, ◌<◌, ◌≤◌, ◌+◌, ◌^◌, ◌++◌, ◌==◌, ℕ, Bool, false, List, [], ◌∷◌, Option, Some, None, length, option_map}
+use Rattle.std.specs.Prelude.{◌≡◌, ◌<◌, ◌≤◌, ◌+◌, ◌^◌, ◌++◌, ◌==◌, ℕ, Bool, false, List, [], ◌∷◌, Option, Some, None, IfSome, length, option_map}
 use Rattle.std.specs.List.{list_any}
 use Rattle.sqlite.specs.Held.{Held}
 use Rattle.sqlite.specs.State.{State}
@@ -11,7 +11,7 @@ use Rattle.role_wire.specs.declared.lines.Cause.{Cause}
 use Rattle.role_wire.specs.declared.serving.Answered.{Answered}
 use Rattle.role_wire.specs.declared.lines.Cause.TheVariants.{Read, Write}
 use Rattle.role_cli.specs.declared.failure.Failure.{Failure}
-use Rattle.role_cli.specs.declared.failure.Failure.TheVariants.{Refused, Stopped, NotListening, NotAccepting, Closed}
+use Rattle.role_cli.specs.declared.failure.Failure.TheVariants.{Refused, NotAccepting, Closed}
 
 -- the bytes of a stream, if they are known
 abbrev pub Known : Type 0
@@ -53,18 +53,14 @@ CallFails before now = (now ≡ record before { failed = now.failed }) × HasRis
 abbrev pub AllServed : ℕ → List (Option ℕ) → Clients → Clients → Type 0
 AllServed limit statuses last now = (length statuses ≡ limit) × (list_any is_closing statuses ≡ false) × (now ≡ last)
 
--- the last connection closed the office, and none before it
-abbrev pub EndsClosed : List (Option ℕ) → Type 0
-EndsClosed statuses = (before : List (Option ℕ)) × (statuses ≡ before ++ Some 500 ∷ []) × (list_any is_closing before ≡ false)
-
 -- A server ended by this failure after it had served these connections: it could not be allocated before the first one, one more
--- could not be accepted, or the last one closed the office.
+-- could not be accepted, or the last one closed the office and none before it.
 abbrev pub EndsBy : ℕ → Failure → List (Option ℕ) → Clients → Clients → Type 0
 EndsBy limit (Refused refusal) statuses last now = (refusal ≡ Memory) × (statuses ≡ []) × (now ≡ last)
 EndsBy limit NotAccepting statuses last now = (length statuses < limit) × (list_any is_closing statuses ≡ false) × CallFails last now
-EndsBy limit Closed statuses last now = (length statuses ≤ limit) × EndsClosed statuses × (now ≡ last)
-EndsBy limit NotListening statuses last now = ⊥
-EndsBy limit (Stopped stop) statuses last now = ⊥
+EndsBy limit Closed statuses last now = (length statuses ≤ limit)
+    × ((before : List (Option ℕ)) × (statuses ≡ before ++ Some 500 ∷ []) × (list_any is_closing before ≡ false)) × (now ≡ last)
+EndsBy limit _ statuses last now = ⊥
 
 -- the next client, and what it sends, if that is known; none is left if all are known and were served
 abbrev pub TakesNext : Option (List (List ℕ)) → Known → Option (List (List ℕ)) → Type 0
@@ -81,16 +77,6 @@ AddsReply (Some replies) reply now = (sent : SentReply) × (reply ≡ Some sent)
 abbrev pub bytes_of : Option SentReply → Known
 bytes_of reply = option_map (λ (it : SentReply). it.bytes) reply
 
--- a write to a client failed, if it is known what it was sent
-abbrev pub HasFailedWrite : Option SentReply → Type 0
-HasFailedWrite (Some reply) = 1 ≤ reply.failed_writes
-HasFailedWrite None = ⊤
-
--- nothing was written yet, if what is written is known
-abbrev pub nothing_of : Known → Known
-nothing_of (Some bytes) = Some []
-nothing_of None = None
-
 module _ {S : Type 0} (shown : Held S → State) where
   -- One connection, on which a client sent these bytes, of which these are left, and was sent this reply: the one request in it was
   -- answered with this status. Or it stopped: by a read only if a read may have failed, and by a write only if a write may have.
@@ -99,10 +85,10 @@ module _ {S : Type 0} (shown : Held S → State) where
   IsServedOver read_failed write_failed sent left written now old None new =
       (why : Cause) × StopsRequest shown why old new sent left written now × (why ≡ Read → read_failed) × (why ≡ Write → write_failed)
 
-  -- the same, on a connection on which nothing was written before
+  -- the same, on a connection on which nothing was written before; a write may have failed unless it is known that none did
   abbrev pub IsServed : (read_failed : Type 0) → (sent left : Known) → Option SentReply → OfficeModel S → Option ℕ → OfficeModel S → Type 0
   IsServed read_failed sent left reply old status new =
-      IsServedOver read_failed (HasFailedWrite reply) sent left (nothing_of (bytes_of reply)) (bytes_of reply) old status new
+      IsServedOver read_failed (IfSome reply (λ it. 1 ≤ it.failed_writes)) sent left (option_map (λ _. []) reply) (bytes_of reply) old status new
 
   -- the next client was accepted and served. No read fails if it is known what the clients send
   pub record IsNextServed (before now : Clients) (old : OfficeModel S) (status : Option ℕ) (new : OfficeModel S) : Type 0 where
@@ -116,8 +102,7 @@ module _ {S : Type 0} (shown : Held S → State) where
     pub adds : AddsReply before.replies reply now.replies
     pub served : IsServed (before.waiting ≡ None) sent left reply old status new
 
-  -- connections with these statuses, one after another: the reply on each is that to its request, in the office that the ones before
-  -- it left
+  -- connections with these statuses were served, one after another: each in the office that the ones before it left
   abbrev pub AreServed : Clients → Clients → OfficeModel S → List (Option ℕ) → OfficeModel S → Type 0
   AreServed before now old [] new = (now ≡ before) × (new ≡ old)
   AreServed before now old (status ∷ rest) new =

@@ -1,11 +1,12 @@
 -- The work of a subcommand over the office of an open connection: what it reads and writes, and the office after it.
-use Rattle.std.specs.Prelude.{⊤, ◌≡◌, ◌≢◌, ◌⊎◌, ◌≤◌, ◌++◌, ℕ, Bool, true, false, List, [], ◌∷◌, length, Ok, Err, codes, string_bytes}
+use Rattle.std.specs.Prelude.{⊤, ◌≡◌, ◌≢◌, ◌⊎◌, ◌≤◌, ◌++◌, ℕ, Bool, true, false, List, [], ◌∷◌, length, Ok, Err, IsTrue, codes, string_bytes}
 use Rattle.std.specs.Fmt.{decimal}
 use Rattle.std.specs.Io.KnownBytes.{Appends, Consumes, IsAtEnd}
 use Rattle.sqlite.specs.Held.{Held}
 use Rattle.sqlite.specs.State.{State}
 use Rattle.rbac_sets.specs.CommandContent.{Import}
 use Rattle.rbac_sets.specs.Sets.{Pair}
+use Rattle.rbac_sets.specs.Stream.{HasRisen}
 use Rattle.rbac_sets.specs.declared.refusal.Refusal.{Refusal}
 use Rattle.rbac_sets.specs.declared.refusal.Refusal.TheVariants.{Memory, Store}
 use Rattle.admin_mgr.specs.RbacState.{RbacState, empty_state}
@@ -20,7 +21,7 @@ use Rattle.role_tables.specs.Creation.{MayCreate}
 use Rattle.role_tables.specs.TableContents.{contents_of}
 use Rattle.role_tables.specs.Migration.{IsMigratedFrom, LeavesEitherVersion, RefusesMigration, StaysRefused}
 use Rattle.role_tables.specs.Office.{OfficeModel}
-use Rattle.role_tables.specs.OpeningChecks.{IsMemoryOrStore, ReadsState, RefusesContents}
+use Rattle.role_tables.specs.OpeningChecks.{IsMemoryOrStore, ReadsState, RefusesContents, is_opening_refusal}
 use Rattle.role_tables.specs.Runs.{IsInRun}
 use Rattle.role_tables.specs.Durability.{HoldsAsBefore, LeavesBeforeOr, LeavesOnly, StaysOutside, WhateverIsDurable}
 use Rattle.role_wire.specs.Continuation.{Continues, ReachesState}
@@ -28,9 +29,8 @@ use Rattle.role_wire.specs.Lines.{line_feed}
 use Rattle.role_wire.specs.Outcome.{after_lines, asking_lines}
 use Rattle.role_wire.specs.OfficeRequest.{RefusesRequest, DoesRequest}
 use Rattle.role_wire.specs.OfficeReplay.{IsAnswered, IsHalted}
-use Rattle.role_wire.specs.declared.lines.Cause.TheVariants.{Read}
-use Rattle.role_cli.specs.Environment.{CsvFailed, Environment, IsReadOf, ReadFailed, WriteFailed}
-use Rattle.role_cli.specs.FailureCause.{IsCaused, IsOpeningFailure, IsUnwritten}
+use Rattle.role_wire.specs.declared.lines.Cause.TheVariants.{Read, Write}
+use Rattle.role_cli.specs.Environment.{Environment, IsReadOf, ReadFailed, WriteFailed}
 use Rattle.role_cli.specs.ServedConnections.{AllServed, CallFails, Clients, EndsBy, Known, Listens, ServesConnections}
 use Rattle.role_cli.specs.declared.choice.Choice.{Choice}
 use Rattle.role_cli.specs.declared.choice.Choice.TheVariants as choice
@@ -66,6 +66,22 @@ listening_line port = codes "listening on 127.0.0.1:" ++ (decimal port ++ codes 
 -- a part of the text was written, and not the whole
 abbrev pub WritesPart : List ℕ → Known → Known → Type 0
 WritesPart text written now_written = (part rest : List ℕ) × (text ≡ part ++ rest) × (1 ≤ length rest) × Appends written now_written part
+
+-- ---- why it failed
+
+-- a replay stopped by a write only if a write failed, and by a read only if a read failed
+abbrev pub IsCaused : Failure → (write_failed read_failed : Type 0) → Type 0
+IsCaused (Stopped stop) write_failed read_failed = (stop.cause ≡ Write → write_failed) × (stop.cause ≡ Read → read_failed)
+IsCaused _ write_failed read_failed = ⊤
+
+-- a text was not written whole, because an allocation or the output failed
+abbrev pub IsUnwritten : Failure → (write_failed : Type 0) → Type 0
+IsUnwritten failure write_failed = (failure ≡ Refused Memory) ⊎ ((failure ≡ Refused Store) × write_failed)
+
+-- no office was created, migrated or opened. Nothing but 41 Store is reported if none was created
+abbrev pub IsOpeningFailure : Choice → Failure → Type 0
+IsOpeningFailure (choice.Init _) failure = failure ≡ Refused Store
+IsOpeningFailure _ failure = (refusal : Refusal) × (failure ≡ Refused refusal) × IsTrue (is_opening_refusal refusal)
 
 -- why a file to be imported was not read: an allocation failed, or the file could not be opened or read
 abbrev pub IsUnread : (csv_failed : Type 0) → Failure → Type 0
@@ -167,7 +183,7 @@ module _ {C : Type 0} (shown : Held C → State) where
   FailsSubcommand (choice.Serve _ port limit) failure old from to new =
       FailsToServe port limit from.clients to.clients old failure (WriteFailed from to) from.written to.written new
   FailsSubcommand (choice.Import _ path) failure old from to new =
-      FailsToImport (from.csv_at (string_bytes path)) old failure (WriteFailed from to) (CsvFailed from to) from.written to.written new
+      FailsToImport (from.csv_at (string_bytes path)) old failure (WriteFailed from to) (HasRisen from.failed_csv to.failed_csv) from.written to.written new
   FailsSubcommand (choice.Export _) failure old from to new =
       IsUnwritten failure (WriteFailed from to) × WritesPart (exported old.facts) from.written to.written × (new ≡ old)
   FailsSubcommand (choice.Report _) failure old from to new =

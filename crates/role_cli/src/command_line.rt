@@ -2,7 +2,8 @@
 ghost use Rattle.std.specs.Prelude.{◌≡◌, false, IfOk};
 ghost use Rattle.clap.specs.Words.{app_of, rule_of};
 ghost use Rattle.clap.specs.declared.builder.command.Command.TheViews.{out-Command};
-ghost use Rattle.role_cli.specs.CommandLine.{bare_program, csv, file, first_six, first_three, import_of, in_memory, limit, maybe_file, of_file, port, program, replay, serve};
+ghost use Rattle.role_cli.specs.CommandLine.{bare_program, csv, file, import_of, in_memory, limit, maybe_file, of_file, port, program, replay, serve};
+ghost use Rattle.role_cli.specs.private.FirstSubcommands.{first_six, first_three};
 
 use clap::{Arg, ArgAction, Command, value_parser};
 use std::alloc::{AllocError, Global};

@@ -7,7 +7,7 @@ ghost use Rattle.sqlite.specs.State.{HasCleanDisk};
 ghost use Rattle.sqlite.specs.WalFiles.{image_at};
 ghost use Rattle.rbac_sets.specs.Stream.{HasRisen, one_more};
 ghost use Rattle.role_wire.specs.Replay.{most_reads};
-ghost use Rattle.role_cli.specs.Around.{IsUntouched, around};
+ghost use Rattle.role_cli.specs.Hosts.{IsUntouched, around};
 ghost use Rattle.role_cli.specs.FileWork.{DoesOnStore, FailsOnStore, HoldsCommit, WorksOnFiles};
 ghost use Rattle.role_cli.specs.Leftovers.{LeavesClosed, LeavesPaths, LeavesUnopened, NeverBegins};
 ghost use Rattle.role_cli.specs.Work.{DoesOnConnection, DoesOverSomeState, FailsOnConnection, FailsOrFindsNoOffice, asks_host, reads_input};

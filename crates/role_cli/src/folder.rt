@@ -1,11 +1,11 @@
 //! The paths of a folder: what is there, without what it holds.
-ghost use Rattle.std.specs.Prelude.{◌≡◌, ◌≤◌, ◌⊎◌, IfErr, IfOk, IfSome, OnErr, string_bytes};
+ghost use Rattle.std.specs.Prelude.{◌≡◌, ◌≤◌, ◌⊎◌, ◌∷◌, [], IfErr, IfOk, IfSome, OnErr, string_bytes};
 ghost use Rattle.sqlite.specs.Files.{IsOpened, file_state};
 ghost use Rattle.sqlite.specs.Start.{FindsIn};
 ghost use Rattle.sqlite.specs.State.{HasCleanDisk};
 ghost use Rattle.sqlite.specs.WalFiles.{image_at};
 ghost use Rattle.rbac_sets.specs.Stream.{HasRisen, failures_after, one_more};
-ghost use Rattle.role_cli.specs.Paths.{ChangesKnown, only, with_empty, without};
+ghost use Rattle.role_cli.specs.Paths.{ChangesKnown, with_empty, without};
 
 use rbac_sets::Refusal;
 use sqlite::{Connection, FileFrom, FileStore, Files, Start};
@@ -55,13 +55,13 @@ pub trait Folder {
 
     /// Removes the file at a path, if there is one. If that fails, it stays.
     fn remove(&mut self, path: &str)
-        ensures removed { ChangesKnown (only path.now) (without path.now) (HasRisen (failed_calls self.old) (failed_calls self.new))
+        ensures removed { ChangesKnown (λ _. path.now ∷ []) (without path.now) (HasRisen (failed_calls self.old) (failed_calls self.new))
             (paths self.old) (paths self.new) }
         ensures count { failed_calls self.old ≤ failed_calls self.new };
 
     /// Empties the file at a path, or creates an empty one. If that fails, the path stays as it is.
     fn make_empty(&mut self, path: &str)
-        ensures emptied { ChangesKnown (only path.now) (with_empty path.now) (HasRisen (failed_calls self.old) (failed_calls self.new))
+        ensures emptied { ChangesKnown (λ _. path.now ∷ []) (with_empty path.now) (HasRisen (failed_calls self.old) (failed_calls self.new))
             (paths self.old) (paths self.new) }
         ensures count { failed_calls self.old ≤ failed_calls self.new };
 

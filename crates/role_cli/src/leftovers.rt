@@ -1,9 +1,9 @@
 //! What is at the path of an office: what has to be there before it is opened, and what is removed if it could not be
 //! opened or created.
-ghost use Rattle.std.specs.Prelude.{◌≡◌, ◌⊎◌, ◌↔◌, ◌≤◌, ◌∷◌, [], IfErr, IfOk, IfSome, OnOk};
+ghost use Rattle.std.specs.Prelude.{◌≡◌, ◌⊎◌, ◌↔◌, ◌≤◌, ◌∷◌, [], IfErr, IfOk, IfSome, IsSomeAnd, OnOk};
 ghost use Rattle.rbac_sets.specs.Stream.{HasRisen};
-ghost use Rattle.role_cli.specs.FailureCause.{IsOpeningFailure};
-ghost use Rattle.role_cli.specs.Leftovers.{CannotBegin, HasByte, IsBefore, IsBegun, IsLogWithoutPage, IsStateOf, RemovesEmpty, RemovesSiblings, Restores};
+ghost use Rattle.role_cli.specs.Work.{IsOpeningFailure};
+ghost use Rattle.role_cli.specs.Leftovers.{CannotBegin, HasByte, HasNoPage, IsBefore, IsBegun, IsStateOf, RemovesEmpty, RemovesSiblings, Restores};
 ghost use Rattle.role_cli.specs.Paths.{ChangesKnown, length_in, log_of, without};
 
 use crate::choice::Choice;
@@ -161,7 +161,7 @@ pub(crate) fn restore<F: Folder>(folder: &mut F, path: &str, before: PathState)
 // What is removed, by what was at the path before, and by the lengths of the file and of its log, if they are there.
 // Nothing is removed that may hold what was committed.
 fn what_to_remove(before: PathState, file: Option<u64>, log: Option<u64>) -> Removal
-    ensures log { (result ≡ Removal.Log) ↔ ((before ≡ PathState.Bytes) × IsLogWithoutPage log) }
+    ensures log { (result ≡ Removal.Log) ↔ ((before ≡ PathState.Bytes) × IsSomeAnd log HasNoPage) }
     ensures content { (result ≡ Removal.Content) ↔ ((before ≡ PathState.EmptyFile) × IsBegun file log) }
     ensures file { (result ≡ Removal.File) ↔ ((before ≡ PathState.Nothing) × IsBegun file log) }
 {

@@ -83,9 +83,9 @@ impl<'a> Machine<'a> {
 }
 
 impl CsvFiles for Machine<'_> {
-    ghost use Rattle.role_cli.specs.Hosts.{unknown_csv};
+    ghost use Rattle.std.specs.Prelude.{None};
 
-    ghost csv_at = { λ _. unknown_csv };
+    ghost csv_at = { λ _ _. None };
 
     ghost failed_csv = { λ machine. machine.failed_csv };
 

@@ -2,8 +2,8 @@
 ghost use Rattle.std.specs.Prelude.{◌≡◌, ◌⊎◌, ◌≤◌, ◌+◌, OnOk, IfOk, IfErr};
 ghost use Rattle.rbac_sets.specs.Stream.{HasRisen};
 ghost use Rattle.role_wire.specs.Replay.{IsAtBound, most_reads};
-ghost use Rattle.role_cli.specs.FailureCause.{IsCaused};
-ghost use Rattle.role_cli.specs.MemoryReplay.{FailsInMemory, IsNewOffice, IsUnmade, ReplaysInMemory};
+ghost use Rattle.role_cli.specs.Work.{IsCaused};
+ghost use Rattle.role_cli.specs.ProgramOutcome.{FailsInMemory, IsNewOffice, ReplaysInMemory};
 
 use crate::failure::Failure;
 use crate::memory_file::MemoryFile;
@@ -56,7 +56,7 @@ pub(crate) fn replay_memory<R: Source, W: Sink>(
 // Creates an office over the file store, on two files in memory.
 fn new_office(alloc: Global) -> Result<Office<FileStore<MemoryFile>>, Failure>
     ensures ok { IfOk result IsNewOffice }
-    ensures err { IfErr result IsUnmade }
+    ensures err { IfErr result (λ failure. (failure ≡ Failure.Refused Refusal.Memory) ⊎ (failure ≡ Failure.Refused Refusal.Store)) }
 {
     let files = Files {
         log: MemoryFile::new(alloc),

@@ -16,10 +16,9 @@ ghost use Rattle.role_tables.specs.Durability.{ForgetsNoFault};
 ghost use Rattle.role_wire.specs.Continuation.{Continues};
 ghost use Rattle.role_wire.specs.OfficeRequest.{RefusesRequest, DoesRequest};
 ghost use Rattle.role_wire.specs.Replay.{most_reads};
-ghost use Rattle.role_cli.specs.Around.{IsUntouched, around};
+ghost use Rattle.role_cli.specs.Hosts.{IsUntouched, around};
 ghost use Rattle.role_cli.specs.Environment.{HasFailed};
-ghost use Rattle.role_cli.specs.FailureCause.{IsOpeningFailure, IsUnwritten};
-ghost use Rattle.role_cli.specs.Work.{BeginsRun, DoesOnConnection, DoesSubcommand, DoesOverSomeState, FailsSubcommand, FailsOnConnection, FailsToImport, FailsOrFindsNoOffice, Imports, IsUnopened, RefusesText, StartsWell, WritesPart, asks_host, reads_input};
+ghost use Rattle.role_cli.specs.Work.{BeginsRun, DoesOnConnection, DoesOverSomeState, DoesSubcommand, FailsOnConnection, FailsOrFindsNoOffice, FailsSubcommand, FailsToImport, Imports, IsOpeningFailure, IsUnopened, IsUnwritten, RefusesText, StartsWell, WritesPart, asks_host, reads_input};
 
 use crate::choice::Choice;
 use crate::failure::Failure;

@@ -1,7 +1,7 @@
 use Rattle.std.proofs.Common.{ℕ, ◌≡◌, inl, inr, subst}
 use Rattle.std.specs.Prelude.{None}
 use Rattle.rbac_sets.specs.Stream.{HasRisen}
-use Rattle.role_cli.specs.Around.{IsUntouched}
+use Rattle.role_cli.specs.Hosts.{IsUntouched}
 use Rattle.role_cli.specs.Leftovers.{NeverBegins}
 use Rattle.role_cli.specs.ProgramOutcome.{FailsSomehow, IsDoneSomehow, path_of}
 use Rattle.role_cli.proofs.Beginning.{fails_less}

@@ -2,8 +2,7 @@ use Rattle.std.proofs.Common.{subst}
 use Rattle.std.specs.Prelude.{IfErr}
 use Rattle.review_mgr.specs.Report.{report}
 use Rattle.role_cli.specs.Environment.{HasFailed}
-use Rattle.role_cli.specs.FailureCause.{IsUnwritten}
-use Rattle.role_cli.specs.Work.{WritesPart}
+use Rattle.role_cli.specs.Work.{IsUnwritten, WritesPart}
 use Rattle.role_cli.proofs.Results.{unwritten}
 use Rattle.role_cli.proofs.work.report.Goals as goal
 
