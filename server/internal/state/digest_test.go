@@ -2,6 +2,7 @@ package state
 
 import (
 	"context"
+	"fmt"
 	"path/filepath"
 	"testing"
 	"time"
@@ -12,14 +13,18 @@ import (
 
 // The program makes an office with the same rows of the lines of an office, with every kind of row, and it has the same digest.
 func TestOfficeLines(t *testing.T) {
-	s := begun(t, `{"fn":"addUser","user":"ann"}`, `{"fn":"addUser","user":"zoë 日本 \"'\\"}`, `{"fn":"addRole","role":"clerk"}`,
+	lines := make([]string, 2500) // They are read in parts.
+	for i := range lines {
+		lines[i] = fmt.Sprintf(`{"fn":"addUser","user":"user %d"}`, i)
+	}
+	s := begun(t, append(lines, `{"fn":"addUser","user":"ann"}`, `{"fn":"addUser","user":"zoë 日本 \"'\\"}`, `{"fn":"addRole","role":"clerk"}`,
 		`{"fn":"addRole","role":"teller"}`, `{"fn":"addAscendant","asc":"head","desc":"clerk"}`,
 		`{"fn":"addAscendant","asc":"chief","desc":"head"}`, `{"fn":"addPermObj","object":"safe"}`,
 		`{"fn":"addPermission","object":"safe","operation":"open"}`, `{"fn":"grantPermission","object":"safe","operation":"open","role":"clerk"}`,
 		`{"fn":"assignUser","user":"ann","role":"head"}`, `{"fn":"assignUser","user":"ann","role":"teller"}`,
 		`{"fn":"createSsdSet","set":"s","roles":["chief","teller"],"cardinality":2}`,
 		`{"fn":"createDsdSet","set":"d","roles":["clerk","teller","chief"],"cardinality":3}`,
-		`{"fn":"lockUserAccount","user":"zoë 日本 \"'\\"}`, `{"fn":"createSession","user":"ann","roles":["clerk","teller"],"session":"secret"}`)
+		`{"fn":"lockUserAccount","user":"zoë 日本 \"'\\"}`, `{"fn":"createSession","user":"ann","roles":["clerk","teller"],"session":"secret"}`)...)
 	frozen, err := s.Freeze()
 	if err != nil {
 		t.Fatal(err)
