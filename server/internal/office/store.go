@@ -16,6 +16,8 @@ import (
 	"strings"
 	"time"
 
+	sqlite3 "github.com/mattn/go-sqlite3"
+
 	"rbac-node/internal/disk"
 )
 
@@ -313,11 +315,11 @@ func (s *Store) deleteOld() error {
 // Restore copies a snapshot to a file, unless the snapshot has changed.
 func (s *Store) Restore(ctx context.Context, snapshot Snapshot, file string) error {
 	digest, err := Digest(ctx, s.Path(snapshot))
-	if err != nil && ctx.Err() == nil {
+	if err != nil && ctx.Err() == nil && !mayPass(err) {
 		return fmt.Errorf("%w: snapshot %d: %v", ErrOther, snapshot.Revision, err)
 	}
 	if err != nil {
-		return err
+		return fmt.Errorf("snapshot %d: %w", snapshot.Revision, err)
 	}
 	if digest != snapshot.Digest {
 		return other(snapshot, digest)
@@ -326,6 +328,15 @@ func (s *Store) Restore(ctx context.Context, snapshot Snapshot, file string) err
 		return fmt.Errorf("office: %w", err)
 	}
 	return nil
+}
+
+// mayPass reports whether the same file may be read later: this error says nothing of what is in it.
+func mayPass(err error) bool {
+	var failed sqlite3.Error
+	if !errors.As(err, &failed) {
+		return false
+	}
+	return failed.Code == sqlite3.ErrNomem || failed.Code == sqlite3.ErrCantOpen || failed.Code == sqlite3.ErrIoErr
 }
 
 // ServeHTTP sends the newest snapshot to another node, or that at the revision that it asks for.

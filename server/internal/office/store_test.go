@@ -183,3 +183,27 @@ func TestFetchRefuses(t *testing.T) {
 		}
 	}
 }
+
+// TestRestore tells a snapshot that is damaged from one that can't be read now, as when no more files can be opened.
+func TestRestore(t *testing.T) {
+	s := newStore(t)
+	for name, damage := range map[string]func(path string) error{
+		"":                func(string) error { return nil },
+		"no office":       func(path string) error { return os.WriteFile(path, []byte("another file"), 0o600) },
+		"shorter":         func(path string) error { return os.Truncate(path, 4096) },
+		"empty":           func(path string) error { return os.Truncate(path, 0) },
+		"can't be opened": func(path string) error { _ = os.Remove(path); return os.Mkdir(path, 0o700) },
+	} {
+		snapshot := add(t, s, 8)
+		if err := damage(s.Path(snapshot)); err != nil {
+			t.Fatal(err)
+		}
+		err := s.Restore(context.Background(), snapshot, filepath.Join(t.TempDir(), "office"))
+		if (err == nil) != (name == "") || errors.Is(err, ErrOther) != (name != "" && name != "can't be opened") {
+			t.Errorf("%s: %v", name, err)
+		}
+		if err := os.RemoveAll(s.Path(snapshot)); err != nil {
+			t.Fatal(err)
+		}
+	}
+}
