@@ -74,7 +74,11 @@ func linesOf(t *testing.T, s *state.State) string {
 	if err != nil {
 		t.Fatal(err)
 	}
-	return string(frozen.Lines())
+	lines, err := frozen.Lines()
+	if err != nil {
+		t.Fatal(err)
+	}
+	return string(lines)
 }
 
 // tryUser tries to add a user.

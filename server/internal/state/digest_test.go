@@ -4,9 +4,11 @@ import (
 	"context"
 	"fmt"
 	"path/filepath"
+	"strings"
 	"testing"
 	"time"
 
+	"rbac-node/internal/api"
 	"rbac-node/internal/office"
 	"rbac-node/internal/programtest"
 )
@@ -29,8 +31,12 @@ func TestOfficeLines(t *testing.T) {
 	if err != nil {
 		t.Fatal(err)
 	}
+	made, err := frozen.OfficeLines()
+	if err != nil {
+		t.Fatal(err)
+	}
 	file := filepath.Join(t.TempDir(), "office")
-	if err := office.Make(context.Background(), programtest.Path(t), file, frozen.OfficeLines(), time.Minute); err != nil {
+	if err := office.Make(context.Background(), programtest.Path(t), file, made, time.Minute); err != nil {
 		t.Fatal(err)
 	}
 	own, err := s.Digest()
@@ -46,5 +52,15 @@ func TestOfficeLines(t *testing.T) {
 	}
 	if given, err := again.Digest(); err != nil || given != own {
 		t.Errorf("%v, what is read has the digest %s and not %s", err, given, own)
+	}
+}
+
+// A line that can't be made fails all lines: an office without it would be another one.
+func TestLinesFail(t *testing.T) {
+	f := &Frozen{Users: []Row{{"ann"}, {strings.Repeat("a", api.MaxLineBytes)}, {"bob"}}, Graph: &Graph{}}
+	for name, lines := range map[string]func() ([]byte, error){"Lines": f.Lines, "OfficeLines": f.OfficeLines} {
+		if made, err := lines(); err == nil {
+			t.Errorf("%s: %d bytes", name, len(made))
+		}
 	}
 }
