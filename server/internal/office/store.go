@@ -34,6 +34,8 @@ const (
 	recordMark = "-record"
 	// copiedSuffix ends the name of a snapshot that another node has made.
 	copiedSuffix = "-copied"
+	// earlierDigits is how many more digits an earlier version had in the names of its folders in memory.
+	earlierDigits = 48
 	// nameField is the field in the head of a reply that names the snapshot.
 	nameField = "Snapshot"
 	// revisionQuery is how another snapshot than the newest one is asked for.
@@ -97,8 +99,10 @@ func Open(data, program string) (*Store, error) {
 	if err := os.MkdirAll(folder, 0o700); err != nil {
 		return nil, fmt.Errorf("snapshots: %w", err)
 	}
-	left, _ := filepath.Glob(filepath.Join(disk.EscapeGlob(folder), unfinishedPrefix+"*")) // The pattern isn't wrong.
-	for _, file := range left {
+	scratch := ScratchOf("node", folder, folder)
+	left, _ := filepath.Glob(filepath.Join(disk.EscapeGlob(folder), unfinishedPrefix+"*"))      // The pattern isn't wrong.
+	inMemory, _ := filepath.Glob(scratch[0] + strings.Repeat("[0-9a-f]", earlierDigits) + "-*") // An earlier version has left them.
+	for _, file := range append(left, inMemory...) {
 		if err := os.RemoveAll(file); err != nil {
 			return nil, fmt.Errorf("snapshots: %w", err)
 		}
@@ -107,7 +111,7 @@ func Open(data, program string) (*Store, error) {
 	if err != nil {
 		return nil, fmt.Errorf("snapshots: %w", err)
 	}
-	s := &Store{dir, program, ScratchOf("node", folder, folder)}
+	s := &Store{dir, program, scratch}
 	s.scratch.RemoveLeft()
 	return s, nil
 }

@@ -2,7 +2,9 @@ package office
 
 import (
 	"context"
+	"crypto/sha256"
 	"errors"
+	"fmt"
 	"net/http"
 	"net/http/httptest"
 	"os"
@@ -204,6 +206,25 @@ func TestRestore(t *testing.T) {
 		}
 		if err := os.RemoveAll(s.Path(snapshot)); err != nil {
 			t.Fatal(err)
+		}
+	}
+}
+
+// What a crash of an earlier version has left in memory is removed at a start, with the names of sessions, and not that of another node.
+func TestLeftByEarlier(t *testing.T) {
+	data := t.TempDir()
+	own, other := sha256.Sum256([]byte(FolderIn(data))), sha256.Sum256([]byte(FolderIn(data+"x")))
+	for _, sum := range [][sha256.Size]byte{own, other} {
+		folder := fmt.Sprintf("%s/rbac-node-%d-%x-7", memory, os.Getuid(), sum)
+		if err := os.Mkdir(folder, 0o700); err != nil {
+			t.Fatal(err)
+		}
+		defer os.RemoveAll(folder)
+		if _, err := Open(data, ""); err != nil {
+			t.Fatal(err)
+		}
+		if _, err := os.Stat(folder); os.IsNotExist(err) != (sum == own) {
+			t.Errorf("%s: %v", folder, err)
 		}
 	}
 }
