@@ -63,7 +63,7 @@ func readReview(r *request) (ended review, err error) {
 		return ended, err
 	}
 	if ended.Name == "" || !isReason(ended.Name) {
-		return ended, notRead("review has 1 to %d bytes, and no control character", longestReason)
+		return ended, notRead("review has 1 to %d bytes, and no control character or line separator", longestReason)
 	}
 	if ended.Digest, err = api.TextAt(fields, "sha256"); err != nil {
 		return ended, err

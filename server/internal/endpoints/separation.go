@@ -11,8 +11,8 @@ type separation struct {
 	Refused   bool             `json:"refused"`
 }
 
-// What has to be allowed to a caller who is told that a set of a kind is violated, and what has to be so that it learns by whom. Nothing but
-// a list says whose a session is.
+// What a caller must be allowed in order to learn that a set is violated, and what in order to learn by whom. Nothing but a list says whose
+// a session is.
 var (
 	ofSets = map[string][]string{
 		state.Static: {"ssdRoleSetRoles", "ssdRoleSetCardinality"}, state.Dynamic: {"dsdRoleSetRoles", "dsdRoleSetCardinality"},

@@ -133,7 +133,11 @@ func (s *snapshotted) of(office *state.State) ([]byte, state.Numbers, error) {
 		if err != nil {
 			return nil, state.Numbers{}, err
 		}
-		s.text, s.numbers = frozen.Lines(), frozen.Numbers
+		text, err := frozen.Lines()
+		if err != nil {
+			return nil, state.Numbers{}, err
+		}
+		s.text, s.numbers = text, frozen.Numbers
 	}
 	return s.text, s.numbers, nil
 }

@@ -55,7 +55,7 @@ func (n *Node) freeze() (one frozen, err error) {
 	}
 	all, err := n.state.Freeze()
 	if err == nil {
-		one.lines = all.OfficeLines()
+		one.lines, err = all.OfficeLines()
 	}
 	return one, err
 }

@@ -7,6 +7,7 @@ import (
 	"encoding/hex"
 	"errors"
 	"fmt"
+	"hash"
 	"net/url"
 	"os"
 	"sort"
@@ -30,13 +31,25 @@ const (
 // Version is the newest version of offices, which has locks.
 const Version = 2
 
-// rowsQuery reads the rows of an office as librbac takes them, except the pairs that follow from others: the table, three names and a number.
-// The kinds of a table of the file have the order of librbac's tables, and a kind that no office has gives a table that isn't there.
-const rowsQuery = `
-	SELECT iif(kind BETWEEN 1 AND 3, kind - 1, 99), a, '', '', 0 FROM name_row UNION ALL
-	SELECT iif(kind BETWEEN 1 AND 8, kind + 2, 99), a, b, '', 0 FROM pair_row WHERE kind <> 4 UNION ALL
-	SELECT 11, ob, op, role, 0 FROM grant_row UNION ALL
-	SELECT iif(kind BETWEEN 1 AND 2, kind + 11, 99), name, '', '', n FROM set_row`
+// queriesOf returns what reads the rows of an office of a version as librbac takes them, and in their order: the table, three names and a
+// number. The kinds of a table of the file have the order of librbac's tables, and a kind that no office has gives a table that isn't there.
+// An index has each order, so that SQLite sorts nothing.
+func queriesOf(version int64, hasClosure bool) []string {
+	pairs := "pair_row"
+	if !hasClosure {
+		pairs += " WHERE kind <> 4"
+	}
+	queries := []string{
+		"SELECT iif(kind BETWEEN 1 AND 3, kind - 1, 99), a, '', '', 0 FROM name_row ORDER BY kind, a",
+		"SELECT iif(kind BETWEEN 1 AND 8, kind + 2, 99), a, b, '', 0 FROM " + pairs + " ORDER BY kind, a, b",
+		"SELECT 11, ob, op, role, 0 FROM grant_row ORDER BY ob, op, role",
+		"SELECT iif(kind BETWEEN 1 AND 2, kind + 11, 99), name, '', '', n FROM set_row ORDER BY kind, name",
+	}
+	if version > 1 {
+		queries = append(queries, "SELECT 14, a, '', '', 0 FROM locked_row ORDER BY a")
+	}
+	return queries
+}
 
 // inFile says where a file has the rows of a table: in which table, and of which kind if there are some.
 var inFile = [...]struct {
@@ -78,33 +91,57 @@ func appendRow(line []byte, row *rbacoffice.Row) []byte {
 	return append(line, '\n')
 }
 
+// Tables is how many tables of librbac there are.
+const Tables = len(inFile)
+
 // Sums describe the rows of an office: how many each table has, and a digest of all.
 type Sums struct {
-	Counts [len(inFile)]int
+	Counts [Tables]int
 	Digest string
 }
 
-// SumsOf describes the rows of an office of a version, which are in their order.
-func SumsOf(version int64, rows []rbacoffice.Row) (s Sums) {
-	hash, line := sha256.New(), []byte(nil)
-	fmt.Fprintf(hash, "meta_row\trbac\t%d\n", version)
-	for i := range rows {
-		s.Counts[rows[i].Table]++
-		line = appendRow(line[:0], &rows[i])
-		hash.Write(line)
-	}
-	s.Digest = hex.EncodeToString(hash.Sum(nil))
+// A Summer makes the sums of rows that are given one after another, in their order.
+type Summer struct {
+	counts [Tables]int
+	hash   hash.Hash
+	line   []byte
+}
+
+// NewSummer returns a Summer of the rows of an office of a version.
+func NewSummer(version int64) *Summer {
+	s := &Summer{hash: sha256.New()}
+	fmt.Fprintf(s.hash, "meta_row\trbac\t%d\n", version)
 	return s
+}
+
+// Add adds the next row.
+func (s *Summer) Add(row *rbacoffice.Row) {
+	s.counts[row.Table]++
+	s.line = appendRow(s.line[:0], row)
+	s.hash.Write(s.line)
+}
+
+// Sums returns the sums of all rows that were added.
+func (s *Summer) Sums() Sums { return Sums{s.counts, hex.EncodeToString(s.hash.Sum(nil))} }
+
+// SumsOf describes the rows of an office of a version, which are in their order.
+func SumsOf(version int64, rows []rbacoffice.Row) Sums {
+	s := NewSummer(version)
+	for i := range rows {
+		s.Add(&rows[i])
+	}
+	return s.Sums()
 }
 
 // Digest returns a digest of the rows of an office of version 2, which no program has open. Offices with the same rows have the same
 // digest, however their files came about.
 func Digest(ctx context.Context, file string) (string, error) {
-	rows, version, err := ReadRows(ctx, file, OfUnchanged, true)
+	s := NewSummer(Version)
+	version, err := eachRow(ctx, file, OfUnchanged, true, s.Add)
 	if err == nil && version != Version {
 		err = errOldVersion
 	}
-	return SumsOf(version, rows).Digest, err
+	return s.Sums().Digest, err
 }
 
 // SortRows sorts rows by their tables and names, as librbac has them.
@@ -136,50 +173,8 @@ func IsControl(letter rune) bool { return letter < ' ' || letter == 0x7f }
 // ReadRows reads the rows of the office in a file, in their order, with the closure pairs if they are wanted, and its version. One of
 // version 1 has no locks.
 func ReadRows(ctx context.Context, path, options string, hasClosure bool) (rows []rbacoffice.Row, version int64, err error) {
-	source := url.URL{Scheme: "file", Opaque: (&url.URL{Path: path}).EscapedPath(), RawQuery: options}
-	db, err := sql.Open("sqlite3", source.String())
-	if err == nil {
-		defer db.Close()
-		rows, version, err = readRows(ctx, db, hasClosure)
-	}
-	if err != nil {
-		return nil, 0, fmt.Errorf("%s: rows: %w", path, err)
-	}
-	SortRows(rows)
-	return rows, version, nil
-}
-
-func readRows(ctx context.Context, db *sql.DB, hasClosure bool) (all []rbacoffice.Row, version int64, err error) {
-	var tag string
-	var count int
-	err = db.QueryRowContext(ctx, "SELECT count(*), coalesce(max(tag), ''), coalesce(max(version), 0) FROM meta_row").Scan(&count, &tag, &version)
-	if err == nil && (count != 1 || tag != "rbac") {
-		err = errNoRows
-	}
-	if err != nil {
-		return nil, 0, err
-	}
-	query := rowsQuery
-	if version > 1 {
-		query += " UNION ALL SELECT 14, a, '', '', 0 FROM locked_row"
-	}
-	if hasClosure {
-		query += " UNION ALL SELECT 6, a, b, '', 0 FROM pair_row WHERE kind = 4"
-	}
-	rows, err := db.QueryContext(ctx, query)
-	if err != nil {
-		return nil, 0, err
-	}
-	defer rows.Close()
 	names := map[string]string{} // Each name is kept once: a role may be in a thousand rows.
-	for rows.Next() {
-		var row rbacoffice.Row
-		if err := rows.Scan(&row.Table, &row.Names[0], &row.Names[1], &row.Names[2], &row.Number); err != nil {
-			return nil, 0, err
-		}
-		if int(row.Table) >= len(inFile) || strings.IndexFunc(strings.Join(row.Names[:], ""), IsControl) >= 0 {
-			return nil, 0, errNoRows
-		}
+	version, err = eachRow(ctx, path, options, hasClosure, func(row *rbacoffice.Row) {
 		for i, name := range row.Names {
 			if known, is := names[name]; is {
 				row.Names[i] = known
@@ -187,9 +182,63 @@ func readRows(ctx context.Context, db *sql.DB, hasClosure bool) (all []rbacoffic
 				names[name] = name
 			}
 		}
-		all = append(all, row)
+		rows = append(rows, *row)
+	})
+	if err != nil {
+		return nil, 0, err
 	}
-	return all, version, rows.Err()
+	return rows, version, nil
+}
+
+// eachRow calls a function with the rows that ReadRows returns, one after another, and returns the version.
+func eachRow(ctx context.Context, path, options string, hasClosure bool, do func(row *rbacoffice.Row)) (version int64, err error) {
+	source := url.URL{Scheme: "file", Opaque: (&url.URL{Path: path}).EscapedPath(), RawQuery: options}
+	db, err := sql.Open("sqlite3", source.String())
+	if err == nil {
+		defer db.Close()
+		version, err = versionOf(ctx, db)
+	}
+	if err == nil {
+		for _, query := range queriesOf(version, hasClosure) {
+			if err = eachOf(ctx, db, query, do); err != nil {
+				break
+			}
+		}
+	}
+	if err != nil {
+		return 0, fmt.Errorf("%s: rows: %w", path, err)
+	}
+	return version, nil
+}
+
+func versionOf(ctx context.Context, db *sql.DB) (version int64, err error) {
+	var tag string
+	var count int
+	err = db.QueryRowContext(ctx, "SELECT count(*), coalesce(max(tag), ''), coalesce(max(version), 0) FROM meta_row").Scan(&count, &tag, &version)
+	if err == nil && (count != 1 || tag != "rbac") {
+		err = errNoRows
+	}
+	return version, err
+}
+
+// eachOf calls a function with the rows that a query gives.
+func eachOf(ctx context.Context, db *sql.DB, query string, do func(row *rbacoffice.Row)) error {
+	rows, err := db.QueryContext(ctx, query)
+	if err != nil {
+		return err
+	}
+	defer rows.Close()
+	for rows.Next() {
+		var row rbacoffice.Row
+		if err := rows.Scan(&row.Table, &row.Names[0], &row.Names[1], &row.Names[2], &row.Number); err != nil {
+			return err
+		}
+		if int(row.Table) >= Tables || strings.IndexFunc(strings.Join(row.Names[:], ""), IsControl) >= 0 {
+			return errNoRows
+		}
+		do(&row)
+	}
+	return rows.Err()
 }
 
 // walSuffix is added to the path of an office for its log.

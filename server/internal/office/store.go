@@ -16,6 +16,8 @@ import (
 	"strings"
 	"time"
 
+	sqlite3 "github.com/mattn/go-sqlite3"
+
 	"rbac-node/internal/disk"
 )
 
@@ -32,6 +34,8 @@ const (
 	recordMark = "-record"
 	// copiedSuffix ends the name of a snapshot that another node has made.
 	copiedSuffix = "-copied"
+	// earlierDigits is how many more digits an earlier version had in the names of its folders in memory.
+	earlierDigits = 48
 	// nameField is the field in the head of a reply that names the snapshot.
 	nameField = "Snapshot"
 	// revisionQuery is how another snapshot than the newest one is asked for.
@@ -95,8 +99,10 @@ func Open(data, program string) (*Store, error) {
 	if err := os.MkdirAll(folder, 0o700); err != nil {
 		return nil, fmt.Errorf("snapshots: %w", err)
 	}
-	left, _ := filepath.Glob(filepath.Join(disk.EscapeGlob(folder), unfinishedPrefix+"*")) // The pattern isn't wrong.
-	for _, file := range left {
+	scratch := ScratchOf("node", folder, folder)
+	left, _ := filepath.Glob(filepath.Join(disk.EscapeGlob(folder), unfinishedPrefix+"*"))      // The pattern isn't wrong.
+	inMemory, _ := filepath.Glob(scratch[0] + strings.Repeat("[0-9a-f]", earlierDigits) + "-*") // An earlier version has left them.
+	for _, file := range append(left, inMemory...) {
 		if err := os.RemoveAll(file); err != nil {
 			return nil, fmt.Errorf("snapshots: %w", err)
 		}
@@ -105,7 +111,7 @@ func Open(data, program string) (*Store, error) {
 	if err != nil {
 		return nil, fmt.Errorf("snapshots: %w", err)
 	}
-	s := &Store{dir, program, ScratchOf("node", folder, folder)}
+	s := &Store{dir, program, scratch}
 	s.scratch.RemoveLeft()
 	return s, nil
 }
@@ -313,11 +319,11 @@ func (s *Store) deleteOld() error {
 // Restore copies a snapshot to a file, unless the snapshot has changed.
 func (s *Store) Restore(ctx context.Context, snapshot Snapshot, file string) error {
 	digest, err := Digest(ctx, s.Path(snapshot))
-	if err != nil && ctx.Err() == nil {
+	if err != nil && ctx.Err() == nil && !mayPass(err) {
 		return fmt.Errorf("%w: snapshot %d: %v", ErrOther, snapshot.Revision, err)
 	}
 	if err != nil {
-		return err
+		return fmt.Errorf("snapshot %d: %w", snapshot.Revision, err)
 	}
 	if digest != snapshot.Digest {
 		return other(snapshot, digest)
@@ -326,6 +332,15 @@ func (s *Store) Restore(ctx context.Context, snapshot Snapshot, file string) err
 		return fmt.Errorf("office: %w", err)
 	}
 	return nil
+}
+
+// mayPass reports whether the same file may be read later: this error says nothing of what is in it.
+func mayPass(err error) bool {
+	var failed sqlite3.Error
+	if !errors.As(err, &failed) {
+		return false
+	}
+	return failed.Code == sqlite3.ErrNomem || failed.Code == sqlite3.ErrCantOpen || failed.Code == sqlite3.ErrIoErr
 }
 
 // ServeHTTP sends the newest snapshot to another node, or that at the revision that it asks for.

@@ -2,7 +2,9 @@ package office
 
 import (
 	"context"
+	"crypto/sha256"
 	"errors"
+	"fmt"
 	"net/http"
 	"net/http/httptest"
 	"os"
@@ -180,6 +182,49 @@ func TestFetchRefuses(t *testing.T) {
 		server.Close()
 		if found, _ := to.List(); len(found) > 0 {
 			t.Errorf("%s: the store has it", what)
+		}
+	}
+}
+
+// TestRestore tells a snapshot that is damaged from one that can't be read now, as when no more files can be opened.
+func TestRestore(t *testing.T) {
+	s := newStore(t)
+	for name, damage := range map[string]func(path string) error{
+		"":                func(string) error { return nil },
+		"no office":       func(path string) error { return os.WriteFile(path, []byte("another file"), 0o600) },
+		"shorter":         func(path string) error { return os.Truncate(path, 4096) },
+		"empty":           func(path string) error { return os.Truncate(path, 0) },
+		"can't be opened": func(path string) error { _ = os.Remove(path); return os.Mkdir(path, 0o700) },
+	} {
+		snapshot := add(t, s, 8)
+		if err := damage(s.Path(snapshot)); err != nil {
+			t.Fatal(err)
+		}
+		err := s.Restore(context.Background(), snapshot, filepath.Join(t.TempDir(), "office"))
+		if (err == nil) != (name == "") || errors.Is(err, ErrOther) != (name != "" && name != "can't be opened") {
+			t.Errorf("%s: %v", name, err)
+		}
+		if err := os.RemoveAll(s.Path(snapshot)); err != nil {
+			t.Fatal(err)
+		}
+	}
+}
+
+// What a crash of an earlier version has left in memory is removed at a start, with the names of sessions, and not that of another node.
+func TestLeftByEarlier(t *testing.T) {
+	data := t.TempDir()
+	own, other := sha256.Sum256([]byte(FolderIn(data))), sha256.Sum256([]byte(FolderIn(data+"x")))
+	for _, sum := range [][sha256.Size]byte{own, other} {
+		folder := fmt.Sprintf("%s/rbac-node-%d-%x-7", memory, os.Getuid(), sum)
+		if err := os.Mkdir(folder, 0o700); err != nil {
+			t.Fatal(err)
+		}
+		defer os.RemoveAll(folder)
+		if _, err := Open(data, ""); err != nil {
+			t.Fatal(err)
+		}
+		if _, err := os.Stat(folder); os.IsNotExist(err) != (sum == own) {
+			t.Errorf("%s: %v", folder, err)
 		}
 	}
 }

@@ -128,12 +128,15 @@ func (r *Record) logHead() {
 	}
 	r.mutex.Lock()
 	last := r.announced
-	r.announced = head
-	r.mutex.Unlock()
-	if head != last {
-		r.Log.Info("the head of the record", "entry", head.N, "chain", head.Chain)
-		r.headGauge.Reset()
+	isNewer := head.N > last.N // Another goroutine may have logged a later one meanwhile.
+	if isNewer {
+		r.announced = head
 		r.headGauge.WithLabelValues(head.Chain).Set(float64(head.N))
+		r.headGauge.DeleteLabelValues(last.Chain) // After it: each scrape has a head.
+	}
+	r.mutex.Unlock()
+	if isNewer {
+		r.Log.Info("the head of the record", "entry", head.N, "chain", head.Chain)
 	}
 }
 

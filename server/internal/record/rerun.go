@@ -46,12 +46,31 @@ func (r *rerun) hasRow(table rbacoffice.Table, index int) (bool, error) {
 	return len(found) > 0, err
 }
 
-func (r *rerun) sums() (office.Sums, error) {
-	o, err := r.rows()
-	if err != nil {
-		return office.Sums{}, err
+// atOnce is how many rows librbac is asked for at once.
+const atOnce = 1000
+
+// eachRow calls a function with the rows of a table.
+func (r *rerun) eachRow(table rbacoffice.Table, do func(row *rbacoffice.Row)) error {
+	var rows []rbacoffice.Row
+	for from := 0; ; from += len(rows) {
+		var err error
+		if rows, err = r.office.RowsFrom(rows[:0], table, from, atOnce); err != nil || len(rows) == 0 {
+			return err
+		}
+		for i := range rows {
+			do(&rows[i])
+		}
 	}
-	return o.sums(), nil
+}
+
+func (r *rerun) sums() (office.Sums, error) {
+	sums := office.NewSummer(r.version)
+	for table := 0; table < office.Tables; table++ {
+		if err := r.eachRow(rbacoffice.Table(table), sums.Add); err != nil {
+			return office.Sums{}, err
+		}
+	}
+	return sums.Sums(), nil
 }
 
 // has reports whether the office has the rows that the sums describe. How many each table has is compared before the digests.

@@ -32,13 +32,18 @@ func (r *rerun) access(query AccessQuery) (ways []way, err error) {
 			return nil, err
 		}
 	}
-	o, err := r.rows()
+	var sessions []rbacoffice.Row
+	err = r.eachRow(rbacoffice.Sessions, func(row *rbacoffice.Row) {
+		if query.User == "" || row.Names[1] == query.User {
+			sessions = append(sessions, *row)
+		}
+	})
 	if err != nil {
 		return nil, err
 	}
 	for _, p := range permissions {
 		if ways, err = r.addRoles(ways, query.User, p); err == nil {
-			ways, err = r.addSessions(ways, o.rows, query.User, p)
+			ways, err = r.addSessions(ways, sessions, p)
 		}
 		if err != nil {
 			return nil, err
@@ -90,20 +95,20 @@ func (r *rerun) permissionsOf(query AccessQuery) (chosen []permission, err error
 // addRoles adds the roles to which a permission is granted, each with the users whose session could have it alone, or with one user if it
 // has a name.
 func (r *rerun) addRoles(ways []way, user string, p permission) ([]way, error) {
-	var roles, users []string
+	var roles []string
 	if err := r.value(&roles, "permissionRoles", "object", p[0], "operation", p[1]); err != nil {
 		return nil, err
 	}
+	users := []string{user}
 	for _, role := range roles {
-		if err := r.value(&users, "authorizedUsers", "role", role); err != nil {
-			return nil, err
+		if user == "" { // Then there is one permission, and no role is asked for twice.
+			if err := r.value(&users, "authorizedUsers", "role", role); err != nil {
+				return nil, err
+			}
 		}
 		for _, name := range users {
-			if user != "" && name != user {
-				continue
-			}
 			sets, err := r.office.CreationConflicts(name, []string{role})
-			var refused *rbacoffice.RefusedError // Such as of a user who is locked.
+			var refused *rbacoffice.RefusedError // Such as of a user who is locked, or who isn't authorized for the role.
 			if err != nil && !errors.As(err, &refused) {
 				return nil, err
 			}
@@ -115,19 +120,16 @@ func (r *rerun) addRoles(ways []way, user string, p permission) ([]way, error) {
 	return ways, nil
 }
 
-// addSessions adds the sessions among the rows that had access to a permission, or those of one user.
-func (r *rerun) addSessions(ways []way, rows []rbacoffice.Row, user string, p permission) ([]way, error) {
-	for i := range rows {
-		session, of := rows[i].Names[0], rows[i].Names[1]
-		if rows[i].Table != rbacoffice.Sessions || user != "" && of != user {
-			continue
-		}
-		has, err := r.office.Check(session, p[1], p[0])
+// addSessions adds those of some sessions that had access to a permission.
+func (r *rerun) addSessions(ways []way, sessions []rbacoffice.Row, p permission) ([]way, error) {
+	for _, session := range sessions {
+		name, of := session.Names[0], session.Names[1]
+		has, err := r.office.Check(name, p[1], p[0])
 		if err != nil {
 			return nil, err
 		}
 		if has {
-			ways = append(ways, way{user: of, object: p[0], operation: p[1], session: session})
+			ways = append(ways, way{user: of, object: p[0], operation: p[1], session: name})
 		}
 	}
 	return ways, nil

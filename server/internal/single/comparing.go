@@ -2,7 +2,7 @@ package single
 
 import (
 	"context"
-	"errors"
+	"fmt"
 	"time"
 
 	"rbac/clients/go/rbacoffice"
@@ -55,7 +55,7 @@ func (o *Office) compare(ctx context.Context) error {
 	if err != nil {
 		return err
 	}
-	rows, version, err := office.ReadRows(ctx, copied, office.OfCopy, false)
+	rows, _, err := office.ReadRows(ctx, copied, office.OfCopy, false)
 	if err != nil {
 		return err
 	}
@@ -65,13 +65,30 @@ func (o *Office) compare(ctx context.Context) error {
 			rest = append(rest, row)
 		}
 	}
-	if office.SumsOf(version, rest) != office.SumsOf(version, rows) {
-		o.beginAgain(errOtherRows)
+	if differing := difference(rest, rows); differing != nil {
+		o.beginAgain(differing)
 	}
 	return nil
 }
 
-var errOtherRows = errors.New("the two have other rows")
+// difference names the table of the first row that only one of two offices has, or returns nil. The rows of both are in their order.
+func difference(own, others []rbacoffice.Row) error {
+	at := 0
+	for at < len(own) && at < len(others) && own[at] == others[at] {
+		at++
+	}
+	var first *rbacoffice.Row
+	switch {
+	case at < len(own) && (at == len(others) || office.IsRowBefore(&own[at], &others[at])):
+		first = &own[at]
+	case at < len(others):
+		first = &others[at]
+	default:
+		return nil
+	}
+	table, _ := office.RowInFile(first)
+	return fmt.Errorf("they have different rows of %s", table)
+}
 
 // beginAgain says that the office in this process isn't that of the file, and lets both begin with the file.
 func (o *Office) beginAgain(why error) {

@@ -74,7 +74,11 @@ func linesOf(t *testing.T, s *state.State) string {
 	if err != nil {
 		t.Fatal(err)
 	}
-	return string(frozen.Lines())
+	lines, err := frozen.Lines()
+	if err != nil {
+		t.Fatal(err)
+	}
+	return string(lines)
 }
 
 // tryUser tries to add a user.
@@ -122,6 +126,8 @@ func TestFollowerThatDiffers(t *testing.T) {
 // TestCompare puts another office in place of the one in this process. A comparison with the file shows that, and both begin with the file.
 func TestCompare(t *testing.T) {
 	options := optionsOf(t, filepath.Join(t.TempDir(), "office"))
+	var log bytes.Buffer
+	options.Log = logs.New(&log)
 	o, stop := run(t, options)
 	ask(t, o, `{"fn":"addUser","user":"ann"}`)
 	ask(t, o, `{"fn":"addRole","role":"clerk"}`)
@@ -151,6 +157,31 @@ func TestCompare(t *testing.T) {
 	}
 	if err := stop(); err != nil {
 		t.Error(err)
+	}
+	if said := `"why":"they have different rows of name_row"`; strings.Count(log.String(), said) != 3 {
+		t.Errorf("%s is not three times in the log: %s", said, log.String())
+	}
+}
+
+// TestDifference names the table of the first row that only one of two offices has.
+func TestDifference(t *testing.T) {
+	ann, bob := rbacoffice.Row{Table: rbacoffice.Users, Names: [3]string{"ann"}}, rbacoffice.Row{Table: rbacoffice.Users, Names: [3]string{"bob"}}
+	grant := rbacoffice.Row{Table: rbacoffice.Grants, Names: [3]string{"safe", "open", "clerk"}}
+	two, three := rbacoffice.Row{Table: rbacoffice.StaticCardinalities, Names: [3]string{"s"}, Number: 2}, rbacoffice.Row{Table: rbacoffice.StaticCardinalities, Names: [3]string{"s"}, Number: 3}
+	for _, test := range []struct {
+		one, other []rbacoffice.Row
+		table      string
+	}{
+		{nil, nil, ""}, {[]rbacoffice.Row{ann, grant, two}, []rbacoffice.Row{ann, grant, two}, ""},
+		{[]rbacoffice.Row{ann}, []rbacoffice.Row{ann, bob}, "name_row"}, {[]rbacoffice.Row{ann, grant}, []rbacoffice.Row{ann, bob, grant}, "name_row"},
+		{[]rbacoffice.Row{ann}, []rbacoffice.Row{bob}, "name_row"}, {[]rbacoffice.Row{ann, two}, []rbacoffice.Row{ann, grant, three}, "grant_row"},
+		{[]rbacoffice.Row{ann, grant, two}, []rbacoffice.Row{ann, grant, three}, "set_row"},
+	} {
+		for _, given := range []error{difference(test.one, test.other), difference(test.other, test.one)} {
+			if (given == nil) != (test.table == "") || given != nil && given.Error() != "they have different rows of "+test.table {
+				t.Errorf("%v and %v: %v and not %s", test.one, test.other, given, test.table)
+			}
+		}
 	}
 }
 

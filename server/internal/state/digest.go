@@ -25,9 +25,16 @@ func DigestOf(text string) string {
 
 // Digest returns the digest of the rows that office.Digest returns for a file with the same rows.
 func (s *State) Digest() (string, error) {
-	var rows []rbacoffice.Row
-	err := s.Look(func(v *View) { rows = v.Rows() })
-	return office.SumsOf(office.Version, rows).Digest, err
+	sums := office.NewSummer(office.Version)
+	err := s.Look(func(v *View) {
+		for table := 0; table < office.Tables; table++ {
+			v.each(rbacoffice.Table(table), 0, func(row *rbacoffice.Row) bool {
+				sums.Add(row)
+				return true
+			})
+		}
+	})
+	return sums.Sums().Digest, err
 }
 
 // Load makes the office of the file of one that no program writes now, as Begin does. Commands that were kept are forgotten.

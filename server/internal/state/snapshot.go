@@ -2,6 +2,7 @@ package state
 
 import (
 	"bytes"
+	"fmt"
 	"math/big"
 	"strconv"
 	"strings"
@@ -21,17 +22,21 @@ var (
 )
 
 // Lines returns the lines that make an office with what is in this one, in which sessions have their digests for names.
-func (f *Frozen) Lines() []byte { return f.lines(func(one Session) string { return one.Digest }) }
+func (f *Frozen) Lines() ([]byte, error) {
+	return f.lines(func(one Session) string { return one.Digest })
+}
 
 // OfficeLines is Lines with the names that sessions have in the office.
-func (f *Frozen) OfficeLines() []byte { return f.lines(func(one Session) string { return one.Name }) }
+func (f *Frozen) OfficeLines() ([]byte, error) {
+	return f.lines(func(one Session) string { return one.Name })
+}
 
-func (f *Frozen) lines(nameOf func(Session) string) (lines []byte) {
-	_ = f.each(making, nameOf, func(line []byte) error {
+func (f *Frozen) lines(nameOf func(Session) string) (lines []byte, err error) {
+	err = f.each(making, nameOf, func(line []byte) error {
 		lines = append(append(lines, line...), '\n')
 		return nil
 	})
-	return lines
+	return lines, err
 }
 
 // Dump gives the lines of the office to a function until that fails, byte for byte as tools/dump.sql prints them. The line of a session
@@ -67,7 +72,9 @@ func (f *Frozen) each(functions []string, nameOf func(Session) string, add func(
 	give := func(function string, arguments api.Arguments) {
 		var call *api.Call
 		if err == nil {
-			call, err = api.NewCallWith(function, arguments)
+			if call, err = api.NewCallWith(function, arguments); err != nil {
+				err = fmt.Errorf("a line of %s: %v", function, err) // It isn't the caller's request that is refused.
+			}
 		}
 		if err == nil {
 			err = add(call.Line)

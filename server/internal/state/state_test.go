@@ -281,14 +281,21 @@ func TestFreeze(t *testing.T) {
 		}
 		return frozen
 	}
+	linesOf := func(frozen *Frozen) string {
+		lines, err := frozen.Lines()
+		if err != nil {
+			t.Fatal(err)
+		}
+		return string(lines)
+	}
 	before := freeze()
-	lines := string(before.Lines())
+	lines := linesOf(before)
 	follow(t, s, `{"fn":"dropActiveRole","user":"ann","session":"s","role":"clerk"}`, `{"fn":"addUser","user":"bob"}`,
 		`{"fn":"lockUserAccount","user":"ann"}`, `{"fn":"deleteRole","role":"clerk"}`, `{"fn":"deleteUser","user":"ann"}`)
-	if given := string(before.Lines()); given != lines {
+	if given := linesOf(before); given != lines {
 		t.Errorf("%s and not %s", given, lines)
 	}
-	if given := string(freeze().Lines()); given == lines {
+	if given := linesOf(freeze()); given == lines {
 		t.Error("the office hasn't changed")
 	}
 }
