@@ -15,7 +15,8 @@ PAGES = {name: markdown.page(name) for name in ("reference/front.md", "howto/cal
 OTHERS = {
     "advertise-client-urls", "build", "by", "cacert", "data-dir", "dns", "endpoints", "gate", "home-dir", "initial-advertise-peer-urls",
     "initial-cluster", "initial-cluster-state", "initial-cluster-token", "listen-client-urls", "listen-peer-urls", "long", "now", "part",
-    "peer-urls", "prefix", "print-value-only", "quota-backend-bytes", "reason", "shell", "system", "unix-socket", "version",
+    "peer-urls", "prefix", "print-value-only", "quota-backend-bytes", "reason", "retry", "retry-all-errors", "shell", "system", "unix-socket",
+    "version",
 }  # fmt: skip
 
 # Options whose default depends on the machine, or on the kind of office.
