@@ -163,7 +163,7 @@ uint32_t rbac_activation_conflicts(rbac_office *office, const void *user, size_t
     size_t set_count, size_t *count, size_t *total);
 
 /* Returns the separation of duty sets that would be violated if `asc` became an immediate ascendant of `desc`, as
- * rbac_assignment_conflicts does, and behind the name of each who would violate it, whose length is `second`. With 0 in
+ * rbac_assignment_conflicts does, and after the name of each who would violate it, whose length is `second`. With 0 in
  * `of_sessions` they are the static sets, each with the first user in byte order who would be authorized for too many of its
  * roles; otherwise the dynamic sets, each with the first session in byte order that would have too many. If addInheritance is
  * refused with 24 StaticSeparation or 25 DynamicSeparation, it names the first of these sets.
@@ -175,7 +175,7 @@ uint32_t rbac_inheritance_conflicts(rbac_office *office, int of_sessions, const 
 
 /* Returns the dynamic separation of duty sets that a new session of the user with these roles would violate, as
  * rbac_assignment_conflicts does, but with a row for each role of such a set that the session would have: the name of the set, and
- * behind it that of the role, whose length is `second`. The rows are in byte order. If createSession is refused with 25
+ * after it that of the role, whose length is `second`. The rows are in byte order. If createSession is refused with 25
  * DynamicSeparation, it names the first of the sets. The names of the roles stand in `roles`, one directly after the other, and
  * `role_lengths` has their lengths; a role may come twice.
  *

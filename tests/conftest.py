@@ -10,7 +10,7 @@ line says how many comparisons there were.
 """
 
 import fcntl
-import inspect
+import gc
 import os
 import random
 import resource
@@ -62,6 +62,15 @@ def pytest_configure(config):
 # ---- Collecting -------------------------------------------------------------------------------------------------------------
 
 
+@pytest.hookimpl(hookwrapper=True)
+def pytest_collection():
+    """Collects without looking for garbage, of which there is none: the modules and the checks stay."""
+    gc.disable()
+    yield
+    gc.freeze()
+    gc.enable()
+
+
 class Checks(pytest.Module):
     """A module with its checks; a function that it imports is a check of the other module."""
 
@@ -96,7 +105,14 @@ def pytest_collection_modifyitems(config, items):
             item.add_marker(pytest.mark.skip(reason=reason_of(gone)))
         if is_long and not item.get_closest_marker("timeout"):
             item.add_marker(pytest.mark.timeout(0))
-    items.sort(key=lambda item: item.get_closest_marker("slow") is None)
+    items.sort(key=turn_of)
+
+
+def turn_of(item):
+    """When a check's turn is. What is slow comes first: groups, then what needs no front, while the front is built, then the others."""
+    if not item.get_closest_marker("slow"):
+        return (1,)
+    return 0, item.get_closest_marker("xdist_group") is None, "libraries of the server" in needed_by(item)
 
 
 def needed_by(item):

@@ -38,8 +38,12 @@ def library_of_go(path: str) -> Callable[[], bool]:
     return (GOCODE / path).is_dir
 
 
-def module(name: str) -> Callable[[], bool]:
-    return lambda: find_spec(name) is not None
+def modules(*names: str) -> Callable[[], bool]:
+    return lambda: all(find_spec(name) is not None for name in names)
+
+
+def module_of_perl(path: str) -> Callable[[], bool]:
+    return lambda: can_run("perl", "-e", 'exit !grep { -e "$_/$ARGV[0]" } @INC', path)
 
 
 def is_root() -> bool:
@@ -93,14 +97,13 @@ NEEDS = {name: Need(program(name), package) for package, names in PROGRAMS.items
     "junit": Need(Path("/usr/share/java/junit-jupiter-api.jar").exists, "junit5"),
     "python-headers": Need(lambda: Path(sysconfig.get_paths()["include"], "Python.h").is_file(), "python3-dev"),
     "pip": Need(
-        lambda: can_run(sys.executable, "-c", "import setuptools, ensurepip, pip, venv, wheel"),
-        "python3-pip python3-venv python3-setuptools python3-wheel",
+        modules("setuptools", "ensurepip", "pip", "venv", "wheel"), "python3-pip python3-venv python3-setuptools python3-wheel"
     ),
     "libc-of-arm64": Need(Path("/usr/aarch64-linux-gnu/include/stdio.h").exists, "libc6-dev-arm64-cross"),
-    "jsonschema": Need(module("jsonschema"), "python3-jsonschema"),
+    "jsonschema": Need(modules("jsonschema"), "python3-jsonschema"),
     "openapi-specification": Need(Path("/usr/share/openapi-specification").is_dir, "openapi-specification python3-jsonschema"),
-    "OpenAPI::Client": Need(lambda: can_run("perl", "-MOpenAPI::Client", "-e", "1"), "libopenapi-client-perl"),
-    "selenium": Need(module("selenium"), "python3-selenium"),
+    "OpenAPI::Client": Need(module_of_perl("OpenAPI/Client.pm"), "libopenapi-client-perl"),
+    "selenium": Need(modules("selenium"), "python3-selenium"),
     # Rights, and what no package brings.
     "root": Need(is_root),
     "mounts": Need(can_mount),

@@ -5,7 +5,7 @@
 
 FIRST and SECOND are files that tools/dump.sql has made, such as those of one office on two days. A line that begins with
 `-` has what only the first office has, one that begins with `+` what only the second one has. Each name is written in
-double quotes. For a role or a user that was deleted, each grant and each assignment is listed too. The last line counts.
+double quotes, as JSON. For a role or a user that was deleted, each grant and each assignment is listed too. The last line counts.
 
 Whoever knows the name of a session can use it, so a session is shown by the digest of its name, without quotes. With
 --with-sessions it is shown by its name; then both dumps must have the names.
@@ -50,8 +50,9 @@ FACTS = {
 
 
 def quoted(value):
-    """A name in double quotes, as JSON; a number unchanged."""
-    return json.dumps(value, ensure_ascii=False)
+    """A name in double quotes, as JSON; a number unchanged. What a terminal obeys, or turns other letters round, is escaped."""
+    text = json.dumps(value, ensure_ascii=False)
+    return "".join(sign if sign.isprintable() else json.dumps(sign)[1:-1] for sign in text)
 
 
 def shown(request, has_names):

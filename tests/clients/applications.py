@@ -17,7 +17,7 @@ from program.web import HOST
 import pytest
 
 from .client import PATIENT, office_at, outcome, rbac
-from .driving import FRONT, JAVA, KEYS, NAMES, go_environment
+from .driving import FRONT, JAVA, JAVAC, KEYS, NAMES, go_environment
 
 # The example in Go is built on the disk: a file system in memory may forbid running programs.
 ON_DISK = True
@@ -60,7 +60,7 @@ def node_app(folder):
 def java_app(folder):
     """Builds the example in Java, with a store of the authority that it trusts."""
     sources = [*sorted((TESTS.parent / "clients/java/src/main/java/rbac/client").glob("*.java")), WEB / "App.java"]
-    words = ["javac", "-Xlint:all", "-Werror", "--release", "11", "-encoding", "UTF-8", "-d", str(folder / "java")]
+    words = [*JAVAC, "-Xlint:all", "-Werror", "--release", "11", "-encoding", "UTF-8", "-d", str(folder / "java")]
     subprocess.run([*words, *map(str, sources)], check=True, timeout=600)
     store = ["-keystore", str(folder / "store"), "-storepass", "changeit", "-file", str(folder / "files/ca.crt")]
     subprocess.run(

@@ -13,7 +13,7 @@ from program.web import HOST, Server
 
 import pytest
 
-from .driving import DRIVERS, ROOT, go_environment
+from .driving import DRIVERS, ROOT, SHORT, go_environment
 
 # Programs are built and run on the disk: a file system in memory may forbid running them.
 ON_DISK = True
@@ -161,7 +161,7 @@ def check_go_form(bench):
     for folder in (GO, DRIVERS / "go", ROOT / "examples/web/go", ROOT / "bench/clients/go"):
         bench.same(f"what gofmt would change in {folder.name}", run("gofmt", "-l", ".", cwd=folder), (0, ""))
         bench.same(f"what go vet finds in {folder.name}", run("go", "vet", "./...", cwd=folder, env=go_environment()), (0, ""))
-    found = run("go", "list", "-deps", ".", cwd=GO, env=go_environment())[1].split()
+    found = run("go", "list", "-deps", ".", cwd=GO, env=go_environment(CGO_ENABLED="0"))[1].split()
     foreign = [name for name in found if "." in name.split("/")[0]]
     bench.same("packages that the client in Go needs besides", foreign, [])
 
@@ -198,7 +198,7 @@ def check_python_installed(bench):
 @pytest.mark.gate
 @pytest.mark.needs("go")
 def check_go_installed(bench):
-    """A new module gets the client by a replace, without a network."""
+    """A new module gets the client by a replace, without a network. It calls no C."""
     folder = bench.folder.parent / "app"
     folder.mkdir()
     (folder / "main.go").write_text(ASKING["go"], encoding="utf-8")
@@ -209,7 +209,7 @@ def check_go_installed(bench):
         ["mod", "tidy"],
         ["build", "-o", "asking", "."],
     ):
-        status, said = run("go", *words, cwd=folder, env=go_environment())
+        status, said = run("go", *words, cwd=folder, env=go_environment(CGO_ENABLED="0"))
         bench.judge(f"go {' '.join(words)}", [] if status == 0 else [said])
     asked(bench, "the installed client in Go", folder / "asking")
 
@@ -311,7 +311,9 @@ def maven(folder, *words):
         shutil.copytree(MAVEN, folder.parent / "repository", symlinks=False, copy_function=os.symlink)
         settings = f"<settings><localRepository>{folder.parent}/repository</localRepository><offline>true</offline></settings>"
         (folder.parent / "settings.xml").write_text(settings, encoding="utf-8")
-    return run("mvn", "-o", "-q", "-B", "-s", "../settings.xml", *words, cwd=folder)
+    short = " ".join(SHORT)
+    given = ["-o", "-q", "-B", "-s", "../settings.xml", f"-DargLine={short}"]
+    return run("mvn", *given, *words, cwd=folder, env={**os.environ, "MAVEN_OPTS": short})
 
 
 @pytest.mark.gate

@@ -38,8 +38,8 @@ BUILT = "RBAC_DRIVERS"
 
 
 def go_environment(**more):
-    """The environment of Go: it fetches nothing, and calls no C."""
-    return {**os.environ, "GOFLAGS": "-mod=mod", "GOPROXY": "off", "GOWORK": "off", "CGO_ENABLED": "0", **more}
+    """The environment of Go: it fetches nothing. With CGO_ENABLED=1 Go's own packages needn't be compiled: Debian's has them."""
+    return {**os.environ, "GOFLAGS": "-mod=mod", "GOPROXY": "off", "GOWORK": "off", "CGO_ENABLED": "1", **more}
 
 
 def build_go(folder):
@@ -51,12 +51,14 @@ def build_go(folder):
 def build_java(folder):
     """Builds the client and the driver in Java, with all warnings as errors."""
     sources = [*sorted((ROOT / "clients/java/src/main/java/rbac/client").glob("*.java")), DRIVERS / "Driver.java"]
-    words = ["javac", "-Xlint:all", "-Werror", "--release", "11", "-encoding", "UTF-8", "-d", str(Path(folder) / "java")]
+    words = [*JAVAC, "-Xlint:all", "-Werror", "--release", "11", "-encoding", "UTF-8", "-d", str(Path(folder) / "java")]
     subprocess.run([*words, *map(str, sources)], check=True, timeout=600)
 
 
 # Java, without what a short run doesn't need. Its log has a line for each message.
-JAVA = ["java", "-XX:TieredStopAtLevel=1", "-XX:+UseSerialGC", "-Djava.util.logging.SimpleFormatter.format=%5$s%n"]
+SHORT = ["-XX:TieredStopAtLevel=1", "-XX:+UseSerialGC"]
+JAVA = ["java", *SHORT, "-Djava.util.logging.SimpleFormatter.format=%5$s%n"]
+JAVAC = ["javac", *(f"-J{word}" for word in SHORT)]
 
 # What each client needs, if not Python alone, what builds its driver into a folder, and what starts it.
 CLIENTS = {

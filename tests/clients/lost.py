@@ -17,7 +17,7 @@ from .driving import NAMES, Driven
 from .fakes import LOST, PASSED_ON, Fake, answered, read_request, shared
 from .functions import repetitions
 
-COMMANDS, LOGINS, PAUSE = 1_000, 100, 0.001
+COMMANDS, COMMANDS_OF_GATE, LOGINS, PAUSE = 500, 1_000, 100, 0.001
 
 # How often a command is sent to a server that dies, if a busy machine is too slow to send it.
 ATTEMPTS = 10
@@ -110,7 +110,7 @@ def judged(bench, what, function, outcome, expected):
 
 @pytest.mark.parametrize("name", NAMES)
 def check_many_commands(bench, name):
-    """A thousand random commands. If one may have been done, it is repeated as the page says, and the office is as it says."""
+    """Hundreds of random commands. If one may have been done, it is repeated as the page says, and the office is as it says."""
     seed = random.randrange(1 << 30)
     print(f"{name}: the seed of the lost answers is {seed}", flush=True)
     office, draws, unclear = Office(bench), Draws(seed), 0
@@ -118,7 +118,7 @@ def check_many_commands(bench, name):
         with Driven(bench, name, timeout=PATIENT, pause=PAUSE) as driver, Driven(bench, "python", timeout=PATIENT) as direct:
             driver.open(proxy.address)
             direct.open(f"http://{HOST}:{server.port}")
-            for number in range(COMMANDS):
+            for number in range(COMMANDS_OF_GATE if bench.is_gate or bench.is_long else COMMANDS):
                 function, arguments = drawn(draws)
                 outcome, what = driver.call(function, **arguments), f"{number}: {function} {arguments}"
                 expected = json.loads(draws.replay.answer(json.dumps({"fn": function, **arguments}).encode()))

@@ -6,6 +6,7 @@ import socket
 import ssl
 import subprocess
 import threading
+from unittest.mock import patch
 
 from front.identities import CERTIFICATES, openssl, rules, secured, tls_words
 from front.program import Front
@@ -26,6 +27,9 @@ RIGHTS = {
     f"unix:{os.getuid()}": [("checkAccess", "office")],
 }
 
+
+# Variables by which Node and Python trust any server.
+TRUSTING = {"NODE_TLS_REJECT_UNAUTHORIZED": "0", "PYTHONHTTPSVERIFY": "0"}
 
 # How often a question is asked. On a busy machine a client may take longer for TLS than the front waits. Amid the handshake that of
 # Java takes this for a certificate that it doesn't trust.
@@ -123,10 +127,13 @@ def certificates(bench):
 
 @pytest.mark.parametrize("name", NAMES)
 def check_wrong_servers(bench, name):
-    """A server with a wrong certificate gets no question, and neither does one without TLS. The reason says so."""
+    """A server with a wrong certificate gets no question, and neither does one without TLS. The reason says so.
+
+    Variables by which a language trusts everybody change nothing.
+    """
     wrong = certificates(bench)
     own = {"ca": bench.path("ca.crt"), "token": "secret"}
-    with Driven(bench, name, timeout=PATIENT) as driver:
+    with patch.dict(os.environ, TRUSTING), Driven(bench, name, timeout=PATIENT) as driver:
         for what, who in {"that is right": "server", **wrong}.items():
             context = ssl.SSLContext(ssl.PROTOCOL_TLS_SERVER)
             context.load_cert_chain(bench.path(f"{who}.crt"), bench.path(f"{who}.key"))

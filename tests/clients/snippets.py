@@ -19,7 +19,7 @@ from program.web import Server
 from program.bench import SECONDS, beside
 
 from .client import PAGE, office_at, raised, rbac
-from .driving import BUILT, DRIVERS, NAMES, ROOT, go_environment
+from .driving import BUILT, DRIVERS, JAVAC, NAMES, ROOT, go_environment
 from .driving import JAVA as JAVA_COMMAND
 from .fakes import CONFORMANCE, PASSED_ON, RIGHT, Fake, wrong_answers
 
@@ -243,7 +243,7 @@ def check_in_java(bench):
         for name, text in (("Decision.java", example("java", port)), ("Asking.java", JAVA)):
             (folder / name).write_text(text, encoding="utf-8")
         classes = f"{os.environ[BUILT]}/java:."
-        command = ["javac", "-encoding", "UTF-8", "-cp", classes, "Decision.java", "Asking.java"]
+        command = [*JAVAC, "-encoding", "UTF-8", "-cp", classes, "Decision.java", "Asking.java"]
         subprocess.run(command, cwd=folder, timeout=600, check=True)
         return printed([*JAVA_COMMAND, "-cp", classes, "Asking"], tabbed(questions), folder)
 
@@ -309,7 +309,7 @@ def run_go(folder):
 
 def run_java(folder):
     classes = f"{os.environ[BUILT]}/java:."
-    subprocess.run(["javac", "-cp", classes, "Vault.java"], cwd=folder, timeout=600, check=True)
+    subprocess.run([*JAVAC, "-cp", classes, "Vault.java"], cwd=folder, timeout=600, check=True)
     return [*JAVA_COMMAND, "-cp", classes, "Vault"], {}
 
 

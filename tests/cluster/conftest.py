@@ -8,7 +8,7 @@ from . import running
 
 OF_SOURCES = {"sources", "matching"}
 # Two clusters run at once, no more: what the others wait for is not to depend on the machine. These take as long as the rest.
-FIRST = {"judged", "records", "keeping"}
+FIRST = {"judged", "records", "keeping", "stated"}
 
 
 def pytest_collection_modifyitems(items):

@@ -55,6 +55,7 @@ def check_full(bench):
         cluster.until(cluster.ready, "all nodes are ready")
 
 
+@pytest.mark.gate
 def check_bytes(bench):
     """Snapshots and trims by bytes keep the log of long commands small: twice as many are done as etcd has room for."""
     room = QUOTA // 3

@@ -19,6 +19,7 @@ from front.recorded import BOUNDED, Entry, Model, digest, files_with, link
 from program.bench import PROGRAM
 
 from .answers import exchange, post
+from .fronts import Nodes
 from .keeping import log_of, registered
 from .machines import PREFIX, SECONDS, Cluster
 from .networks import MACHINES
@@ -229,6 +230,48 @@ def check_records(bench, seed, node=None):
         judge_joined(bench, cluster, asker)
         judge_written(bench, cluster, asker)
         judge_secret(bench, cluster)
+
+
+def end_of(name):
+    """The body of a request that ends a review."""
+    return json.dumps({"review": name, "sha256": "0" * 64, "kept": 1, "removed": 0, "open": 0}, separators=(",", ":"))
+
+
+def check_reviews(bench):
+    """The end of a review at any node is once in the record of each, also if a node reads the log again. It has who has ended it and why,
+    changes nothing, and needs the right."""
+    allowed = {name: [("addUser", "office"), ("review", "office")][: 2 if name == "boss" else 1] for name in CALLERS}
+    bench.write("callers.jsonl", rules({f"token:{name}": rights for name, rights in allowed.items()}).encode())
+    bench.write("tokens", tokens(**CALLERS).encode())
+    words = ("--callers", bench.path("callers.jsonl"), "--tokens", bench.path("tokens"), "--etcd-open")
+    with Cluster(bench.folder, build(bench.shared), every=5, more=words) as cluster:
+        nodes, ended = Nodes(cluster).each, []
+        desk, boss = bearer(CALLERS["desk"]), bearer(CALLERS["boss"])
+        for round_number in range(3):
+            for i, node in enumerate(nodes):
+                name = f"Q{round_number}{i}"
+                bench.same("a command", node.ask("addUser", {"user": name}, **desk)[0], 200)
+                bench.same("without the right", node.exchange("POST", "/reviews", end_of(name), **desk)[0], 403)
+                status, text = node.exchange("POST", "/reviews", end_of(name), **boss, Office_Reason=f"ticket {name}")
+                bench.same(f"the end of {name}", status, 200)
+                wanted = ("token:boss", f"ticket {name}", f'{{"record":"reviewed",{end_of(name)[1:]}', '{"ok":true}')
+                ended.append((json.loads(text)["value"]["number"], *wanted))
+            if round_number == 1:
+                cluster.nodes[1].send(signal.SIGKILL)
+                cluster.until(lambda: len(registered(cluster)) == MACHINES, "all nodes have snapshots")
+                cluster.lose_node(2)
+                cluster.heal()
+        cluster.until(lambda: same_head(cluster), "all have the same head")
+        records = [entries_of(cluster.data(f"node{i}")) for i in range(MACHINES)]
+        entries, faults = joined(records)
+        bench.judge("the records", faults)
+        found = [(entry.n, entry.caller, entry.reason, entry.request, entry.answer) for entry in entries if '"reviewed"' in entry.request]
+        bench.same("the ends of reviews", found, ended)
+        bench.same("the entries of node 1", records[1], records[0])
+        bench.same("how many there are", len(records[0]), 1 + 2 * len(ended))
+        for i in range(MACHINES):
+            status, _, said = tool(cluster.node, "verify", "--data", cluster.data(f"node{i}"))
+            bench.same(f"verify of node {i} says {said}", (status, said) in ((0, ""), (2, MISSING)), True)
 
 
 def judge_same(bench, cluster, asker):

@@ -21,6 +21,7 @@ from .callers import read
 from .fronts import Nodes
 from .machines import SECONDS, Cluster
 from .networks import MACHINES
+from .records import end_of
 from .rows import offices
 from .running import build
 
@@ -83,13 +84,11 @@ def answers_of(node, lines):
 
 
 def judge_reports(bench, front):
-    """Each node tries commands. Reviews are only for one machine. A ticket for a report is of use at the node that gave it, and reports are the same."""
+    """Each node tries commands. A ticket for a report is of use at the node that gave it, and reports are the same."""
     line, texts = json.dumps({"fn": "addUser", "user": "ann"}), set()
-    review = json.dumps({"review": "Q4", "sha256": "0" * 64, "kept": 0, "removed": 0, "open": 0})
     bench.same("addUser", batch(front, line)[0], 200)
     for machine, node in enumerate(front.each):
         bench.same(f"a trial at node {machine}", answers_of(node, line), [{"code": 3, "error": "UserExists"}])
-        bench.same(f"the end of a review at node {machine}", node.exchange("POST", "/reviews", review)[0], 404)
         ticket = json.loads(node.exchange("POST", "/reports/dump")[1])["value"]["ticket"]
         other = front.each[(machine + 1) % MACHINES]
         bench.same(f"the ticket of node {machine} at another one", other.exchange("GET", f"/reports/{ticket}")[0], 404)
@@ -246,9 +245,7 @@ def check_rights(bench):
 
 
 def check_console(bench):
-    """Each node serves the console, trials and reports of what is in the log. Ends of reviews are only for one machine: 404."""
-    unknown = (404, '{"code":34,"error":"BadRequest"}')
-    ended = json.dumps({"review": "Q4", "sha256": "0" * 64, "kept": 0, "removed": 0, "open": 0})
+    """Each node serves the console, trials and reports of what is in the log, and ends reviews."""
     with Cluster(bench.folder, build(bench.shared)) as cluster:
         front = Nodes(cluster)
         lines = [{"fn": "addUser", "user": "ann"}, {"fn": "addRole", "role": "r"}, {"fn": "assignUser", "user": "ann", "role": "r"}]
@@ -259,7 +256,9 @@ def check_console(bench):
             tried = '{"fn":"addUser","user":"bob"}\n{"fn":"assignUser","user":"bob","role":"r"}\n{"fn":"addUser","user":"ann"}'
             wanted = [{"ok": True}, {"ok": True}, {"code": 3, "error": "UserExists"}]
             bench.same(f"a trial at node {machine}", answers_of(node, tried), wanted)
-            bench.same(f"the end of a review at node {machine}", node.exchange("POST", "/reviews", ended), unknown)
+            # Before it are the beginning of the record, the batch, and the reviews of the nodes before.
+            answer = f'{{"ok":true,"value":{{"number":{len(lines) + 2 + machine}}}}}'
+            bench.same(f"the end of a review at node {machine}", node.exchange("POST", "/reviews", end_of("Q4")), (200, answer))
             prepared = json.loads(node.exchange("POST", "/reports/dump", "{}")[1])["value"]
             text = node.exchange("GET", f"/reports/{prepared['ticket']}")[1]
             bench.same(f"a report at node {machine}", {line for line in text.splitlines() if "ann" in line}, {request_text(line) for line in lines[::2]})

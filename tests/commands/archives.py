@@ -16,13 +16,15 @@ import pytest
 
 from clients.building import ASKING, asked
 from clients.driving import go_environment
+from front.running import FORM
+from front.running import build as build_front
 
 from .folders import GO_PATH, JAVA_GROUP, NEEDED, ROOT, URL, make, record
 
 VERSION = (ROOT / "VERSION").read_text(encoding="ascii").strip()
 PYTHON = "/usr/bin/python3"
 ON_DISK = True
-pytestmark = [pytest.mark.xdist_group("release"), pytest.mark.slow, NEEDED]
+pytestmark = [pytest.mark.xdist_group("archives"), pytest.mark.slow, NEEDED]
 
 # The archives of the clients, by what they are.
 ARCHIVES = {
@@ -92,7 +94,8 @@ def run(bench, what, words, status=0, **more):
 
 @pytest.fixture
 def folder(built):
-    """The folder of the release."""
+    """The folder of the release. It is made after the front, which shares what is compiled."""
+    built("front", build_front)
     return built("release", make) / "made"
 
 
@@ -193,7 +196,7 @@ def check_python(bench, folder, sort):
     clean = {name: value for name, value in os.environ.items() if name != "PYTHONPATH"}
     if sort == "sdist":
         clean["RBAC_LIBRARY"] = str(library(bench, folder))
-    run(bench, "the environment", [PYTHON, "-m", "venv", "--system-site-packages", place / "new"])
+    run(bench, "the environment", [PYTHON, "-m", "venv", "--system-site-packages", "--without-pip", place / "new"])
     own, words = place / "new/bin/python", [
         "--no-index",
         "--no-deps",
@@ -228,7 +231,7 @@ def check_go(bench, folder):
     given = {
         "GOPROXY": f"file://{place}/proxy",
         "GOSUMDB": "off",
-        "GOFLAGS": "-mod=mod -modcacherw",
+        "GOFLAGS": " ".join(["-mod=mod", "-modcacherw", *FORM]),
         "GOPATH": str(place / "go"),
         "CGO_ENABLED": "1",
     }

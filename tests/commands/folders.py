@@ -22,7 +22,7 @@ NEEDED = pytest.mark.needs(
     "users of images", "javac", "cargo", "pip", "python-headers",
 )  # fmt: skip
 
-# While one process makes the folder, the others have something else to do.
+# While one process makes the folder, few others wait for it: those of the archives and of the packages.
 pytestmark = [pytest.mark.xdist_group("release"), pytest.mark.slow]
 CONTACT = "security@release.example, key 0123 4567"
 URL, GO_PATH, JAVA_GROUP = "https://release.example/rbac", "release.example/rbac", "example.release"
@@ -142,11 +142,13 @@ def check_accepted(bench, release):
 
 @NEEDED
 def check_files(bench, release):
-    """One byte of any file, a file that is missing, one more, and a link in its place are refused, with the key and without."""
-    for path in sorted(release.made.iterdir()):
+    """One byte of any file, a file that is missing, one more, and a link in its place are refused, with the key and without. Without
+    --gate each file is tried in one of both ways, the next one in the other."""
+    keys, is_whole = ["ours.pub", ""], bench.is_gate or bench.is_long
+    for number, path in enumerate(sorted(release.made.iterdir())):
         if path.name.startswith("SHA256SUMS"):
             continue
-        for key in ("ours.pub", ""):
+        for key in keys if is_whole else [keys[number % 2]]:
             folder = release.copy(f"{path.name}-{key or 'no'}-changed")
             flip(folder / path.name, path.stat().st_size // 2)
             release.refuses(f"{path.name} with another byte, {key}", folder, f"{path.name} was changed", key)
@@ -158,6 +160,12 @@ def check_files(bench, release):
     (folder / "another_1_amd64.deb").write_bytes(b"")
     release.refuses("one more file", folder, "another_1_amd64.deb is not listed")
     release.refuses("one more file, without a key", folder, "another_1_amd64.deb is not listed", "")
+    package = next(path.name for path in sorted(release.made.iterdir()) if path.suffix == ".deb")
+    for number, name in enumerate((f"{package}\n{package}", f" {package}", f"{package} ", f"CONTACT\n{package}", f"\x1b{package}")):
+        folder = release.copy(f"more-{number}")
+        (folder / name).write_bytes(b"")
+        for key in ("ours.pub", ""):
+            release.refuses(f"one more file, {name!r}, {key}", folder, "is not listed in SHA256SUMS", key)
 
 
 @NEEDED

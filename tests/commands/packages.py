@@ -141,9 +141,10 @@ def check_refused(bench, packages):
     bench.same("another argument", packages.make("changed", "--force")[0], 2)
 
 
+@pytest.mark.gate
 @pytest.mark.needs("lintian")
 def check_lint(bench, packages):
-    """lintian finds no error, and warns of nothing."""
+    """lintian finds no error, and warns of nothing. tests/installed has it look at the packages of a release."""
     allow = ["--allow-root"] if os.geteuid() == 0 else []
     bench.same("what lintian finds", run(["lintian", *allow, packages.deb("out")])[:2], (0, ""))
 
@@ -298,19 +299,19 @@ def check_man_page(bench, packages):
 
 
 def check_library(bench, packages):
-    """A program is built over the packages of the library, and runs; the same files produce the same bytes."""
+    """A program is built over the packages of the library, and runs; with --gate, the same files produce the same bytes."""
     archive = os.environ.get("RBAC_ARCHIVE", ROOT / "release/librbac_c.a")
     _, digest, _ = run([ROOT / "bin/release", "library", "--digest"])
     release = packages.folder / "release-library"
     run([ROOT / "bin/release", "library", "--record", archive, digest.strip(), release])
     names = [f"librbac1_{VERSION}_amd64.deb", f"librbac-dev_{VERSION}_amd64.deb"]
-    made = [packages.make(out, "--library", release=release) for out in ("library", "library-again")]
-    wanted = [(0, "".join(f"{out}/{name}\n" for name in names), "") for out in ("library", "library-again")]
+    outs = ["library", "library-again"] if bench.is_gate or bench.is_long else ["library"]
+    made = [packages.make(out, "--library", release=release) for out in outs]
+    wanted = [(0, "".join(f"{out}/{name}\n" for name in names), "") for out in outs]
     bench.same("the packages are made", made, wanted)
     root = packages.folder / "library-root"
     for name in names:
-        both = [(packages.folder / out / name).read_bytes() for out in ("library", "library-again")]
-        bench.same(f"whether {name} has the same bytes", both[0] == both[1], True)
+        bench.same(f"the forms of {name}", len({(packages.folder / out / name).read_bytes() for out in outs}), 1)
         run(["dpkg-deb", "-x", packages.folder / "library" / name, root])
     source = packages.folder / "use.c"
     source.write_text("#include <rbac.h>\nint main(void) { rbac_office o = RBAC_OFFICE_NONE; return rbac_open(&o); }\n")

@@ -22,12 +22,12 @@ SITE = "console/site/"
 # The edits: a file, a text that occurs in it once, the text that replaces it, the check, and how the message of the check begins.
 BREAKS = {
     "a list of a review with formulas": (
-        SITE + "files.js", "/^'*[=+\\-@]/", "/^'*=/", "reviews.check_names", "-2+3 in the CSV",
+        SITE + "files.js", "('*[=+\\-@＝＋－＠])/g", "('*[=])/g", "reviews.check_names", "-2+3 in the CSV",
     ),
     "a list of a review in which two names are the same": (
-        SITE + "files.js", "/^'*[=+\\-@]/", "/^[=+\\-@]/", "reviews.check_names", "'=1 in the CSV",
+        SITE + "files.js", "('*[=+\\-@＝＋－＠])/g", "([=+\\-@＝＋－＠])/g", "reviews.check_names", "'=1 in the CSV",
     ),
-    "a report with formulas": ("reports/write.go", '"=+-@"', '"=+-"', "reports.check_names", "formulas in the file"),
+    "a report with formulas": ("reports/write.go", '"=+-@＝＋－＠"', '"=+-＝＋－＠"', "reports.check_names", "formulas in the file"),
     "buttons on paper": (
         SITE + "style.css", "#notice, form, button, td fieldset", "#notice, form, td fieldset", "reviews.check_print", "nothing to press",
     ),
@@ -93,8 +93,16 @@ def place_of(old):
     return re.compile(r"\s*".join(re.escape(one) for one in TOKEN.findall(old)))
 
 
-def broken(bench, name):
-    """A copy of what builds the front, with an edit."""
+def edited(bench, name):
+    """The path of the file that an edit changes, below server/internal, and its text with the edit."""
+    file, old, new, *_ = BREAKS[name]
+    text, count = place_of(old).subn(lambda _: new, (ROOT / "server/internal" / file).read_text(encoding="utf-8"))
+    bench.same("the places of the edit", count, 1)
+    return file, text
+
+
+def broken(bench, file, text):
+    """A copy of what builds the front, with another text in a file."""
     root = bench.folder / "sources"
     for one in ("node", "vendor", "library"):
         (root / "bin").mkdir(parents=True, exist_ok=True)
@@ -102,11 +110,7 @@ def broken(bench, name):
     for one in ("server", "library", "release", "clients/go"):
         shutil.copytree(ROOT / one, root / one)
     shutil.copy(ROOT / "VERSION", root / "VERSION")
-    file, old, new, *_ = BREAKS[name]
-    path = root / "server/internal" / file
-    text, count = place_of(old).subn(lambda _: new, path.read_text(encoding="utf-8"))
-    bench.same("the places of the edit", count, 1)
-    path.write_text(text, encoding="utf-8")
+    (root / "server/internal" / file).write_text(text, encoding="utf-8")
     return root
 
 
@@ -128,10 +132,10 @@ def faults_of(folder, check, program):
 @pytest.mark.parametrize("name", BREAKS)
 def check_break(bench, name):
     """A broken console is found by its check."""
-    root = broken(bench, name)
+    file, text = edited(bench, name)
     if os.environ.get(LONG):
         *_, check, said = BREAKS[name]
-        program = build(bench.folder, root)
+        program = build(bench.folder, broken(bench, file, text))
         found = faults_of(bench.folder / "tried", check, program)
         bench.judge(f"{check} finds {name}", [] if any(one.startswith(said) for one in found) else [f"it finds {found}"])
 

@@ -17,14 +17,18 @@ if lacking(["selenium"]):
         sys.modules[f"selenium{name}"] = MagicMock()
 
 WITHOUT_BROWSER = {"downloads", "serving", "page", "breaks", "sources"}
+# So many Chromiums run, each of which is used by the checks of a group in turn: to start one takes as long as a check.
+CHROMIUMS = 4
 
 
 def pytest_collection_modifyitems(items):
-    for item in items:
+    for number, item in enumerate(items):
         if item.path.parent.name == "console" and item.path.stem != "sources":
             item.add_marker(pytest.mark.needs("go", "libraries of the server", "gcc"))
             if item.path.stem not in WITHOUT_BROWSER:
                 item.add_marker(pytest.mark.needs("chromium", "chromedriver", "selenium"))
+                item.add_marker(pytest.mark.xdist_group(f"chromium {number % CHROMIUMS}"))
+                item.add_marker(pytest.mark.slow)
             if item.path.stem == "limits":
                 item.add_marker(pytest.mark.long)
 

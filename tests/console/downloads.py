@@ -53,7 +53,12 @@ def rows_of(text):
 
 def as_text(row):
     """A row of a tool as a spreadsheet may get it: what it would take for a formula has an apostrophe, numbers apart."""
-    return ["'" + cell if cell.lstrip("'")[:1] in tuple("=+-@") and not cell.lstrip("-").isdigit() else cell for cell in row]
+    return [cell if cell.lstrip("-").isdigit() else escaped(cell) for cell in row]
+
+
+def escaped(text):
+    """A text of which no part, between semicolons, is a formula for a spreadsheet."""
+    return ";".join("'" + part if part.lstrip("'")[:1] in tuple("=+-@＝＋－＠") else part for part in text.split(";"))
 
 
 def compare(bench, what, front, copy):

@@ -8,7 +8,7 @@ from front.identities import bearer
 from front.program import Front
 
 from .browser import Browser, bank, text_of_pdf
-from .downloads import report, rows_of
+from .downloads import escaped, report, rows_of
 from .hostile import MARKUP, NAMES
 from .lost import UNREAD, start_again
 from .rights import AUDITOR, DESK, front_of_bank
@@ -197,7 +197,7 @@ def check_rights(bench):
 
 def check_names(bench):
     """Names that are markup, formulas or can't be seen are text on each report, and no formula in a file."""
-    formulas = ['=HYPERLINK("x")', "+1", "-2+3", "@SUM(1)", "'=1"]
+    formulas = ['=HYPERLINK("x")', "+1", "-2+3", "@SUM(1)", "'=1", "a;=1;'+2"]
     names = [*NAMES, *formulas]
     with Front(bench, "--no-record") as front, Browser(bench, front) as page:
         lines = [
@@ -224,8 +224,9 @@ def check_names(bench):
         page.go("reports", "permissions", query="?user=%3DHYPERLINK(%22x%22)")
         bench.same("chosen", [row[0] for row in page.run(ROWS)], ['=HYPERLINK("x")'])
         rows = rows_of(report(front, "permissions")[0])[1:]
-        bench.judge("formulas in the file", [f"{cell}" for row in rows for cell in row if cell[:1] in tuple("=+-@") and cell])
-        bench.same("names in the file", {row[0] for row in rows}, {("'" + name if name in formulas else name) for name in names})
+        parts = [part for row in rows for cell in row for part in cell.split(";")]
+        bench.judge("formulas in the file", [part for part in parts if part and part[:1] in tuple("=+-@")])
+        bench.same("names in the file", {row[0] for row in rows}, {*map(escaped, names)})
 
 
 def check_lost(bench):

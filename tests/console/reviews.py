@@ -18,6 +18,7 @@ from selenium.webdriver import ActionChains
 from selenium.webdriver.common.keys import Keys
 
 from .browser import BANK, SECONDS, Browser, bank, text_of_pdf
+from .downloads import escaped
 from .looks import FOCUS, RULES, tab_to
 from .lost import start_again
 from .pages import value, value_rows
@@ -175,7 +176,7 @@ def check_whom(bench):
         ]:  # fmt: skip
             bench.same(what, begin(page, "Q4 2026", **values), said)
         bench.same(
-            "a long name", begin(page, "\u00e4" * 101), "The name of a review has 1 to 200 bytes, and no control characters."
+            "a long name", begin(page, "\u00e4" * 101), "The name of a review has 1 to 200 bytes, and no control characters or line separators."
         )
 
 
@@ -313,7 +314,8 @@ def check_files(bench):
             ("a number", json.dumps({**good, "people": [{"user": 1}]}), 'This review is damaged: its part "people" is not what it should be.'),
             ("an end", json.dumps({**good, "ended": {"number": "1"}}), 'This review is damaged: its part "ended" is not what it should be.'),
             ("too many", json.dumps({**good, "lines": [row] * 5_001}), "This review has 5001 lines. At most 5,000 can be reviewed at once."),
-            ("a name", json.dumps({**good, "name": "a\nb"}), "The name of a review has 1 to 200 bytes, and no control characters."),
+            ("a line separator in the name", json.dumps({**good, "name": "a\u2028b"}), "The name of a review has 1 to 200 bytes, and no control characters or line separators."),
+            ("a name", json.dumps({**good, "name": "a\nb"}), "The name of a review has 1 to 200 bytes, and no control characters or line separators."),
             ("bytes", b"\xff\xfe", "The file is not text in UTF-8."),
         ]:  # fmt: skip
             bench.same(what, opened(page, write(bench, "wrong.json", text)), said)
@@ -343,6 +345,8 @@ def check_names(bench):
         "+1",
         "-2+3",
         "'=1",
+        "a;=1;'+2",
+        "＝1",
     ]
     with bank(bench) as front, Browser(bench, front) as page:
         for name in names:
@@ -365,7 +369,7 @@ def check_names(bench):
         )
         found = {row[0]: row[4] for row in rows}
         for name in names:
-            safe = f"'{name}" if name.lstrip("'")[0] in "=+-@" else name
+            safe = escaped(name)
             bench.same(f"{name} in the CSV", found.get(safe), safe)
         page.click("Try the removals on a copy")
         page.until(lambda: page.find(f"Do {len(names)} commands in the office"), "what they would do")

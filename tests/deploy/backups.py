@@ -168,6 +168,36 @@ def check_last_stay(bench):
     compare_with_state(bench, f"{made[3]}/office", office.model.state)
 
 
+def check_wrong_clock(bench):
+    """Backups of a clock that was ahead, by their names, are the first to be deleted, and not those that are made after them."""
+    small_office(bench)
+    folder = folder_for(bench)
+    for name in ("29991231-235958-000000", "29991231-235959-000000"):
+        (folder / name).mkdir()
+    made = [os.path.basename(os.path.dirname(made_by(bench, backup(bench, "--keep", 2)))) for _ in range(3)]
+    bench.same("what stays", sorted(os.listdir(folder)), made[1:])
+
+
+def check_links(bench):
+    """Root copies no file to which a link in a record leads, and waits for no pipe there."""
+    office = small_office(bench)
+    folder_for(bench)
+    record = bench.folder / "office.record"
+    record.mkdir()
+    secret = bench.write("secret", b"root's own")
+    with closing(sqlite3.connect(record / "record.db")) as file:
+        file.execute("CREATE TABLE part (office)")
+    for name in ("base-1-ab", "record-1-2.db", "record.db-wal"):
+        for what, make in (("a link", lambda path: path.symlink_to(secret)), ("a pipe", os.mkfifo)):
+            make(record / name)
+            refused(bench, f"{what} at {name}", backup(bench), "it is a link, or no file")
+            (record / name).unlink()
+    record.rename(bench.folder / "another")
+    record.symlink_to(bench.folder / "another")
+    refused(bench, "a link to another record", backup(bench), "it is a link, or no file")
+    bench.same("the office", run([PROGRAM, "check", office.path]).out, b"good\n")
+
+
 @contextmanager
 def copying(bench, server, text, *words):
     """A script that is caught while it copies, with the server paused."""

@@ -169,6 +169,13 @@ CASES = [
         r"office: office-wal is in use by python3 .*",
     ),
     Case(
+        "a program whose name a terminal obeys",
+        "as_user touch office-wal\n"
+        + HOLDS % ("lockf(file, fcntl.LOCK_EX); open('/proc/self/comm', 'w').write('\\x1b[31mx'); fcntl.lockf", "office-wal"),
+        STORE,
+        r"office: office-wal is in use by \?\[31mx .*",
+    ),
+    Case(
         "a shell of SQLite",
         """mkfifo -m 644 "$said.pipe"; $user sqlite3 office < "$said.pipe" > "$said.sql" & holder=$!
 exec 9> "$said.pipe"; printf 'SELECT * FROM meta_row;\\n.shell touch %s\\n' "$said.holds" >&9

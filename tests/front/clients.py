@@ -6,6 +6,8 @@ import socket
 import threading
 import time
 
+import pytest
+
 from .identities import bearer, secured
 from .program import HOST, Front, read_all, refused_start, until
 
@@ -139,6 +141,7 @@ def run_slow(front, way, ends):
             ends.append((way.__name__, time.monotonic() - start))
 
 
+@pytest.mark.slow
 def check_slow_clients(bench):
     """Slow clients are cut off in time, and others are answered meanwhile."""
     with Front(bench) as front:
@@ -182,6 +185,7 @@ def idle_clients(count, port):
     return found
 
 
+@pytest.mark.slow
 def check_many_connections(bench):
     """While thousands of connections are idle or half open, others are answered; the longest idle ones make room."""
     _, hard = resource.getrlimit(resource.RLIMIT_NOFILE)
@@ -201,6 +205,42 @@ def check_many_connections(bench):
             client.close()
         bench.same("the end", front.end(), 0)
     return {"idle connections": len(clients)}
+
+
+def end_of(client):
+    """What comes on a connection until it is closed, or nothing if nothing has come yet and it is open."""
+    client.setblocking(False)
+    try:
+        return client.recv(65_536)
+    except BlockingIOError:
+        return None
+    except ConnectionResetError:
+        return b""
+
+
+# What a stranger may ask for, and what not.
+STRANGERS = ["GET /healthz", "GET /console/", "GET /reports/x", "OPTIONS *", "POST /v1/addUser"]
+
+
+@pytest.mark.parametrize("target", STRANGERS)
+def check_strangers(bench, target):
+    """Who shows no identity and doesn't send the rest of a request makes room for a caller, also where no identity is needed."""
+    head = f"{target} HTTP/1.1\r\nHost: localhost\r\nContent-Length: 1000\r\n\r\n".encode()
+    with secured(bench, "--connections", "20") as front:
+        strangers = []
+        for _ in range(20):
+            strangers.append(socket.create_connection((HOST, front.port), 20))
+            # The first request is whole, so the connection has been idle.
+            strangers[-1].sendall(b"GET /healthz HTTP/1.1\r\nHost: localhost\r\n\r\n")
+            strangers[-1].recv(65_536)
+            strangers[-1].sendall(head)
+        bench.same("a caller", front.ask("assignedRoles", {"user": "ann"}, **bearer("secret"))[0] < 500, True)
+        # One that isn't closed for a caller is answered when its time is over.
+        found = []
+        until(lambda: found.extend(end for end in map(end_of, strangers) if end is not None) or found, "a connection has ended")
+        bench.same("what the first stranger gets", found[0], b"")
+        for client in strangers:
+            client.close()
 
 
 def fill(front, count):

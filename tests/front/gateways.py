@@ -6,6 +6,7 @@ import os
 import shutil
 import subprocess
 import threading
+from contextlib import contextmanager
 from http.server import BaseHTTPRequestHandler, ThreadingHTTPServer
 
 import pytest
@@ -14,7 +15,7 @@ from program.bench import SECONDS
 from program.web import free_port
 
 from .identities import bearer, secured
-from .program import HOST, Front, until
+from .program import HOST, Asking, Front, until
 
 # An office in which the session s1 of ann may open the safe, and s2 of bob may not.
 OFFICE = [
@@ -103,14 +104,22 @@ class Site(BaseHTTPRequestHandler):
 
 
 NGINX = """
-daemon off; pid {folder}/nginx.pid; error_log {folder}/nginx.log; worker_processes 1;
+daemon off; user root; pid {folder}/nginx.pid; error_log {folder}/nginx.log; worker_processes 1;
 events {{ worker_connections 64; }}
 http {{
     access_log off;
     client_body_temp_path {folder}/a; proxy_temp_path {folder}/b; fastcgi_temp_path {folder}/c;
     uwsgi_temp_path {folder}/d; scgi_temp_path {folder}/e;
+    proxy_cache_path {folder}/kept keys_zone=all:1m;
     server {{
         listen {host}:{port};
+        {places}
+    }}
+}}
+"""
+
+# What nginx does at its places: it asks before it passes a request on, or it keeps whatever it may.
+ASKING = """
         location /till/ {{
             auth_request /decide;
             proxy_pass http://{host}:{site};
@@ -126,9 +135,30 @@ http {{
             proxy_set_header Office-Operation $request_method;
             proxy_set_header Office-Object till:7;
         }}
-    }}
-}}
 """
+KEEPING = """
+        location / {{
+            proxy_pass http://{host}:{front};
+            proxy_set_header Host localhost;
+            proxy_cache all;
+            proxy_cache_valid any 1h;
+        }}
+"""
+
+
+@contextmanager
+def nginx(bench, places, **values):
+    """The port of an nginx with some places."""
+    values |= {"folder": bench.folder, "host": HOST, "port": free_port()}
+    path = bench.write("nginx.conf", NGINX.format(places=places.format(**values), **values).encode())
+    words = [shutil.which("nginx"), "-c", path, "-e", bench.path("nginx.log")]
+    process = subprocess.Popen(words, stdin=subprocess.DEVNULL)
+    try:
+        until(lambda: is_open(values["port"]), "nginx listens")
+        yield values["port"]
+    finally:
+        process.terminate()
+        process.wait(SECONDS)
 
 
 def through(port, method="GET", **fields):
@@ -144,24 +174,11 @@ def through(port, method="GET", **fields):
 @pytest.mark.needs("nginx")
 def check_nginx(bench):
     """nginx asks the front by auth_request, and lets through only what it allows."""
-    nginx = shutil.which("nginx")
     rights = {**RIGHTS, "token:desk": [("checkAccess", "object till:")]}
     with secured(bench, rights=rights) as front, ThreadingHTTPServer((HOST, 0), Site) as site:
         filled(bench, front, **bearer("another"))
         threading.Thread(target=site.serve_forever, daemon=True).start()
-        port = free_port()
-        values = {
-            "folder": bench.folder,
-            "host": HOST,
-            "port": port,
-            "site": site.server_port,
-            "front": front.port,
-            "token": "secret",
-        }
-        path = bench.write("nginx.conf", NGINX.format(**values).encode())
-        process = subprocess.Popen([nginx, "-c", path, "-e", bench.path("nginx.log")], stdin=subprocess.DEVNULL)
-        try:
-            until(lambda: is_open(port), "nginx listens")
+        with nginx(bench, ASKING, site=site.server_port, front=front.port, token="secret") as port:
             bench.same("a session that may", through(port, Cookie="session=s1"), (200, "inside"))
             bench.same("one that may not", through(port, Cookie="session=s2"), (403, ""))
             bench.same("one that doesn't exist", through(port, Cookie="session=s9"), (403, ""))
@@ -173,10 +190,34 @@ def check_nginx(bench):
             bench.same("the session ends", front.ask("deleteUser", {"user": "ann"}, **bearer("another"))[0], 403)
             front.kill()
             bench.same("no front", through(port, Cookie="session=s1")[0], 500)
-        finally:
-            process.terminate()
-            process.wait(SECONDS)
-            site.shutdown()
+        site.shutdown()
+
+
+@pytest.mark.needs("nginx")
+def check_caches(bench):
+    """A cache before the front keeps no answer: neither a decision for another session, nor a list for somebody without identity."""
+    rights = {**RIGHTS, "token:admin": [*RIGHTS["token:admin"], ("lists", "office")]}
+    with secured(bench, rights=rights) as front:
+        filled(bench, front, **bearer("another"))
+        asked = {"Office_Operation": "open", "Office_Object": "safe"}
+        with nginx(bench, KEEPING, front=front.port) as port:
+            cache = Port(port)
+            for session, status in (("s1", 204), ("s2", 403), ("s1", 204)):
+                found = decide(cache, "GET", Office_Session=session, **asked, **bearer("secret"))
+                bench.same(f"the decision for {session}", found[0], status)
+            for path in ("/lists/users", "/caller", "/nothing"):
+                known, stranger = cache.exchange("GET", path, **bearer("another")), cache.exchange("GET", path)
+                bench.same(f"{path} for a caller, and for nobody", (known[0] == 401, stranger[0]), (False, 401))
+
+
+class Port(Asking):
+    """What listens at a port of this machine."""
+
+    def __init__(self, port):
+        self.port = port
+
+    def connection(self):
+        return http.client.HTTPConnection(HOST, self.port, timeout=SECONDS)
 
 
 def is_open(port):

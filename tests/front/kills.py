@@ -12,13 +12,14 @@ import subprocess
 import threading
 import time
 
+import pytest
+
 from program.bench import PROGRAM as RBAC
 
 from .program import Front, children, until
-from .running import LONG
 
-# How many kills there are, and how many clients.
-KILLS, MORE_KILLS, CLIENTS = 36, 500, 8
+# How many kills there are, how many with --gate and with --long, and how many clients.
+KILLS, KILLS_OF_GATE, MORE_KILLS, CLIENTS = 18, 36, 500, 8
 
 # The longest time between two kills, in seconds.
 BETWEEN = 0.25
@@ -127,6 +128,7 @@ def kill_at_random(front, draws, counts):
             pass
 
 
+@pytest.mark.slow
 def check_kills(bench):
     """Clients ask while the front or its replay is killed again and again. In the end the office is as they know it."""
     counts, draws, stop = {}, random.Random(os.urandom(8)), threading.Event()
@@ -137,7 +139,7 @@ def check_kills(bench):
         clients = [Client(front, number, stop) for number in range(CLIENTS)]
         for client in clients:
             client.start()
-        for _ in range(MORE_KILLS if os.environ.get(LONG) else KILLS):
+        for _ in range(MORE_KILLS if bench.is_long else KILLS_OF_GATE if bench.is_gate else KILLS):
             if stop.is_set():
                 break
             kill_at_random(front, draws, counts)

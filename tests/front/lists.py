@@ -8,6 +8,8 @@ import sqlite3
 import threading
 import urllib.parse
 
+import pytest
+
 from machine.commands import COMMANDS
 from machine.drawing import Draws
 from program.bench import PROGRAM as RBAC
@@ -18,12 +20,11 @@ from .identities import bearer, secured
 from .kills import ROLES, Client, kill_at_random
 from .program import Front, children, refused_start, until
 from .recorded import verified
-from .running import LONG
 from .sessions import digest_of
 from .watching import Watch, request_of, snapshot
 
-# How many random offices there are, how many with --long, and how many random lines each gets before its lists are compared.
-OFFICES, MORE_OFFICES, LINES = 20, 200, 150
+# How many random offices there are, how many with --gate and with --long, and how many random lines each gets before its lists are compared.
+OFFICES, OFFICES_OF_GATE, MORE_OFFICES, LINES = 10, 20, 200, 150
 
 # The query of each list of names.
 QUERIES = {
@@ -108,6 +109,7 @@ def same_lists(bench, front, what, limit=1_000, connection=None):
     bench.judge(f"the lists {what}", [fault[:400] for fault in faults])
 
 
+@pytest.mark.slow
 def check_random(bench):
     """After random commands the lists of random offices are what SQL reads, also when they are read again at a start."""
     seed = random.randrange(1_000_000_000)
@@ -115,14 +117,14 @@ def check_random(bench):
     ended = {}
     with Front(bench, "--no-record") as front:
         kept = front.connection()
-        for number in range(MORE_OFFICES if os.environ.get(LONG) else OFFICES):
+        for number in range(MORE_OFFICES if bench.is_long else OFFICES_OF_GATE if bench.is_gate else OFFICES):
             draws = Draws(seed + number)
             for _ in range(3):
                 work(draws, front, kept, ended)
                 same_lists(bench, front, f"of office {number}", draws.random.choice([1, 2, 3, 7, 1_000]), kept)
-            if number % 10 == 0:
+            if number % 5 == 0:
                 kept.close()
-                front.kill() if number % 20 else bench.same("the end", front.end(), 0)
+                front.kill() if number % 10 else bench.same("the end", front.end(), 0)
                 front.start()
                 kept = front.connection()
                 same_lists(bench, front, f"of office {number} after a start", connection=kept)

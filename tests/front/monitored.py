@@ -53,6 +53,7 @@ ALERTS = {
          'rbac_node_answer_seconds_bucket{kind="command",le="+Inf"}': "0+60x60"},
         {'rbac_node_answer_seconds_bucket{kind="command",le="1"}': "0+60x60", 'rbac_node_answer_seconds_bucket{kind="command",le="+Inf"}': "0+60x60"},
     ),
+    "OfficeDiffered": ({"rbac_node_office_differed_total": f"0x50 1{HOUR}"}, {"rbac_node_office_differed_total": f"1{HOUR}"}),
     "ReplayRestarts": (
         {'rbac_node_replay_starts_total{replay="office"}': "0+1x60"},
         {'rbac_node_replay_starts_total{replay="office"}': f"9{HOUR}"},
@@ -97,6 +98,7 @@ def run(*words):
     return done.returncode, done.stdout + done.stderr
 
 
+@pytest.mark.slow
 @pytest.mark.needs("promtool")
 def check_rules(bench):
     """Each rule raises an alarm if something is wrong, and none if all is well, and says what to do."""

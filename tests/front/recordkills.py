@@ -13,13 +13,14 @@ import threading
 import time
 from collections import Counter
 
+import pytest
+
 from .kills import ROLES
 from .program import Front, until
 from .recorded import LOST, Model, digest, entries, files_with, left_in_memory, rows_of, tool, verified
-from .running import LONG
 
-# How many kills there are, how many clients, and how many kills there are until a part is closed and moved away.
-KILLS, MORE_KILLS, CLIENTS, UNTIL_CUT = 30, 1_000, 12, 25
+# How many kills there are, how many with --gate and with --long, how many clients, and how many kills there are until a part is closed and moved away.
+KILLS, KILLS_OF_GATE, MORE_KILLS, CLIENTS, UNTIL_CUT = 15, 30, 1_000, 12, 12
 
 # The longest time under load before a kill, and after a start, in seconds.
 UNDER_LOAD, AFTER_START = 0.4, 0.25
@@ -230,10 +231,11 @@ class Rounds:
         self.bench.same("names that show prints", SECRET in tool_says, False)
 
 
+@pytest.mark.slow
 def check_kills(bench):
     """Kills in all ways, with base copies all the time."""
     rounds = Rounds(bench, 40)
-    rounds.run(MORE_KILLS if os.environ.get(LONG) else KILLS)
+    rounds.run(MORE_KILLS if bench.is_long else KILLS_OF_GATE if bench.is_gate else KILLS)
     shown = set(files_with(bench.folder, SECRET))
     bench.same("files with names of sessions", shown - {rounds.front.office, bench.path("copy/office")}, set())
     until(lambda: not left_in_memory(rounds.front.office), "no copy is left in memory")

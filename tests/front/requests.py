@@ -60,7 +60,7 @@ def check_form(bench):
 
 def check_nginx(bench):
     """The lines for nginx on the page are those that the real nginx is tried with."""
-    tried = [line.strip().replace("{{", "{").replace("}}", "}") for line in gateways.NGINX.splitlines()]
+    tried = [line.strip().replace("{{", "{").replace("}}", "}") for line in gateways.ASKING.splitlines()]
     (lines,) = markdown.blocks(PAGE, "nginx")
     places = {
         "http://127.0.0.1:8000": "http://{host}:{site}",

@@ -12,6 +12,8 @@ PROGRAM, LONG = "RBAC_FRONT", "RBAC_FRONT_LONG"
 
 # The sources, and the tags with which bin/node builds them.
 SERVER, TAGS = TESTS.parent / "server", "netgo,osusergo"
+# How bin/node compiles. What else has this form and is built after the front shares what is compiled, such as Go's own packages.
+FORM = ["-trimpath", "-buildmode=pie", f"-tags={TAGS}"]
 
 
 def build(folder, root=TESTS.parent):

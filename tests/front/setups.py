@@ -32,6 +32,28 @@ def files_of(folder):
     return {path.name: path.read_bytes() for path in sorted(Path(folder).iterdir())}
 
 
+def check_full_output(bench):
+    """A command whose output can't be written ends with an error, and `setup`, whose tokens nobody has seen, leaves no file."""
+    office, folder = bench.path("office"), bench.folder / "etc"
+    with Front(bench) as front:
+        bench.same("a command", front.ask("addUser", {"user": "ann"}), (200, OK))
+        bench.same("the end", front.end(), 0)
+    folder.mkdir()
+    callers = bench.write("callers", b'{"fn":"addUser","user":"token:a"}\n')
+    for words in (
+        ["--version"], ["--help"], ["serve", "--help"], ["record", "--help"], ["callers", callers],
+        ["record", "head", "--office", office], ["record", "verify", "--office", office, "--program", RBAC],
+        ["record", "show", "--office", office], ["backup", "--office", office, "--program", RBAC, str(bench.folder)],
+        ["setup", "--folder", str(folder), "--listen", f"{HOST}:1", "bank"],
+    ):  # fmt: skip
+        with open("/dev/full", "wb") as full:
+            done = subprocess.run([os.environ[PROGRAM], *words], stdout=full, stderr=subprocess.PIPE, check=False, timeout=SECONDS)
+        lines = done.stderr.decode().splitlines()
+        wanted = (1, 1, "no space left on device" in done.stderr.decode())
+        bench.same(f"{' '.join(words[:2])}: the status, and one line", (done.returncode, len(lines), True), wanted)
+    bench.same("what setup leaves", files_of(folder), {})
+
+
 def check_setup(bench):
     """The files that it makes give a front with TLS, whose administrator may do everything, and Prometheus nothing but read metrics."""
     folder, listen = bench.folder / "etc", f"{HOST}:{free_port()}"

@@ -84,7 +84,8 @@ class Machine:
 
 def adds(front, *users):
     for user in users:
-        assert front.ask("addUser", {"user": user}, Office_Reason="<ticket & co> ü".encode())[0] == 200
+        status, said = front.ask("addUser", {"user": user}, Office_Reason="<ticket & co> ü".encode())
+        assert status == 200, said
 
 
 def check_signed(bench):

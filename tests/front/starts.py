@@ -26,7 +26,7 @@ from .recorded import entries, link, path_of
 OK = '{"ok":true}'
 
 # How many commands a start does again while it is looked at.
-AGAIN = 200_000
+AGAIN = 100_000
 
 # What a front leaves in the folder of its office, with the log of the test.
 LEFT = ["office", "office.lock", "office.log", "office.numbers", "office.record", "office.run"]
@@ -199,9 +199,14 @@ def check_starting(bench):
         front.kill()
         lengthen(front.office)
         front.process = front.start_without_waiting()
-        until(lambda: "is done again" in at_start(front, "GET", "/healthz")[1], "/healthz says what is done")
-        asked = at_start(front, "POST", "/v1/assignedRoles", '{"user":"u1"}')
-        status, text = at_start(front, "GET", "/healthz")
+        seen = []
+
+        def is_done_again():
+            seen[:] = at_start(front, "POST", "/v1/assignedRoles", '{"user":"u1"}'), at_start(front, "GET", "/healthz")
+            return "is done again" in seen[1][1]
+
+        until(is_done_again, "/healthz says what is done")
+        asked, (status, text) = seen
         said = json.loads(text)
         why = f"^starting: command [0-9]+00 of {AGAIN + 3} since the last copy of the office is done again$"
         bench.same("health", (status, said["ready"], bool(re.match(why, said["why"]))), (503, False, True))

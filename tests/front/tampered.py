@@ -10,6 +10,8 @@ import subprocess
 from contextlib import closing
 from pathlib import Path
 
+import pytest
+
 from pages import markdown
 from program.bench import PROGRAM as RBAC
 
@@ -346,6 +348,7 @@ def judged(files):
     return status, out + said
 
 
+@pytest.mark.slow
 def check_tamperings(bench):
     """Each tampering is refused, or listed on the page."""
     honest = Honest(bench)

@@ -10,6 +10,8 @@ import subprocess
 import threading
 import time
 
+import pytest
+
 from machine.commands import COMMANDS
 from machine.drawing import Draws
 from program.bench import PROGRAM as RBAC
@@ -185,6 +187,7 @@ def check_followers(bench):
     return {**counts, "followers: commands": sent}
 
 
+@pytest.mark.slow
 def check_watch(bench):
     """Numbers grow by one, the newest comes by itself, and a number that isn't known is refused."""
     with Front(bench, "--timeout", "1s") as front:

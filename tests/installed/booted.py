@@ -368,6 +368,7 @@ rbac: /etc/rbac is kept with: alone.conf second.conf
 }
 
 
+@pytest.mark.gate
 @pytest.mark.slow
 @pytest.mark.timeout(2 * BOOTED_SECONDS)
 @pytest.mark.needs("root", "boots", "systemd-nspawn", "curl", "pgrep", "sqlite3", "man")

@@ -112,7 +112,7 @@ def random_script(seed):
         if not answer:
             continue
         given = replay.answer(line)
-        assert given == answer
+        assert given == answer, (line, given, answer)
         script.ask(line, answer)
         script.ask_for_user(replay.state, draws)
         if draws.random() < 0.01:
@@ -155,7 +155,13 @@ def check_random_lines(bench, language, first, count):
     return {f"random lines, {language}": counted}
 
 
-@pytest.mark.parametrize("language", LANGUAGES)
+def limited():
+    """The languages: all reach their limits in the same library, so that Go and Rust are for the gate."""
+    for one in LANGUAGES:
+        yield pytest.param(*one.values, marks=[*one.marks, pytest.mark.gate] if one.values[0] in ("Go", "Rust") else one.marks)
+
+
+@pytest.mark.parametrize("language", limited())
 def check_limits(bench, language):
     """Lines that reach each limit, with the longest answers."""
     for name, lines in limits.SCRIPTS.items():

@@ -2,9 +2,10 @@
 
 from collections import Counter
 
-from .drawn import show_table
+from .drawn import SCRIPTS_OF_LARGE, show_table
 
 
 def judge_counts(counts):
     """What was never met, and what can't be met and was."""
-    return show_table(Counter({tuple(key.split("\t")): count for key, count in counts.items() if "\t" in key}))
+    met = Counter({tuple(key.split("\t")): count for key, count in counts.items() if "\t" in key})
+    return show_table(met, SCRIPTS_OF_LARGE in counts)

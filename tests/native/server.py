@@ -7,11 +7,12 @@ import json
 
 import pytest
 
-from front.running import SERVER, TAGS, build, go
+from front.running import FORM, SERVER, TAGS, build, go
 from program.bench import PROGRAM
 
-# How bin/node compiles, so that what is compiled is shared.
-FORM = ["-trimpath", "-buildmode=pie"]
+# The load program of the benchmarks, which is built with the libraries of the server.
+LOAD = SERVER.parent / "bench/load"
+
 PACKAGES = sorted({path.parent for path in SERVER.rglob("*_test.go") if SERVER / "vendor" not in path.parents})
 
 pytestmark = pytest.mark.needs("go", "gcc", "libraries of the server")
@@ -24,17 +25,23 @@ def name_of(folder):
 def go_test(*words):
     """What `go test` says of all packages: its events, what isn't one, and its status. But for races, which need another form, it compiles as
     bin/node does. check_form has `go vet` look at all."""
-    form = ["-race"] if "-race" in words else [*FORM, "-vet=off", "-ldflags=-s -w"]
-    said, status = go("go", "test", "-count=1", "-json", *form, "-tags", TAGS, "./...", RBAC_PROGRAM=PROGRAM)
+    form = ["-race", f"-tags={TAGS}"] if "-race" in words else [*FORM, "-vet=off", "-ldflags=-s -w"]
+    said, status = go("go", "test", "-count=1", "-json", *form, "./...", RBAC_PROGRAM=PROGRAM)
     lines = said.splitlines()
-    return [json.loads(line) for line in lines if line.startswith("{")], "\n".join(line for line in lines if not line.startswith("{")), status
+    return (
+        [json.loads(line) for line in lines if line.startswith("{")],
+        "\n".join(line for line in lines if not line.startswith("{")),
+        status,
+    )
 
 
 def judge(bench, events, others):
     """Counts the tests that passed. One that failed or was skipped, and a package that didn't pass, is a fault."""
     ends = [event for event in events if event["Action"] in ("pass", "fail", "skip")]
     failed = {(event["Package"], event.get("Test")) for event in ends if event["Action"] == "fail"}
-    shown = "".join(one["Output"] for one in events if one["Action"] == "output" and (one["Package"], one.get("Test")) in failed)
+    shown = "".join(
+        one["Output"] for one in events if one["Action"] == "output" and (one["Package"], one.get("Test")) in failed
+    )
     bench.judge("go test", [] if ends and not failed else [(shown + others)[-4000:]])
     tests = [event for event in ends if "Test" in event and "/" not in event["Test"]]
     bench.same("tests that were skipped", [event["Test"] for event in tests if event["Action"] == "skip"], [])
@@ -70,5 +77,7 @@ def check_races(bench):
 @pytest.mark.xdist_group("go")
 def check_form(bench):
     """gofmt would change nothing, and `go vet` finds nothing."""
-    bench.same("what gofmt would change", go("gofmt", "-l", "cmd", "internal"), ("", 0))
-    bench.same("what go vet finds", go("go", "vet", *FORM, "-tags", TAGS, "./..."), ("", 0))
+    load = [str(path) for path in sorted(LOAD.glob("*.go"))]
+    bench.same("what gofmt would change", go("gofmt", "-l", "cmd", "internal", *load), ("", 0))
+    bench.same("what go vet finds", go("go", "vet", *FORM, "./..."), ("", 0))
+    bench.same("what go vet finds in the load program", go("go", "vet", *FORM, *load), ("", 0))

@@ -14,6 +14,9 @@ from xml.etree import ElementTree
 import pytest
 
 from clients.building import maven
+from clients.driving import FRONT
+from front.running import FORM, build
+from needs import lacking
 from program.bench import PROGRAM, TESTS
 
 ROOT = TESTS.parent
@@ -41,12 +44,19 @@ def go_test(bench, folder, flags, **more):
     bench.passed += sum(line["Action"] == "pass" for line in tests)
 
 
+# That of the front, and one for the gate, in which `go vet` looks at the packages too.
+FORMS = [[*FORM, "-vet=off"], pytest.param(["-race"], marks=pytest.mark.gate)]
+
+
 @pytest.mark.needs("go", "gcc")
-@pytest.mark.parametrize("words", [["./..."], pytest.param(["-race", "./..."], marks=pytest.mark.gate)], ids=" ".join)
+@pytest.mark.parametrize("words", FORMS, ids=["plain", "races"])
 @pytest.mark.parametrize("folder", MODULES, ids=name_of)
-def check_go_of_clients(bench, folder, words, librbac):
+def check_go_of_clients(bench, folder, words, librbac, built):
+    """The tests of a module pass. They are run after the front is built, which shares what is compiled."""
+    if not lacking(FRONT):
+        built("front", build)
     flags = {"CGO_CFLAGS": f"-I{librbac}", "CGO_LDFLAGS": f"-L{librbac}", "LD_LIBRARY_PATH": str(librbac)}
-    go_test(bench, folder, words, GOFLAGS="-mod=mod", GOPROXY="off", GOWORK="off", **flags)
+    go_test(bench, folder, [*words, "./..."], GOFLAGS="-mod=mod", GOPROXY="off", GOWORK="off", **flags)
 
 
 @pytest.mark.needs("node")
@@ -65,6 +75,7 @@ def check_python(bench):
     bench.passed += int(re.findall(r"(\d+) passed", said)[-1])
 
 
+@pytest.mark.slow
 @pytest.mark.needs("javac", "mvn", "junit")
 def check_java(bench):
     """JUnit by Maven, in a copy, since it writes into the folder."""
@@ -77,6 +88,7 @@ def check_java(bench):
     bench.same("skipped", sum(int(one.get("skipped")) for one in suites), 0)
 
 
+@pytest.mark.slow
 @pytest.mark.needs("cargo", "gcc")
 def check_rust(bench, librbac):
     settings = {"RBAC_LIBRARY": str(librbac), "LD_LIBRARY_PATH": str(librbac), "CARGO_TARGET_DIR": bench.path("target"), "RUSTFLAGS": "-D warnings"}

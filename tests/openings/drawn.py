@@ -274,6 +274,7 @@ def try_file(bench, statements, seed):
     return f"{'loose' if is_loose else 'own'} tables: {word_of(answer)}"
 
 
+@pytest.mark.slow
 @pytest.mark.parametrize("first", cases(range(10_000, 10_375, EACH), range(10_000 + FILES, 10_000 + MORE_FILES, EACH), [10_375]))
 def check_files(bench, first):
     """Files from this seed on are opened and answered as the model does."""

@@ -60,8 +60,11 @@ def try_faults(bench, state, faults, words):
     os.remove(path)
 
 
-@pytest.mark.parametrize("part", range(PARTS))
-@pytest.mark.parametrize("version", [1, 2])
+# A part of the faults in version 1 always, the others with --gate.
+ALONE = [(1, 0), *((2, part) for part in range(PARTS)), *(pytest.param(1, part, marks=pytest.mark.gate) for part in range(1, PARTS))]
+
+
+@pytest.mark.parametrize("version, part", ALONE)
 def check_alone(bench, version, part):
     """Each fault alone, for a part of them."""
     state, faults = small_state(version), all_faults(version)[part::PARTS]

@@ -1,7 +1,7 @@
 """The definitions that an auditor has to read: those of private contracts alone are apart, and docs/explanation/proofs.md has the lines.
 
 A public contract reaches the definitions that it names, and what these name in turn. A module of definitions is a file of specs/.
-If no public contract reaches a definition of it, it is in specs/private/; every other module is not.
+Those of specs/private/ have exactly the definitions that no public contract reaches.
 """
 
 import re
@@ -78,7 +78,7 @@ def definitions(text):
     found, name, depth = {}, None, 0
     for line in filter(str.strip, text.splitlines()):
         begins, indent = BEGINS.match(line), len(line) - len(line.lstrip())
-        if line.lstrip().startswith(("use ", "pub use ", "module ", "infix")):
+        if line.lstrip().startswith(("use ", "pub use ", "unfoldable pub use ", "module ", "infix")):
             name = None
         elif begins and (name is None or indent <= depth):
             name, depth = begins[2] or begins[3], indent
@@ -99,7 +99,7 @@ def named_by_definitions():
             for member in MEMBER.findall(body):
                 found.setdefault((*module, member), {(*module, name)})
         # What a module re-exports.
-        for name, place in uses_of("\n".join(re.findall(r"^pub (use .*)", text, re.M)))[0].items():
+        for name, place in uses_of("\n".join(re.findall(r"^(?:unfoldable )?pub (use .*)", text, re.M)))[0].items():
             found[*module, name] = {place}
     return found
 
@@ -145,7 +145,9 @@ def named_by_contracts():
     """The places that public contracts name. The view of a type is part of them, even if the type is private."""
     for path in CRATES.glob("*/src/lib.rt"):
         found = list(items(path.parent))
-        hidden = {item.first["name"] for item in found if item.first["sort"] in ("struct", "enum", "trait") and not item.is_seen}
+        hidden = {
+            item.first["name"] for item in found if item.first["sort"] in ("struct", "enum", "trait") and not item.is_seen
+        }
         for item in found:
             words = set(re.findall(r"\w+", item.lines[0].partition("{")[0]))
             if item.is_seen or (item.first["sort"] == "impl" and ("Model" in words or not words & hidden)):
@@ -153,27 +155,45 @@ def named_by_contracts():
 
 
 def reached():
-    """The modules of which a public contract reaches a definition."""
+    """The places that a public contract reaches."""
     named, left, done = named_by_definitions(), set(named_by_contracts()), set()
     while left:
         place = left.pop()
         if place in named and place not in done:
             done.add(place)
             left |= named[place]
-    return {place[:2] for place in done}
+    return done
+
+
+def defined_in(path):
+    """The names that a module defines. Laws, which it proves, are left out."""
+    text = plain(path, "--")
+    return [
+        name
+        for name, body in definitions(text).items()
+        if re.match(r" *(abbrev|unfoldable|pub record|pub data|record|data)\b", body)
+    ]
 
 
 def check_private(bench):
-    """Exactly the modules that no public contract reaches are in the folders specs/private."""
-    public, there = reached(), files()
-    apart = {module for module, path in there.items() if path.parent.name == "private"}
-    bench.same("modules in specs/private that a public contract reaches", sorted(apart & public), [])
-    bench.same("modules outside specs/private that no public contract reaches", sorted(set(there) - public - apart), [])
+    """Exactly the definitions that no public contract reaches are in the folders specs/private."""
+    public = reached()
+    inside, outside = [], []
+    for module, path in files().items():
+        places = {(*module, name) for name in defined_in(path)}
+        if path.parent.name == "private":
+            inside += places & public
+        else:
+            outside += places - public
+    bench.same("definitions in specs/private that a public contract reaches", sorted(inside), [])
+    bench.same("definitions outside specs/private that no public contract reaches", sorted(outside), [])
 
 
 def lines_of(crate):
     """The lines of a crate's definitions: all of them, those in specs/private, and the others."""
-    counts = {path: len(path.read_text(encoding="utf-8").splitlines()) for module, path in files().items() if module[0] == crate}
+    counts = {
+        path: len(path.read_text(encoding="utf-8").splitlines()) for module, path in files().items() if module[0] == crate
+    }
     apart = sum(count for path, count in counts.items() if path.parent.name == "private")
     return sum(counts.values()), apart, sum(counts.values()) - apart
 

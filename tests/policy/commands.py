@@ -14,6 +14,9 @@ BIN = TESTS.parent / "bin"
 # The Python that runs the commands, as their first line has it.
 PYTHON = "/usr/bin/python3" if os.access("/usr/bin/python3", os.X_OK) else sys.executable
 
+# What such a command has for its environment: this variable would hide what isn't written in time.
+BUFFERED = {name: value for name, value in os.environ.items() if name != "PYTHONUNBUFFERED"}
+
 
 def command(name, *words, folder=None, given=b"", seconds=SECONDS):
     """What `rbac-policy` or `rbac-people` prints for a command line, and its status."""

@@ -111,6 +111,50 @@ def check_postgresql(bench, seed):
     bench.same("it isn't shown", b"secret" in done.out + done.err, False)
 
 
+# Users of whom the database lets two reach nothing, and a view that needs the rights of whoever reads it. The view of a later version stands
+# for the table of the system since version 16, in which each membership says whether it inherits.
+DENYING = """
+CREATE ROLE holder; CREATE ROLE another;
+CREATE ROLE free LOGIN; CREATE ROLE asks LOGIN; CREATE ROLE kept LOGIN; CREATE ROLE shut LOGIN CONNECTION LIMIT 0;
+GRANT holder TO free, asks;
+GRANT another TO kept, shut;
+REVOKE CONNECT ON DATABASE denying FROM PUBLIC;
+GRANT CONNECT ON DATABASE denying TO free, asks, shut;
+CREATE SCHEMA a; GRANT USAGE ON SCHEMA a TO PUBLIC;
+CREATE TABLE a.t (x int); CREATE TABLE a.own (x int); CREATE VIEW a.v WITH (security_invoker) AS SELECT x FROM a.own;
+GRANT SELECT ON a.t, a.v TO holder;
+GRANT UPDATE ON a.t TO another;
+GRANT INSERT ON a.t TO free, asks, kept, shut;
+CREATE SCHEMA later;
+CREATE VIEW later.pg_auth_members AS SELECT roleid, member, pg_get_userbyid(member) <> 'asks' AS inherit_option FROM pg_catalog.pg_auth_members;
+"""
+
+
+@pytest.mark.needs("root", "postgresql")
+def check_denials(bench):
+    """What somebody can't do who may not connect, or inherits nothing from a membership, the office allows nobody by the same grant."""
+    users = ("free", "asks", "kept", "shut")
+    permissions = [("a.t", "SELECT"), ("a.t", "UPDATE"), ("a.t", "INSERT"), ("a.v", "SELECT")]
+    inserts = {(user, "a.t", "INSERT") for user in ("free", "asks")}
+    with server() as folder:
+        ask(folder, "postgres", "CREATE DATABASE denying;")
+        ask(folder, "denying", DENYING)
+        for out, options, readers in (
+            ("now", "", ("free", "asks")),
+            ("later", " options=-csearch_path=later,pg_catalog", ("free",)),
+        ):
+            address = f"host={folder} user=postgres dbname=denying{options}"
+            ends(bench, "import", policy(bench, "from", "postgresql", address, "--out", out), 0)
+            selects = {(user, "a.t", "SELECT") for user in readers}
+            bench.same(f"what the office allows ({out})", decisions(bench, out, users, permissions), selects | inserts)
+            left = (bench.folder / out / "left.txt").read_text(encoding="utf-8")
+            bench.same(
+                f"the grant ({out})", "UPDATE on a.t for the role another: the source denies it to kept, shut" in left, True
+            )
+            bench.same(f"the view ({out})", "the view a.v: " in left, True)
+            bench.same(f"the membership ({out})", "that asks is a member of holder: " in left, out == "later")
+
+
 def is_said(triple, left):
     """Whether the list has a reason why a user lacks a privilege: the table, the user as a superuser, or the grant."""
     user, table, privilege = triple

@@ -248,6 +248,29 @@ def check_ldif(bench):
     bench.same("the member that is gone is in the list", '"uid=gone,ou=people,dc=example" of clerks' in left, True)
 
 
+def check_ldif_of_names_that_are_no_text(bench):
+    """An entry whose name is not UTF-8 is refused in one line."""
+    path = bench.write("all.ldif", b"dn:: dWlkPf8=\nuid: ann\n")
+    done = policy(bench, "from", "ldif", path, "--out", "out")
+    ends(bench, "a name", done, 2, err=f"rbac-policy: {path}: the name of an entry is no text: dWlkPf8=\n")
+
+
+def check_ldif_of_ended_accounts(bench):
+    """An account that has ended, or hasn't begun, is locked, however its time is written. Of one whose time comes the list says so."""
+    times = {
+        "a": "pwdEndTime: 2026010112Z", "b": "pwdEndTime: 20260101120000.5Z", "c": "pwdEndTime: 202601011200+0100",
+        "d": "pwdStartTime: 29990101000000Z", "e": "pwdStartTime: 2026010112Z", "f": "pwdEndTime: 2999010112Z", "g": "pwdEndTime: soon",
+        "h": "shadowExpire: 20000", "i": "shadowExpire: 0", "j": "shadowExpire: 99999", "k": "shadowExpire: -1",
+    }  # fmt: skip
+    text = "".join(f"dn: uid={user},dc=example\nuid: {user}\nentryUUID: {user}\n{time}\n\n" for user, time in times.items())
+    bench.write("all.ldif", text.encode())
+    ends(bench, "import", policy(bench, "from", "ldif", "all.ldif", "--out", "out"), 0)
+    rows = (bench.folder / "out/people.csv").read_text(encoding="utf-8").splitlines()[1:]
+    bench.same("who is locked", "".join(row[0] for row in rows if row.endswith(",yes")), "abcdghi")
+    left = (bench.folder / "out/left.txt").read_text(encoding="utf-8")
+    bench.same("whose time comes", "".join(user for user in times if f"that the account of {user} " in left), "dfgj")
+
+
 def check_ldif_of_one_name(bench):
     """Two groups or two users of one name are refused, and the message names both."""
     group, user = (

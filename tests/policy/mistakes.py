@@ -1,8 +1,13 @@
 """Each mistake in a policy is found, all at once, with its line and the path of its key, and what is allowed there."""
 
+import subprocess
+
 import pytest
 
-from .commands import ends, policy
+from program.bench import SECONDS
+from program.web import free_port
+
+from .commands import BIN, BUFFERED, PYTHON, ends, policy
 
 GOOD = """
 [objects]
@@ -213,3 +218,45 @@ user = "anne"
     ]
     bench.same("what is printed", (done.status, done.err.decode().splitlines()), (1, wanted))
     bench.same("the count", done.out, b"8 tests, 7 faults\n")
+
+
+def check_full_output(bench):
+    """If the output can't be written, one line says so and the status is 1, and `apply` changes nothing whose plan it can't show."""
+    bench.write("p.toml", GOOD.encode())
+    bench.write("people.csv", b"user\neve\n")
+    bench.ends(["init", "office"], makes=["office"])
+    ends(bench, "apply", policy(bench, "apply", "p.toml", "--file", "office", "--yes"), 0)
+    bench.write("more.toml", GOOD.replace("[users]", "[roles.guest]\n\n[users]").encode())
+    for name, *words in (
+        ("rbac-policy", "--help"),
+        ("rbac-policy", "validate", "p.toml"),
+        ("rbac-policy", "pull", "--file", "office"),
+        ("rbac-policy", "apply", "more.toml", "--file", "office", "--yes"),
+        ("rbac-people", "apply", "people.csv", "--file", "office", "--yes"),
+    ):
+        with open("/dev/full", "wb") as full:
+            line = [PYTHON, "-B", BIN / name, *words]
+            done = subprocess.run(
+                line, cwd=bench.folder, env=BUFFERED, stdout=full, stderr=subprocess.PIPE, timeout=SECONDS, check=False
+            )
+        said = (done.returncode, done.stderr.decode())
+        bench.same(f"{name} {words[0]}", said, (1, f"{name}: [Errno 28] No space left on device\n"))
+    ends(bench, "what is in the office", policy(bench, "plan", "p.toml", "--file", "office"), 0, "No difference.")
+
+
+def check_token_in_the_clear(bench):
+    """A token is not sent without TLS to another machine. To this one it is, where nobody listens here."""
+    bench.write("p.toml", GOOD.encode())
+    bench.write("token", b"secret\n")
+    port = free_port()
+    for host, err in (
+        ("office.example", "a token is sent over TLS alone"),
+        ("192.0.2.1", "a token is sent over TLS alone"),
+        ("[2001:db8::1]", "a token is sent over TLS alone"),
+        ("localhost.example", "a token is sent over TLS alone"),
+        ("localhost", "the front does not answer"),
+        ("127.0.0.1", "the front does not answer"),
+        ("[::1]", "the front does not answer"),
+    ):
+        done = policy(bench, "plan", "p.toml", "--front", f"http://{host}:{port}", "--token-file", "token")
+        ends(bench, host, done, 2, err=err)

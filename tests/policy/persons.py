@@ -3,13 +3,16 @@
 import json
 import random
 import re
+import shlex
+import subprocess
 
 import pytest
 
+from program.bench import SECONDS
 from program.offices import read_rows
 
 from . import drawing
-from .commands import ends, people, policy
+from .commands import BIN, BUFFERED, PYTHON, ends, people, policy
 from .pairs import make_office
 from .plans import good_office
 
@@ -143,6 +146,19 @@ def check_sessions(bench):
         "people.csv:2: refused: assign the user ann to the role nobody: 4 NoRole",
     )
     bench.same("no session ends", "Sessions that end" in done.out.decode(), False)
+
+
+def check_closed_output(bench):
+    """If standard output is closed, nothing is done."""
+    bench.write("people.csv", b"user,roles\nann,\nbob,\n")
+    make_office(bench, "office", drawing.State())
+    line = shlex.join(map(str, [PYTHON, "-B", BIN / "rbac-people", "apply", "people.csv", "--file", "office", "--yes"]))
+    done = subprocess.run(
+        ["sh", "-c", f"{line} >&-"], cwd=bench.folder, env=BUFFERED, capture_output=True, timeout=SECONDS, check=False
+    )
+    said = b"rbac-people: standard output is closed: nothing was done\n"
+    bench.same("what is said", (done.returncode, done.stderr), (2, said))
+    bench.same("the users", {name for kind, name in read_rows(bench.path("office"))["name_row"] if kind == 1}, set())
 
 
 @pytest.mark.seeds()

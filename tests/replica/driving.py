@@ -24,18 +24,16 @@ from pathlib import Path
 
 import pytest
 
+from front.running import FORM
 from library import building
 from program.bench import SECONDS, TESTS
 
 DRIVERS = TESTS / "replica/drivers"
 
-# Go's own packages call no C then: otherwise they would be built again for each folder in which the library is.
-GO_TAGS = "-tags=netgo,osusergo"
-
 
 def go_environment():
-    """The environment of Go: it fetches nothing, and calls C for the library alone."""
-    return {**building.environment(), "GOFLAGS": f"-mod=mod {GO_TAGS}"}
+    """The environment of Go: it fetches nothing, and calls C for the library alone, so that Go's own packages are those of the front."""
+    return {**building.environment(), "GOFLAGS": " ".join(["-mod=mod", *FORM])}
 
 
 def build(folder):

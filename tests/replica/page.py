@@ -8,12 +8,13 @@ import sys
 import pytest
 
 from front.program import Front
+from front.running import FORM
 from library.building import TOP, environment
 from pages import markdown
 from program.bench import TESTS
 from program.offices import Office
 
-from .driving import GO_TAGS, LANGUAGES
+from .driving import LANGUAGES
 
 # Programs are built and run on the disk: a file system in memory may forbid running them.
 ON_DISK = True
@@ -74,6 +75,6 @@ def check_the_page(bench, language):
             go = {name: value for name, value in environment().items() if not name.startswith(("CGO_", "LD_"))}
             text = f"go mod init app 2> made\n{block('sh', 1)}./app"
             status, said, error = sh(
-                text, app, RBAC=str(repository), GOPROXY=go["GOPROXY"], GOFLAGS=GO_TAGS, LD_LIBRARY_PATH=""
+                text, app, RBAC=str(repository), GOPROXY=go["GOPROXY"], GOFLAGS=" ".join(FORM), LD_LIBRARY_PATH=""
             )
         bench.same(f"what the example prints: {error[-2000:]}", (status, said), (0, PRINTED[language]))

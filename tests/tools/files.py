@@ -214,6 +214,15 @@ def check_refuses_evidence(bench):
     bench.same("no folder is made", os.path.exists(new), False)
 
 
+def check_hostile_names_in_differences(bench):
+    """A name can't make a line read as another one: what turns letters round, or a terminal obeys, is escaped."""
+    names = {"a\u202eb": "a\\u202eb", "\u009b2J": "\\u009b2J", "\u2028": "\\u2028", "é\U0001f600 ": "é\U0001f600 ", '"\\': '\\"\\\\'}
+    dump = "".join(json.dumps({"fn": "addUser", "user": name}, ensure_ascii=False) + "\n" for name in names)
+    done = run_script("difference.py", bench.write("none", b""), bench.write("some", dump.encode()))
+    lines = sorted(f'+ user "{shown}"' for shown in names.values())
+    bench.same("the lines", sorted(done.out.decode().split("\n")[:-2]), lines)
+
+
 def check_refuses_differences(bench):
     """Files that are no dumps, and other arguments: the status is 2, and nothing is compared."""
     good = bench.write("good", BANK.read_bytes().splitlines(keepends=True)[0])

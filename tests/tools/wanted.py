@@ -1,6 +1,7 @@
 """What the reports have to contain for a state, according to the plain model."""
 
 import hashlib
+import json
 
 from machine.state import assigned_roles, authorized_users, below
 from machine.texts import json_text, rows
@@ -110,19 +111,24 @@ def room(state):
     return [tuple(map(str, row)) for row in found]
 
 
+def quoted(value):
+    """A name in double quotes, in which no letter can't be seen; a number unchanged."""
+    return "".join(one if one.isprintable() else json.dumps(one).strip('"') for one in json_text(value))
+
+
 def sentences(state, has_names=False):
     """All that a difference can name of a state. A name is in double quotes, and a digest is not."""
-    found = {f"lock of the user {json_text(user)}" for user in state.locked}
+    found = {f"lock of the user {quoted(user)}" for user in state.locked}
     for name, (user, active) in state.sessions.items():
-        session = json_text(name) if has_names else shown(name, False)
-        found.add(f"session {session} of the user {json_text(user)}")
-        found |= {f"activated role of the session {session}: {json_text(role)}" for role in active}
-    for ob, op, role in map(lambda grant: map(json_text, grant), state.grants):
+        session = quoted(name) if has_names else shown(name, False)
+        found.add(f"session {session} of the user {quoted(user)}")
+        found |= {f"activated role of the session {session}: {quoted(role)}" for role in active}
+    for ob, op, role in map(lambda grant: map(quoted, grant), state.grants):
         found.add(f"grant: {op} on {ob} to the role {role}")
     for table in ("name_row", "pair_row", "set_row"):
         for kind, *parts in rows(state)[table]:
             if (table, kind) in SENTENCES:
-                found.add(SENTENCES[table, kind].format(*map(json_text, parts)))
+                found.add(SENTENCES[table, kind].format(*map(quoted, parts)))
     return found
 
 

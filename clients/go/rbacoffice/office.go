@@ -531,16 +531,33 @@ func (o *Office) rowsFrom(rows []Row, table Table, index, most int) ([]Row, erro
 	return o.appendRows(rows, table), nil
 }
 
+// Range returns the places of the rows of a table with this first name, counted from 0: from start up to the one before end. These are
+// also how many rows have a lesser first name, and how many have none that is greater. So the name may be any text.
+func (o *Office) Range(table Table, first string) (start, end int, err error) {
+	o.mu.Lock()
+	defer o.mu.Unlock()
+	from, to, err := o.rangeOf(table, first)
+	return int(from), int(to), err
+}
+
+// rangeOf is Range. The caller holds the lock.
+func (o *Office) rangeOf(table Table, first string) (start, end C.size_t, err error) {
+	if o.room == nil {
+		return 0, 0, ErrClosed
+	}
+	if code := C.range_of(o.at(), C.uint32_t(table), first, &start, &end); code != C.RBAC_DONE {
+		return 0, 0, errorOf(code)
+	}
+	return start, end, nil
+}
+
 // RowsWith returns the rows of the table with this first name, in byte order.
 func (o *Office) RowsWith(table Table, first string) ([]Row, error) {
 	o.mu.Lock()
 	defer o.mu.Unlock()
-	if o.room == nil {
-		return nil, ErrClosed
-	}
-	var index, end C.size_t
-	if code := C.range_of(o.at(), C.uint32_t(table), first, &index, &end); code != C.RBAC_DONE {
-		return nil, errorOf(code)
+	index, end, err := o.rangeOf(table, first)
+	if err != nil {
+		return nil, err
 	}
 	rows := []Row{}
 	for index < end {

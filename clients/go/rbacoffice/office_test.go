@@ -322,24 +322,28 @@ func TestRowsWith(t *testing.T) {
 	}
 	defer office.Close()
 	tests := []struct {
-		name  string
-		table Table
-		first string
-		count int
+		name         string
+		table        Table
+		first        string
+		start, count int
 	}{
-		{"more than are read at once", Assignments, "bob", 200},
-		{"the first", Assignments, "ann", 1},
-		{"the last", Assignments, "cat", 1},
-		{"a beginning of a name", Assignments, "bo", 0},
-		{"a user", Users, "bob", 1},
-		{"an empty name", Users, "", 0},
-		{"a table without rows", Grants, "bob", 0},
+		{"more than are read at once", Assignments, "bob", 1, 200},
+		{"the first", Assignments, "ann", 0, 1},
+		{"the last", Assignments, "cat", 201, 1},
+		{"a beginning of a name", Assignments, "bo", 1, 0},
+		{"a user", Users, "bob", 1, 1},
+		{"an empty name", Users, "", 0, 0},
+		{"what is no name, and greater than all", Users, "\xff", 3, 0},
+		{"a table without rows", Grants, "bob", 0, 0},
 	}
 	for _, test := range tests {
 		t.Run(test.name, func(t *testing.T) {
 			found, err := office.RowsWith(test.table, test.first)
 			if err != nil || len(found) != test.count {
 				t.Fatalf("got %d rows, %v; want %d", len(found), err, test.count)
+			}
+			if start, end, err := office.Range(test.table, test.first); err != nil || start != test.start || end != start+test.count {
+				t.Errorf("the places are %d to %d, %v", start, end, err)
 			}
 			for i, row := range found {
 				if row.Table != test.table || row.Names[0] != test.first || i > 0 && row.Names[1] <= found[i-1].Names[1] {
@@ -533,6 +537,9 @@ func TestClosed(t *testing.T) {
 	}
 	if _, err := office.Rows(); !errors.Is(err, ErrClosed) {
 		t.Errorf("Rows: %v", err)
+	}
+	if _, _, err := office.Range(Users, "u"); !errors.Is(err, ErrClosed) {
+		t.Errorf("Range: %v", err)
 	}
 	if _, err := office.RowsWith(Users, "u"); !errors.Is(err, ErrClosed) {
 		t.Errorf("RowsWith: %v", err)

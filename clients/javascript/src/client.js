@@ -49,7 +49,9 @@ export class Client extends Functions {
     super();
     const { ca, certificate: cert, key, token, timeout = 10_000, pause = 100, repeats = true } = options;
     const given = typeof options.addresses === "string" ? [options.addresses] : options.addresses;
-    const addresses = given.map((text) => new Address(text, { minVersion: "TLSv1.2", ca, cert, key }));
+    // Whom to trust isn't left to the variable NODE_TLS_REJECT_UNAUTHORIZED.
+    const tls = { minVersion: "TLSv1.2", rejectUnauthorized: true, ca, cert, key };
+    const addresses = given.map((text) => new Address(text, tls));
     if (addresses.length === 0) {
       throw new TypeError("there is no address");
     }

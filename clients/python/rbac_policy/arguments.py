@@ -2,6 +2,7 @@
 
 import argparse
 import io
+import os
 import sys
 from collections.abc import Callable, Sequence
 
@@ -41,18 +42,23 @@ def target_of(arguments: argparse.Namespace) -> tuple[Target, bool]:
 
 
 def run(main: Callable[[Sequence[str]], int], name: str) -> None:
-    """Runs a command line. Its status is 2 if nothing could be done."""
+    """Runs a command line. Its status is 2 if nothing could be done. Each line is written at once: nothing follows one that can't be."""
     for stream in (sys.stdout, sys.stderr):
         if isinstance(stream, io.TextIOWrapper):
-            stream.reconfigure(encoding="utf-8", errors="backslashreplace")
+            stream.reconfigure(encoding="utf-8", errors="backslashreplace", line_buffering=True)
     try:
+        if sys.stdout is None:
+            raise Stop("standard output is closed: nothing was done")
         status = main(sys.argv[1:])
         sys.stdout.flush()
     except Stop as stop:
         print(f"{name}: {stop}", file=sys.stderr)
         status = 2
-    except BrokenPipeError:
-        sys.stderr.close()
+    except OSError as error:  # What was printed is incomplete.
+        # Nothing more is written: it would fail again when the process ends, and change its status.
+        os.dup2(os.open(os.devnull, os.O_WRONLY), sys.stdout.fileno())
+        if not isinstance(error, BrokenPipeError):
+            print(f"{name}: {error}", file=sys.stderr)
         status = 1
     except KeyboardInterrupt:
         print(f"{name}: interrupted. What was answered is done; the same command line does the rest.", file=sys.stderr)

@@ -81,14 +81,36 @@ def _is_locked(found: Imported, entry: Entry, user: str) -> bool:
                 f"whether {shown(user)} is still locked", f"the directory has locked it at {locks[0]}, perhaps for a time"
             )
         return True
-    now = datetime.now(timezone.utc).strftime("%Y%m%d%H%M%SZ")
-    starts, ends = entry.get("pwdstarttime", [""])[0], entry.get("pwdendtime", [""])[0]
-    for time, what in ((starts, "begins"), (ends, "ends")):
-        if time > now:
-            found.leave(f"that the account of {shown(user)} {what} at {time}", "an office knows no time")
-    if expires := entry.get("shadowexpire"):
-        found.leave(f"that the account of {shown(user)} ends at day {expires[0]} of POSIX", "an office knows no time")
-    return starts > now or "" < ends <= now
+    return _is_out_of_time(found, entry, user)
+
+
+def _is_out_of_time(found: Imported, entry: Entry, user: str) -> bool:
+    """Whether the account of a user hasn't begun or has ended. What may change by itself is left."""
+    now, is_out = datetime.now(timezone.utc), False
+    for key, what in (("pwdstarttime", "begins"), ("pwdendtime", "ends")):
+        for text in entry.get(key, []):
+            time = _time_of(text)
+            if time is None or time > now:
+                found.leave(f"that the account of {shown(user)} {what} at {text}", "an office knows no time")
+            is_out = is_out or time is None or (time > now) == (what == "begins")
+    for day in entry.get("shadowexpire", []):
+        if re.fullmatch(r"\d+", day) and int(day) * 86_400 <= now.timestamp():
+            is_out = True
+        elif day != "-1":
+            found.leave(f"that the account of {shown(user)} ends at day {day} of POSIX", "an office knows no time")
+    return is_out
+
+
+def _time_of(text: str) -> datetime | None:
+    """A time of a directory, which may lack minutes and seconds, or None if it can't be read."""
+    parts = re.fullmatch(r"(\d{10})(\d\d)?(\d\d)?(?:[.,]\d+)?(Z|[+-]\d\d)(\d\d)?", text)
+    if parts is None:
+        return None
+    zone = parts[4] if parts[4] == "Z" else f"{parts[4]}{parts[5] or '00'}"
+    try:
+        return datetime.strptime(f"{parts[1]}{parts[2] or '00'}{parts[3] or '00'}{zone}", "%Y%m%d%H%M%S%z")
+    except ValueError:
+        return None
 
 
 def _read_members(
@@ -182,6 +204,8 @@ def _entries(path: str, found: Imported) -> Iterator[Entry]:
             try:
                 entry.setdefault(key, []).append(base64.b64decode(value).decode() if kind else value)
             except ValueError:
+                if key == "dn":
+                    raise Stop(f"{path}: the name of an entry is no text: {shown(value[:60])}") from None
                 if key not in ("userpassword", "jpegphoto"):
                     found.leave(f"a value of {key}", "it is no text")
         if "dn" in entry:

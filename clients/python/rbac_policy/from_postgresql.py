@@ -7,22 +7,27 @@ from typing import Any
 from .imported import Imported, Permission
 from .model import Stop, shown
 
-# All that is read, as one text of JSON, at one moment.
+# All that is read, as one text of JSON, at one moment. Before version 16 the member alone says whether it inherits. 'closed' has the users
+# who can't reach a schema, or not even the database.
 _QUERY = """
 SELECT json_build_object(
-    'roles', (SELECT json_agg(json_build_object('name', rolname, 'login', rolcanlogin, 'super', rolsuper, 'inherit', rolinherit))
+    'roles', (SELECT json_agg(json_build_object('name', rolname, 'login', rolcanlogin, 'super', rolsuper))
         FROM pg_roles WHERE rolname !~ '^pg_'),
-    'members', (SELECT coalesce(json_agg(json_build_array(m.rolname, r.rolname)), '[]')
-        FROM pg_auth_members JOIN pg_roles m ON m.oid = member JOIN pg_roles r ON r.oid = roleid),
+    'members', (SELECT coalesce(json_agg(json_build_array(m.rolname, r.rolname,
+            coalesce((to_jsonb(g) ->> 'inherit_option')::bool, m.rolinherit))), '[]')
+        FROM pg_auth_members g JOIN pg_roles m ON m.oid = g.member JOIN pg_roles r ON r.oid = g.roleid),
     'tables', (SELECT coalesce(json_agg(json_build_object(
-            'schema', nspname, 'table', relname, 'rows', relrowsecurity,
+            'schema', nspname, 'table', relname, 'rows', relrowsecurity, 'invoker', coalesce((SELECT option_value::bool
+                FROM pg_options_to_table(reloptions) WHERE option_name = 'security_invoker'), false),
             'columns', EXISTS (SELECT FROM pg_attribute WHERE attrelid = c.oid AND attacl IS NOT NULL),
             'grants', (SELECT json_agg(json_build_array(g.rolname, privilege_type))
                 FROM aclexplode(coalesce(relacl, acldefault('r', relowner))) LEFT JOIN pg_roles g ON g.oid = grantee))), '[]')
         FROM pg_class c JOIN pg_namespace n ON n.oid = relnamespace
         WHERE relkind IN ('r', 'p', 'v', 'm', 'f') AND nspname !~ '^pg_' AND nspname <> 'information_schema'),
     'closed', (SELECT coalesce(json_agg(json_build_array(rolname, nspname)), '[]')
-        FROM pg_roles, pg_namespace WHERE rolcanlogin AND NOT has_schema_privilege(pg_roles.oid, pg_namespace.oid, 'USAGE')))
+        FROM pg_roles, pg_namespace WHERE rolcanlogin AND NOT rolsuper AND (rolconnlimit = 0
+            OR NOT has_database_privilege(pg_roles.oid, current_database(), 'CONNECT')
+            OR NOT has_schema_privilege(pg_roles.oid, pg_namespace.oid, 'USAGE'))))
 """
 
 # The role that has what is granted to everybody.
@@ -43,18 +48,15 @@ def from_postgresql(address: str) -> Imported:
     if _PUBLIC in found.roles:
         raise Stop("a role is named public, as what everybody has")
     found.roles.add(_PUBLIC)
-    inherits = {role["name"] for role in read["roles"] if role["inherit"]}
-    for member, role in read["members"]:
+    for member, role, inherits in read["members"]:
         if role not in found.roles or member not in found.roles:
             found.leave(
                 f"that {shown(member)} is a member of {shown(role)}", "the roles of the system itself aren't carried over"
             )
-        elif member in inherits:
+        elif inherits:
             found.edges.add((member, role))
         else:
-            found.leave(
-                f"that {shown(member)} is a member of {shown(role)}", f"{shown(member)} has NOINHERIT: it has to ask for it"
-            )
+            found.leave(f"that {shown(member)} is a member of {shown(role)}", "it doesn't inherit: it has to ask for the role")
     for table in read["tables"]:
         _read_table(found, table)
     closed: dict[str, set[Permission]] = {}
@@ -71,6 +73,9 @@ def _read_table(found: Imported, table: dict[str, object]) -> None:
         return
     if table["rows"]:
         found.leave(f"the table {shown(ob)}", "its rows have a security of their own")
+        return
+    if table["invoker"]:
+        found.leave(f"the view {shown(ob)}", "it needs the rights of whoever reads it to other tables")
         return
     if table["columns"]:
         found.leave(f"what is granted on columns of {shown(ob)}", "an office knows the table as a whole")

@@ -9,10 +9,10 @@ use Rattle.bit_rows.specs.declared.row.BitRow.{BitRow}
 use Rattle.bit_rows.specs.Rows.{HaveNumber, has}
 use Rattle.rbac_sets.specs.Sets.{Bytes}
 use Rattle.bit_tables.specs.declared.table.BitTable.{BitTable}
-use Rattle.bit_tables.specs.Tables.{has_at, is_in, row_at}
+use Rattle.bit_tables.specs.Tables.{has_at}
 use Rattle.bit_tables.proofs.ByName.{same_bytes, updated_here, updated_other}
 use Rattle.access_index.specs.declared.index.AccessIndex.{AccessIndex}
-use Rattle.access_index.specs.Index.{IsAuthorized, IsReached, Keeps, Rows, authorized_row, is_below}
+use Rattle.access_index.specs.Index.{IsAuthorized, IsReached, Keeps, Rows, assigned_bits, authorized_row, is_below}
 use Rattle.access_index.specs.private.Reaching.{Reaches}
 
 -- ---- an index whose rows, and whose assignments, change
@@ -154,18 +154,18 @@ module _ (rows : List BitRow) (bits : ℕ → Bool) where
       ]
 
 -- the row of a user's assigned roles, and what it reaches
-pub row_authorized : (index : AccessIndex) (user : Bytes) (assigned row : BitRow) → Some assigned ≡ row_at index.assigned user → ((n : ℕ) → IsTrue (has row n) ↔ IsReached index.juniors.items (has assigned) n) → IsAuthorized index user row
-row_authorized index user assigned row at is = subst (λ o. (n : ℕ) → IsTrue (has row n) ↔ IsReached index.juniors.items (is_in o) n) at is
+pub row_authorized : (index : AccessIndex) (user : Bytes) (assigned row : BitRow) → ((n : ℕ) → has assigned n ≡ assigned_bits index user n) → ((n : ℕ) → IsTrue (has row n) ↔ IsReached index.juniors.items (has assigned) n) → IsAuthorized index user row
+row_authorized index user assigned row bits is = reached_same index.juniors.items (has assigned) (assigned_bits index user) (λ n. sym (bits n)) row is
 
 -- ---- a decision by a row
 
 -- a right row and one of granted roles have a number exactly if the assigned roles reach a granted one
-pub authorized_reaches : (index : AccessIndex) (user : Bytes) (assigned row granted : BitRow) → row_at index.assigned user ≡ Some assigned → IsAuthorized index user row → (meets : Bool) → (IsTrue meets ↔ HaveNumber row granted)
+pub authorized_reaches : (index : AccessIndex) (user : Bytes) (assigned row granted : BitRow) → ((n : ℕ) → has assigned n ≡ assigned_bits index user n) → IsAuthorized index user row → (meets : Bool) → (IsTrue meets ↔ HaveNumber row granted)
     → IsTrue meets ↔ Reaches index.juniors.items assigned granted
-authorized_reaches index user assigned row granted at is meets decides = (to, back)
+authorized_reaches index user assigned row granted bits is meets decides = (to, back)
   where
     right : (n : ℕ) → IsTrue (has row n) ↔ IsReached index.juniors.items (has assigned) n
-    right = subst (λ o. (n : ℕ) → IsTrue (has row n) ↔ IsReached index.juniors.items (is_in o) n) at is
+    right = reached_same index.juniors.items (assigned_bits index user) (has assigned) bits row is
 
     to : IsTrue meets → Reaches index.juniors.items assigned granted
     to meeting =

@@ -24,7 +24,7 @@ use Rattle.access_index.proofs.BarLaws.{empty_alone, empty_bars_none}
 use Rattle.access_index.specs.declared.index.AccessIndex.{AccessIndex}
 use Rattle.bit_tables.specs.declared.table.BitTable.{BitTable}
 use Rattle.bit_tables.specs.declared.pair_table.PairTable.{PairTable}
-use Rattle.bit_tables.specs.Tables.{has_at, has_pair, is_in, row_at}
+use Rattle.bit_tables.specs.Tables.{has_at, has_pair}
 use Rattle.access_index.specs.Following.{Follow}
 use Rattle.access_index.specs.Index.{AreTurned, Rows, Keeps, no_rows, rows_of, number_of, is_used, is_below, is_below_number, assigned_bits, session_bits, grant_bits, junior_bits, is_assigned, is_activated, is_granted, is_junior, row_by_set, authorized_row}
 use Rattle.access_index.specs.private.Changing.{IsNowhere, rows_by}
@@ -124,23 +124,32 @@ keeps_counted index other rows name row changed follow keeps = record {
   authorized = keeps.authorized;
 }
 
--- an index with a table that has the same rows
-pub keeps_fitted : (index : AccessIndex) (rows : Rows) (table : BitTable) → ((user : Bytes) → row_at table user ≡ row_at index.assigned user) → Keeps index rows → Keeps (record index { assigned = table }) rows
-keeps_fitted index rows table same keeps = record {
+-- an index with tables that have the same rows
+pub keeps_fitted : (index : AccessIndex) (rows : Rows) (assigned sessions : BitTable) (grants : PairTable) → ((user : Bytes) (n : ℕ) → has_at assigned user n ≡ has_at index.assigned user n) → ((session : Bytes) (n : ℕ) → has_at sessions session n ≡ has_at index.sessions session n)
+    → ((first second : Bytes) (n : ℕ) → has_pair grants first second n ≡ has_pair index.grants first second n) → Keeps index rows → Keeps (record index { assigned = assigned; sessions = sessions; grants = grants }) rows
+keeps_fitted index rows assigned sessions grants same_assigned same_sessions same_grants keeps = record {
   numbers = keeps.numbers;
   assigned = record {
-    same = λ user role n at. ap (λ row. is_in row n) (same user) ∙ keeps.assigned.same user role n at;
-    unused = λ user n out. ap (λ row. is_in row n) (same user) ∙ keeps.assigned.unused user n out;
+    same = λ user role n at. same_assigned user n ∙ keeps.assigned.same user role n at;
+    unused = λ user n out. same_assigned user n ∙ keeps.assigned.unused user n out;
     numbered = keeps.assigned.numbered;
   };
-  sessions = keeps.sessions;
-  grants = keeps.grants;
+  sessions = record {
+    same = λ session role n at. same_sessions session n ∙ keeps.sessions.same session role n at;
+    unused = λ session n out. same_sessions session n ∙ keeps.sessions.unused session n out;
+    numbered = keeps.sessions.numbered;
+  };
+  grants = record {
+    same = λ p role n at. same_grants p.0 p.1 n ∙ keeps.grants.same p role n at;
+    unused = λ p n out. same_grants p.0 p.1 n ∙ keeps.grants.unused p n out;
+    numbered = keeps.grants.numbered;
+  };
   juniors = keeps.juniors;
   clear = keeps.clear;
   turned = keeps.turned;
   barred = keeps.barred;
   barred_by = keeps.barred_by;
-  authorized = λ user. authorized_again index table user (λ n. ap (λ row. is_in row n) (same user)) (authorized_row index user) (keeps.authorized user);
+  authorized = λ user. authorized_again index assigned user (same_assigned user) (authorized_row index user) (keeps.authorized user);
 }
 
 -- ---- an assigned role

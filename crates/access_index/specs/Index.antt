@@ -18,7 +18,7 @@ use Rattle.access_index.specs.declared.index.AccessIndex.{AccessIndex}
 
 -- the number of a role, if it has one
 abbrev pub number_of : AccessIndex → Bytes → Option ℕ
-number_of index role = get_by_text index.numbers role
+number_of index role = get_by_text index.numbers.numbers role
 
 abbrev pub is_used : AccessIndex → ℕ → Bool
 is_used index n = has index.used n

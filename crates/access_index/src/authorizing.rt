@@ -133,13 +133,13 @@ impl AccessIndex {
         let Some(assigned) = self.assigned.row(user) else {
             return None;
         };
-        if !has_many(assigned) {
+        if !has_many(&assigned) {
             return None;
         }
         if self.authorized.contains_key(user) {
             return None;
         }
-        Some(self.with_juniors(assigned))
+        Some(self.with_juniors(&assigned))
     }
 
     // The numbers of roles, and those of their juniors.

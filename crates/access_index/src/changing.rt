@@ -32,6 +32,8 @@ impl AccessIndex {
         }
         index.forget_all_barred();
         index.assigned.fit();
+        index.sessions.fit();
+        index.grants.fit();
         index.count_rows(alloc, rows);
         Ok(index)
     }

@@ -6,8 +6,7 @@ ghost use Rattle.admin_mgr.specs.RbacState.{RbacState};
 ghost use Rattle.admin_mgr.specs.Good.{IsGood};
 ghost use Rattle.access_index.specs.Decision.{HasNothing, HasNothingAssigned, IsDecision, IsUserDecision};
 ghost use Rattle.access_index.specs.private.Reaching.{Reaches};
-ghost use Rattle.access_index.specs.Index.{Indexes, Keeps, Rows, is_below};
-ghost use Rattle.bit_tables.specs.Tables.{row_at};
+ghost use Rattle.access_index.specs.Index.{Indexes, Keeps, Rows, assigned_bits, is_below};
 
 use crate::index::AccessIndex;
 use bit_rows::BitRow;
@@ -33,7 +32,7 @@ impl AccessIndex {
         if granted.is_empty() {
             return None;
         }
-        Some(self.reaches(active, granted))
+        Some(self.reaches(&active, &granted))
     }
 
     /// Whether the user could do the operation on the object in some session, whether or not the user is locked. There is a
@@ -61,12 +60,12 @@ impl AccessIndex {
             return None;
         }
         let usable = roles.difference(barred);
-        Some(self.user_reaches(user, assigned, &usable))
+        Some(self.user_reaches(user, &assigned, &usable))
     }
 
     // Whether one of the granted roles is one of the user's assigned ones, or a junior of one.
     fn user_reaches(&self, user: &str, assigned: &BitRow, granted: &BitRow) -> bool
-        requires { row_at self.now.assigned user.now ≡ Some assigned.now }
+        requires { (n : ℕ) → has assigned.now n ≡ assigned_bits self.now user.now n }
         ensures { (rows : Rows) → Keeps self.now rows → IsTrue result ↔ Reaches self.now.juniors.items assigned.now granted.now }
     {
         if self.authorized.is_empty() {

@@ -8,7 +8,7 @@ ghost use Rattle.access_index.specs.Index.{AreTurned, Indexes, Keeps, Rows, is_b
 ghost use Rattle.access_index.specs.private.Changing.{IsNowhere};
 
 use bit_rows::{BitRow, WIDTH};
-use bit_tables::{BitTable, PairTable, Seed};
+use bit_tables::{BitTable, NumberTable, PairTable, Seed};
 use rbac_sets::{Name, Refusal};
 use std::alloc::Global;
 use std::collections::HashMap;
@@ -17,7 +17,7 @@ use std::collections::HashMap;
 #[derive(Drop)]
 pub struct AccessIndex {
     // The number of each role.
-    pub(crate) numbers: HashMap<String, usize, Seed>,
+    pub(crate) numbers: NumberTable,
     // The numbers of roles.
     pub(crate) used: BitRow,
     // By the number of a role the numbers of its juniors, without its own.
@@ -46,7 +46,7 @@ impl AccessIndex {
         ensures state { (version : ℕ) → Indexes result (empty_state version) }
     {
         AccessIndex {
-            numbers: HashMap::with_hasher(alloc, seed),
+            numbers: NumberTable::new(alloc, seed),
             used: BitRow::empty(),
             juniors: Vec::new(alloc),
             seniors: Vec::new(alloc),
@@ -63,7 +63,7 @@ impl AccessIndex {
     pub(crate) fn number(&self, role: &Name) -> Option<usize>
         ensures { result ≡ number_of self.now role.now }
     {
-        self.numbers.get(role.as_str()).copied()
+        self.numbers.number(role)
     }
 
     // The number of the role, which gets one if it has none.
@@ -81,8 +81,7 @@ impl AccessIndex {
         let Some(number) = self.used.first_absent() else {
             return Err(Refusal::Memory);
         };
-        let key = String::from_str(alloc, role.as_str())?;
-        self.numbers.insert(key, number)?;
+        self.numbers.put(alloc, role, number)?;
         self.used.put(number);
         Ok(number)
     }
@@ -95,7 +94,8 @@ impl AccessIndex {
         ensures freed { number_of self.new role.now ≡ None }
         ensures others { (other : Bytes) → number_of self.old other ≡ None → number_of self.new other ≡ None }
     {
-        if let Some(number) = self.numbers.remove(role.as_str()) {
+        if let Some(number) = self.number(role) {
+            let _ = self.numbers.take(role);
             self.used.take(number);
         }
     }
@@ -137,9 +137,7 @@ fn put_bit(rows: &mut Vec<BitRow>, first: usize, second: usize) -> Result<(), Re
     ensures cause { IfErr result (λ refusal. refusal ≡ Refusal.Memory) }
 {
     reach(rows, first)?;
-    let mut row = rows[first];
-    row.put(second);
-    rows[first] = row;
+    rows[first].put(second);
     Ok(())
 }
 
@@ -150,9 +148,7 @@ fn take_bit(rows: &mut Vec<BitRow>, first: usize, second: usize)
     ensures others { (i j : ℕ) → (i ≡ first → j ≢ second) → is_below rows.new.items i j ≡ is_below rows.old.items i j }
 {
     if first < rows.len() {
-        let mut row = rows[first];
-        row.take(second);
-        rows[first] = row;
+        rows[first].take(second);
     }
 }
 

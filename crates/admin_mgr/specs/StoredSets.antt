@@ -2,15 +2,13 @@
 use Rattle.std.specs.Prelude.{◌≡◌, refl, ℕ, Bool, false, not, ◌&&◌, nat_eq, is_some, if◌then◌else◌, List, [], ◌∷◌}
 use Rattle.std.specs.List.{list_any}
 use Rattle.std.specs.Coded.{Coded, coded×, code_by}
-use Rattle.rbac_sets.specs.Sets.{Bytes, Pair, Triple, Cardinality, Pairs, coded_set, coded_pair, contains, from_list, insert, same_name}
+use Rattle.rbac_sets.specs.Sets.{Bytes, Pair, Triple, Cardinality, Pairs, coded_set, coded_pair, from_list, same_name}
 use Rattle.rbac_sets.specs.declared.row.Row.{Row}
 use Rattle.rbac_sets.specs.declared.row.Row.TheVariants.{NameRow, PairRow, GrantRow, SetRow, LockedRow}
 use Rattle.rbac_sets.specs.declared.row.TheConstants.Row.{USER, ROLE, OBJECT, PERMISSION, ASSIGNMENT, INHERITANCE, CLOSURE_PAIR, STATIC_MEMBER, DYNAMIC_MEMBER, SESSION, ACTIVATED_ROLE, STATIC_CARDINALITY, DYNAMIC_CARDINALITY}
 use Rattle.rbac_sets.specs.Table.{table_of}
-use Rattle.admin_mgr.specs.RbacState.{RbacState, coded_state, has_set}
-use Rattle.admin_mgr.specs.Rows.{has_name, has_pair}
+use Rattle.admin_mgr.specs.RbacState.{RbacState, coded_state}
 use Rattle.admin_mgr.specs.Changes.{same_row}
-use Rattle.admin_mgr.specs.RowUpdates.{with_row, with_edges}
 
 -- the row is one of these
 abbrev pub is_among : List Row → Row → Bool
@@ -90,25 +88,3 @@ gathered version rows = record {
   };
   pairs = from_list (pairs_of CLOSURE_PAIR rows);
 }
-
--- ---- one row more
-
--- the pairs, with that of the row if it is of this kind
-abbrev pub with_pair_of : ℕ → Pairs → Row → Pairs
-with_pair_of kind pairs (PairRow k a b) = if nat_eq k kind then insert pairs (a, b) else pairs
-with_pair_of kind pairs _ = pairs
-
--- the sets with one row more
-abbrev pub with_stored : StoredSets → Row → StoredSets
-with_stored g row = record {
-  facts = with_edges (with_row g.facts row) (with_pair_of INHERITANCE g.facts.edges row);
-  pairs = with_pair_of CLOSURE_PAIR g.pairs row;
-}
-
--- there is a row with the key of this one
-unfoldable pub has_key : StoredSets → Row → Bool
-has_key g (NameRow kind a) = has_name g.facts kind a
-has_key g (PairRow kind a b) = if nat_eq kind CLOSURE_PAIR then contains g.pairs (a, b) else has_pair g.facts kind a b
-has_key g (GrantRow a b c) = contains g.facts.grants (a, b, c)
-has_key g (SetRow kind a _) = if nat_eq kind STATIC_CARDINALITY then has_set g.facts.ssd a else if nat_eq kind DYNAMIC_CARDINALITY then has_set g.facts.dsd a else false
-has_key g (LockedRow a) = contains g.facts.locked a

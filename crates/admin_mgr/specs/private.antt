@@ -5,6 +5,7 @@ pub mod HolderRoles
 pub mod Holders
 pub mod ImportPlan
 pub mod NumberedSeparation
+pub mod OneRow
 pub mod PlainPlan
 pub mod PlanChanges
 pub mod SeparationOfDuty

@@ -1,12 +1,14 @@
 -- Maps by names, after one change.
-use Rattle.std.proofs.Common.{◌≡◌, ◌≢◌, Bool, ◌⊎◌, List, [], ◌∷◌, String, length, string_bytes, inl, inr, refl, sym, ◌∙◌, ap, subst, arith}
-use Rattle.std.specs.Prelude.{Option, Some, None}
+use Rattle.std.proofs.Common.{◌≡◌, ◌≢◌, Bool, ◌⊎◌, List, [], ◌∷◌, ◌++◌, String, length, take, drop, string_bytes, inl, inr, refl, sym, ◌∙◌, ap, subst, arith}
+use Rattle.std.specs.Prelude.{get_or, Option, Some, None}
 use Rattle.std.specs.Str.{bytes_eq}
 use Rattle.std.specs.String.{string_eq}
 use Rattle.std.specs.Map.{lookup, update}
 use Rattle.std.specs.Cmp.Lexicographic.{bytes_decides}
 use Rattle.std.proofs.lemmas.Bool.{cases_Bool, true≢false, false_from_ne_true, cond-true, cond-false}
+use Rattle.std.proofs.lemmas.List.{drop_at, take_at}
 use Rattle.rbac_sets.specs.Sets.{Bytes, Pair}
+use Rattle.bit_tables.specs.Tables.{joined}
 
 -- names are the same or not
 pub same_bytes : (a b : Bytes) → (a ≡ b) ⊎ (a ≢ b)
@@ -55,15 +57,6 @@ pub no_entries : {A : Type 0} (entries : List A) → length entries ≡ 0 → en
 no_entries [] none = refl
 no_entries (x ∷ entries) none = absurd (omega (arith, none))
 
--- a map that has an entry has one at some name
-pub some_entry : {A Y : Type 0} (entries : List (String Y × A)) → (length entries ≡ 0 → ⊥) → (name : Bytes) × (lookup (λ k. bytes_eq name (string_bytes k)) entries ≢ None)
-some_entry [] some = absurd (some refl)
-some_entry (entry ∷ entries) some =
-    (string_bytes entry.0, λ none. some-none entry.1 (sym (cond-true (bytes_eq (string_bytes entry.0) (string_bytes entry.0)) (Some entry.1) (lookup (λ k. bytes_eq (string_bytes entry.0) (string_bytes k)) entries) ((bytes_decides (string_bytes entry.0) (string_bytes entry.0)).1 refl)) ∙ none))
-  where
-    some-none : {X : Type 0} (x : X) → Some x ≡ None → ⊥
-    some-none x e = cc
-
 -- a name at which a map has an entry is the text of a key
 some_key : {A Y : Type 0} (entries : List (String Y × A)) (name : Bytes) (x : A) → lookup (λ k. bytes_eq name (string_bytes k)) entries ≡ Some x → (key : String Y) × (name ≡ string_bytes key)
 some_key [] name x is = (let clash : None ≡ Some x = is in absurd (none-some x clash))
@@ -90,3 +83,23 @@ same_by_text {A} {Y} old new same name = by (at new) (at old) refl refl
     by None None is_new is_old = is_new ∙ sym is_old
     by (Some x) b is_new is_old = let key = some_key new name x is_new in by_key key.0 key.1
     by None (Some x) is_new is_old = let key = some_key old name x is_old in by_key key.0 key.1
+
+-- two names are found again in the one text of both
+pub joined_same : (a b c d : Bytes) → joined a b ≡ joined c d → (a ≡ c) × (b ≡ d)
+joined_same a b c d same = (
+  sym (take_at a b (length a) refl) ∙ ap (take (length a)) rest ∙ take_at c d (length a) (sym size),
+  sym (drop_at a b (length a) refl) ∙ ap (drop (length a)) rest ∙ drop_at c d (length a) (sym size),
+)
+  where
+    size : length a ≡ length c
+    size = ap (λ l. get_or l 0 0) same
+
+    rest : a ++ b ≡ c ++ d
+    rest = ap (λ l. drop 1 l) same
+
+-- what two values that are there have in common
+pub same_some : {X : Type 0} (a b : X) → Some a ≡ Some b → a ≡ b
+same_some a b same = cc
+
+pub some_none : {X : Type 0} (a : X) → Some a ≡ None → ⊥
+some_none a same = cc

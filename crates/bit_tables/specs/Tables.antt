@@ -1,37 +1,52 @@
 -- Rows of bits by name, and by two names.
-use Rattle.std.specs.Prelude.{ℕ, Bool, false, Option, Some, None}
+use Rattle.std.specs.Prelude.{ℕ, Bool, false, ◌&&◌, ◌∷◌, ◌++◌, nat_eq, nat_le, nat_lt, length, List, Option, Some, None}
 use Rattle.std.specs.HashMap.{get_by_text}
+use Rattle.std.specs.List.{list_any}
 use Rattle.bit_rows.specs.declared.row.BitRow.{BitRow}
+use Rattle.bit_rows.specs.declared.row.TheConstants.{WIDTH}
 use Rattle.bit_rows.specs.Rows.{has}
 use Rattle.rbac_sets.specs.Sets.{Bytes}
+use Rattle.bit_tables.specs.declared.numbers.Numbers.{Numbers}
+use Rattle.bit_tables.specs.declared.numbers.Numbers.TheVariants.{Few, Many}
 use Rattle.bit_tables.specs.declared.table.BitTable.{BitTable}
 use Rattle.bit_tables.specs.declared.pair_table.PairTable.{PairTable}
+use Rattle.bit_tables.specs.declared.pair_table.TheConstants.{LONGEST_NAME}
 
--- the row at the name, if there is one
-abbrev pub row_at : BitTable → Bytes → Option BitRow
-row_at table name = get_by_text table.rows name
+-- whether the place has the number, which is below the width of a row
+unfoldable pub is_at : ℕ → ℕ → Bool
+is_at place number = nat_lt number WIDTH && nat_eq place number
+
+-- whether one of the places has the number
+abbrev pub is_one_of : List ℕ → ℕ → Bool
+is_one_of places number = list_any (λ place. is_at place number) places
+
+-- whether the set has the number
+abbrev pub holds : Numbers → ℕ → Bool
+holds (Few places) number = is_one_of places number
+holds (Many row) number = has row.value number
 
 -- whether the row has the number; no row has none
 abbrev pub is_in : Option BitRow → ℕ → Bool
 is_in None number = false
 is_in (Some row) number = has row number
 
+-- whether the set has the number; no set has none
+abbrev pub is_held : Option Numbers → ℕ → Bool
+is_held None number = false
+is_held (Some numbers) number = holds numbers number
+
 -- whether the row at the name has the number
 abbrev pub has_at : BitTable → Bytes → ℕ → Bool
-has_at table name number = is_in (row_at table name) number
+has_at table name number = is_held (get_by_text table.rows name) number
 
--- the table of the first name, if there is one
-abbrev pub table_at : PairTable → Bytes → Option BitTable
-table_at pairs first = get_by_text pairs.tables first
+-- whether both texts are no longer than a name can be
+abbrev pub are_names : Bytes → Bytes → Bool
+are_names first second = nat_le (length first) LONGEST_NAME && nat_le (length second) LONGEST_NAME
 
-abbrev pub row_in : Option BitTable → Bytes → Option BitRow
-row_in None second = None
-row_in (Some table) second = row_at table second
+-- the two names in one text, with the length of the first before them
+abbrev pub joined : Bytes → Bytes → Bytes
+joined first second = length first ∷ first ++ second
 
--- the row at the two names, if there is one
-abbrev pub row_of_pair : PairTable → Bytes → Bytes → Option BitRow
-row_of_pair pairs first second = row_in (table_at pairs first) second
-
--- whether the row at the two names has the number
+-- whether the row at the two names has the number; texts that are longer than names have no row
 abbrev pub has_pair : PairTable → Bytes → Bytes → ℕ → Bool
-has_pair pairs first second number = is_in (row_of_pair pairs first second) number
+has_pair pairs first second number = are_names first second && has_at pairs.rows (joined first second) number

@@ -19,10 +19,13 @@
 //! ```
 #![tactic(auto)]
 
+pub use number_table::NumberTable;
 pub use pair_table::PairTable;
 pub use seed::Seed;
 pub use table::BitTable;
 
+pub mod number_table;
+pub mod numbers;
 pub mod pair_table;
 pub mod seed;
 pub mod table;

@@ -1,42 +1,49 @@
 //! Rows of bits by two names.
-ghost use Rattle.std.specs.Prelude.{◌≡◌, ◌≢◌, ◌<◌, ℕ, IsTrue, false, None, OnOk, IfErr};
-ghost use Rattle.std.specs.Option.{option_copied};
+ghost use Rattle.std.specs.Prelude.{◌≡◌, ◌≢◌, ◌<◌, ◌≤◌, ℕ, IsTrue, false, length, OnOk, IfErr, IfSome, IfNone};
 ghost use Rattle.rbac_sets.specs.Sets.{Bytes};
-ghost use Rattle.bit_tables.specs.Tables.{has_pair, row_of_pair, table_at};
+ghost use Rattle.bit_rows.specs.Rows.{has};
+ghost use Rattle.bit_tables.specs.Tables.{are_names, has_pair, joined};
 
 use crate::seed::Seed;
 use crate::table::BitTable;
+use arrayvec::ArrayString;
 use bit_rows::{BitRow, WIDTH};
 use rbac_sets::Refusal;
 use std::alloc::Global;
-use std::collections::HashMap;
 
-/// Rows of bits by two names, such as those of a permission: a table for each first name.
+/// The greatest length of a name, in bytes.
+pub const LONGEST_NAME: usize = 64;
+
+// The greatest length of two names and of a byte before them.
+const LONGEST_KEY: usize = 2 * LONGEST_NAME + 1;
+
+/// Rows of bits by two names, such as those of a permission.
 #[derive(Drop)]
 pub struct PairTable {
-    tables: HashMap<String, BitTable, Seed>,
-    seed: Seed,
+    // By the two names in one text. The length of the first name comes before them.
+    rows: BitTable,
 }
 
 impl PairTable {
     /// A table without rows. It doesn't allocate.
     pub fn new(alloc: Global, seed: Seed) -> PairTable
-        ensures { (first : Bytes) → table_at result first ≡ None }
+        ensures { (first second : Bytes) (n : ℕ) → has_pair result first second n ≡ false }
     {
         PairTable {
-            tables: HashMap::with_hasher(alloc, seed),
-            seed,
+            rows: BitTable::new(alloc, seed),
         }
     }
 
     /// The row at the two names, if there is one. It doesn't allocate.
-    pub fn row(&self, first: &str, second: &str) -> Option<&BitRow>
-        ensures { option_copied result ≡ row_of_pair self.now first.now second.now }
+    pub fn row(&self, first: &str, second: &str) -> Option<BitRow>
+        ensures some { IfSome result (λ row. (n : ℕ) → has row n ≡ has_pair self.now first.now second.now n) }
+        ensures none { IfNone result ((n : ℕ) → has_pair self.now first.now second.now n ≡ false) }
     {
-        match self.tables.get(first) {
-            Some(table) => table.row(second),
-            None => None,
+        if !are_names(first, second) {
+            return None;
         }
+        let key = joined(first, second);
+        self.rows.row(key.as_str())
     }
 
     /// Puts the number into the row at the two names.
@@ -51,20 +58,15 @@ impl PairTable {
         second: &str,
         number: usize,
     ) -> Result<(), Refusal>
-        requires { number < WIDTH }
+        requires first { length first.now ≤ LONGEST_NAME }
+        requires second { length second.now ≤ LONGEST_NAME }
+        requires number { number < WIDTH }
         ensures there { OnOk result (IsTrue (has_pair self.new first.now second.now number)) }
         ensures others { OnOk result ((a b : Bytes) (n : ℕ) → (a ≡ first.now → b ≡ second.now → n ≢ number) → has_pair self.new a b n ≡ has_pair self.old a b n) }
         ensures cause { IfErr result (λ refusal. refusal ≡ Refusal.Memory) }
     {
-        let (key, mut table) = match self.tables.remove_entry(first) {
-            Some(entry) => entry,
-            None => (
-                String::from_str(alloc, first)?,
-                BitTable::new(alloc, self.seed),
-            ),
-        };
-        table.put(alloc, second, number)?;
-        self.tables.insert(key, table)?;
+        let key = joined(first, second);
+        self.rows.put(alloc, key.as_str(), number)?;
         Ok(())
     }
 
@@ -79,12 +81,38 @@ impl PairTable {
         ensures others { OnOk result ((a b : Bytes) (n : ℕ) → (a ≡ first.now → b ≡ second.now → n ≢ number) → has_pair self.new a b n ≡ has_pair self.old a b n) }
         ensures cause { IfErr result (λ refusal. refusal ≡ Refusal.Memory) }
     {
-        if let Some((key, mut table)) = self.tables.remove_entry(first) {
-            table.take(second, number)?;
-            if !table.is_empty() {
-                self.tables.insert(key, table)?;
-            }
+        if !are_names(first, second) {
+            return Ok(());
         }
+        let key = joined(first, second);
+        self.rows.take(key.as_str(), number)?;
         Ok(())
     }
+
+    /// Gives back the memory that no row uses.
+    pub fn fit(&mut self)
+        ensures { (first second : Bytes) (n : ℕ) → has_pair self.new first second n ≡ has_pair self.old first second n }
+    {
+        self.rows.fit();
+    }
+}
+
+// Whether both texts are no longer than a name can be. There is no row for others.
+fn are_names(first: &str, second: &str) -> bool
+    ensures { result ≡ are_names first.now second.now }
+{
+    first.len() <= LONGEST_NAME && second.len() <= LONGEST_NAME
+}
+
+// The two names in one text, with the length of the first before them. No other two names have this text.
+fn joined(first: &str, second: &str) -> ArrayString<LONGEST_KEY>
+    requires first { length first.now ≤ LONGEST_NAME }
+    requires second { length second.now ≤ LONGEST_NAME }
+    ensures { result.bytes ≡ joined first.now second.now }
+{
+    let mut key = ArrayString::new();
+    key.push(char::from(first.len() as u8));
+    key.push_str(first);
+    key.push_str(second);
+    key
 }

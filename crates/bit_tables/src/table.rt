@@ -1,25 +1,29 @@
 //! Rows of bits by name.
-ghost use Rattle.std.specs.Prelude.{◌≡◌, ◌≢◌, ◌<◌, ℕ, IsTrue, false, None, OnOk, IfErr};
-ghost use Rattle.std.specs.Option.{option_copied};
+ghost use Rattle.std.specs.Prelude.{◌≡◌, ◌≢◌, ◌<◌, ℕ, IsTrue, false, Some, OnOk, IfErr, IfSome, IfNone, string_bytes};
+ghost use Rattle.std.specs.HashMap.{get_by_text};
+ghost use Rattle.std.specs.Map.{update};
+ghost use Rattle.std.specs.Str.{bytes_eq};
 ghost use Rattle.rbac_sets.specs.Sets.{Bytes};
-ghost use Rattle.bit_tables.specs.Tables.{has_at, row_at};
+ghost use Rattle.bit_rows.specs.Rows.{has};
+ghost use Rattle.bit_tables.specs.Tables.{has_at};
 
+use crate::numbers::Numbers;
 use crate::seed::Seed;
 use bit_rows::{BitRow, WIDTH};
 use rbac_sets::Refusal;
 use std::alloc::Global;
 use std::collections::HashMap;
 
-/// Rows of bits by name. A name whose row would be empty has none.
+/// Rows of bits by name. A name whose row would be empty has none. A row of few numbers takes little memory.
 #[derive(Drop)]
 pub struct BitTable {
-    rows: HashMap<String, BitRow, Seed>,
+    rows: HashMap<String, Numbers, Seed>,
 }
 
 impl BitTable {
     /// A table without rows. It doesn't allocate.
     pub fn new(alloc: Global, seed: Seed) -> BitTable
-        ensures { (name : Bytes) → row_at result name ≡ None }
+        ensures { (name : Bytes) (n : ℕ) → has_at result name n ≡ false }
     {
         BitTable {
             rows: HashMap::with_hasher(alloc, seed),
@@ -27,18 +31,14 @@ impl BitTable {
     }
 
     /// The row at the name, if there is one. It doesn't allocate.
-    pub fn row(&self, name: &str) -> Option<&BitRow>
-        ensures { option_copied result ≡ row_at self.now name.now }
+    pub fn row(&self, name: &str) -> Option<BitRow>
+        ensures some { IfSome result (λ row. (n : ℕ) → has row n ≡ has_at self.now name.now n) }
+        ensures none { IfNone result ((n : ℕ) → has_at self.now name.now n ≡ false) }
     {
-        self.rows.get(name)
-    }
-
-    /// Whether there is no row. It doesn't allocate.
-    pub fn is_empty(&self) -> bool
-        ensures empty { IsTrue result → (name : Bytes) → row_at self.now name ≡ None }
-        ensures some { result ≡ false → (name : Bytes) × (row_at self.now name ≢ None) }
-    {
-        self.rows.is_empty()
+        match self.rows.get(name) {
+            Some(numbers) => Some(numbers.row()),
+            None => None,
+        }
     }
 
     /// Puts the number into the row at the name.
@@ -52,12 +52,12 @@ impl BitTable {
         ensures others { OnOk result ((other : Bytes) (n : ℕ) → (other ≡ name.now → n ≢ number) → has_at self.new other n ≡ has_at self.old other n) }
         ensures cause { IfErr result (λ refusal. refusal ≡ Refusal.Memory) }
     {
-        let (key, mut row) = match self.rows.remove_entry(name) {
+        let (key, numbers) = match self.rows.remove_entry(name) {
             Some(entry) => entry,
-            None => (String::from_str(alloc, name)?, BitRow::empty()),
+            None => (String::from_str(alloc, name)?, Numbers::new()),
         };
-        row.put(number);
-        self.rows.insert(key, row)?;
+        let numbers = numbers.with(alloc, number)?;
+        self.put_back(key, numbers)?;
         Ok(())
     }
 
@@ -72,18 +72,27 @@ impl BitTable {
         ensures others { OnOk result ((other : Bytes) (n : ℕ) → (other ≡ name.now → n ≢ number) → has_at self.new other n ≡ has_at self.old other n) }
         ensures cause { IfErr result (λ refusal. refusal ≡ Refusal.Memory) }
     {
-        if let Some((key, mut row)) = self.rows.remove_entry(name) {
-            row.take(number);
-            if !row.is_empty() {
-                self.rows.insert(key, row)?;
+        if let Some((key, numbers)) = self.rows.remove_entry(name) {
+            let numbers = numbers.without(number);
+            if !numbers.is_empty() {
+                self.put_back(key, numbers)?;
             }
         }
         Ok(())
     }
 
+    // Puts back an entry that was taken out.
+    fn put_back(&mut self, key: String, numbers: Numbers) -> Result<(), Refusal>
+        ensures ok { OnOk result ((name : Bytes) → get_by_text self.new.rows name ≡ update bytes_eq (get_by_text self.old.rows) (string_bytes key) (Some numbers) name) }
+        ensures cause { IfErr result (λ refusal. refusal ≡ Refusal.Memory) }
+    {
+        self.rows.insert(key, numbers)?;
+        Ok(())
+    }
+
     /// Gives back the memory that no row uses.
     pub fn fit(&mut self)
-        ensures { (name : Bytes) → row_at self.new name ≡ row_at self.old name }
+        ensures { (name : Bytes) (n : ℕ) → has_at self.new name n ≡ has_at self.old name n }
     {
         self.rows.shrink_to_fit();
     }

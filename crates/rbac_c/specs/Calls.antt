@@ -8,17 +8,16 @@ use Rattle.rbac_sets.specs.declared.table.Table.{Table}
 use Rattle.rbac_sets.specs.declared.table.TheConstants.Table.{COUNT}
 use Rattle.admin_mgr.specs.RowChecks.{IsStateOf, RefusesRows}
 use Rattle.role_lines.specs.Decision.{Decides, DecidesUser, Refuses, RefusesUser}
-use Rattle.role_lines.specs.LineAnswer.{StopsAt}
-use Rattle.role_lines.specs.OfficeInMemory.{OfficeInMemory, after, starting, with_row, without_rows}
+use Rattle.role_lines.specs.OfficeInMemory.{StopsAt, OfficeInMemory, after, starting, with_row, without_rows}
 use Rattle.role_lines.specs.StoredRow.{HasNames, IsRowAt, Parts, names_in, row_with}
 use Rattle.rbac_c.specs.declared.calls.TheConstants.{DONE, BAD_NAME, MEMORY, CLOSED, SHORT, ABSENT}
 use Rattle.rbac_c.specs.declared.calls.RowLengths.{RowLengths}
 
--- a list of which these come first, and what was behind them stays
+-- a list of which these come first, and what was after them stays
 abbrev pub over : {A : Type 0} → List A → List A → List A
 over written before = written ++ drop (length written) before
 
--- the text is written to the beginning of the buffer, and what was behind it stays; or the text is longer than the buffer, which stays
+-- the text is written to the beginning of the buffer, and what was after it stays; or the text is longer than the buffer, which stays
 abbrev pub Writes : List ℕ → (before out : List ℕ) → ℕ → Type 0
 Writes text before out code = ((code ≡ DONE) × (out ≡ over text before)) ⊎ ((code ≡ SHORT) × ((out ≡ before) × (length out < length text)))
 
@@ -99,7 +98,7 @@ AreRowsAt is_at index (row ∷ rows) = is_at index (Some row) × AreRowsAt is_at
 abbrev pub IsPast : (is_at : ℕ → Option Parts → Type 0) → ℕ → Type 0
 IsPast is_at index = (2 ^ 64 ≤ index) ⊎ is_at index None
 
--- These rows, from this place on, are copied: their names, one after the other, and their lengths. What is behind them in both buffers
+-- These rows, from this place on, are copied: their names, one after the other, and their lengths. What is after them in both buffers
 -- stays. There is no further row, or no room for its names or for its lengths.
 pub record CopiesFrom (is_at : ℕ → Option Parts → Type 0) (index : ℕ) (before now : Buffers (List RowLengths)) (rows : List Parts) : Type 0 where
   pub are : AreRowsAt is_at index rows

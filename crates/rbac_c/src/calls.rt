@@ -1,4 +1,4 @@
-//! The functions that C calls. library/rbac.h says in words what each does. What stands in a buffer behind that which a call
+//! The functions that C calls. library/rbac.h says in words what each does. What stands in a buffer after that which a call
 //! writes stays, and so does all of it if the call is refused.
 ghost use base.Fml.{Lft, Share};
 ghost use types.Logic.{sem};

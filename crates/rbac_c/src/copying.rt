@@ -57,7 +57,7 @@ pub(crate) fn copy_rows(
     let mut at = 0;
     let mut count = 0;
     while count < lengths.len() {
-        let Some(row) = row_behind(rows, index, count) else {
+        let Some(row) = row_after(rows, index, count) else {
             break;
         };
         if !fits(&row, out.len() - at) {
@@ -70,8 +70,8 @@ pub(crate) fn copy_rows(
     count
 }
 
-// The row so many places behind this one.
-fn row_behind<'a>(rows: Rows<'a>, index: usize, count: usize) -> Option<RowParts<'a>>
+// The row so many places after this one.
+fn row_after<'a>(rows: Rows<'a>, index: usize, count: usize) -> Option<RowParts<'a>>
     ensures there { IfSome result (λ row. row_of rows.entry (index + count) (Some (parts_of row))) }
     ensures past { IfNone result (IsPast (row_of rows.entry) (index + count)) }
 {
@@ -137,7 +137,7 @@ fn fits(row: &RowParts<'_>, room: usize) -> bool
         && row.third.len() <= room - row.first.len() - row.second.len()
 }
 
-// Puts the names of a row into the buffer, one after the other, from this place on, and returns the place behind them.
+// Puts the names of a row into the buffer, one after the other, from this place on, and returns the place after them.
 fn put_row(row: &RowParts<'_>, out: &mut [u8], at: usize) -> usize
     requires { at + length (names_in (parts_of row.now)) ≤ length out.old }
     ensures end { result ≡ at + length (names_in (parts_of row.now)) }
@@ -149,7 +149,7 @@ fn put_row(row: &RowParts<'_>, out: &mut [u8], at: usize) -> usize
     put(row.third, out, third)
 }
 
-// Puts a text into the buffer, from this place on, and returns the place behind it.
+// Puts a text into the buffer, from this place on, and returns the place after it.
 fn put(text: &[u8], out: &mut [u8], at: usize) -> usize
     requires { at + length text.now ≤ length out.old }
     ensures end { result ≡ at + length text.now }

@@ -12,7 +12,8 @@ use Rattle.std.proofs.lemmas.List.{take-append-drop, take_more_set, take-set-le,
 use Rattle.std.proofs.lemmas.List.Folds.{list_any-append}
 use Rattle.std.proofs.lemmas.Map.Keys.{Less-from_sorted}
 use Rattle.rbac_sets.specs.Sets.{contains, remove, from_list}
-use Rattle.rbac_sets.specs.SetRemoval.{around, IsFirst, IsNotBelow, IsPassed}
+use Rattle.rbac_sets.specs.SetRemoval.{around}
+use Rattle.rbac_sets.specs.private.Gaps.{IsFirst, IsNotBelow, IsPassed}
 use Rattle.rbac_sets.proofs.SetLaws.{contains-from_list}
 use Rattle.rbac_sets.proofs.InOrder.{all_front, all_map, none_passes, less_of, sorted_without, sorted_back, from_list-without, remove_absent}
 

@@ -9,3 +9,4 @@ pub mod Sets
 pub mod SortedSet
 pub mod Stream
 pub mod Table
+pub mod private

@@ -1,23 +1,6 @@
 -- Lists with a gap of entries that were removed.
-use Rattle.std.specs.Prelude.{◌≡◌, ℕ, List, [], ◌∷◌, ◌++◌, take, drop}
-use Rattle.std.specs.List.{AllWithin}
-use Rattle.std.specs.declared.cmp.Ordering.{Ordering}
-use Rattle.std.specs.declared.cmp.Ordering.TheVariants.{Less, Equal}
+use Rattle.std.specs.Prelude.{ℕ, List, ◌++◌, take, drop}
 
--- the items before the gap and behind it
+-- the items before the gap and after it
 abbrev pub around : {K : Type 0} → ℕ → ℕ → List K → List K
 around start end items = take start items ++ drop end items
-
--- the first item of the list ties with x
-abbrev pub IsFirst : {K : Type 0} → (K → K → Ordering) → K → List K → Type 0
-IsFirst cmp x [] = ⊥
-IsFirst cmp x (y ∷ ys) = cmp y x ≡ Equal
-
--- the first item of the list, if there is one, isn't less than x
-abbrev pub IsNotBelow : {K : Type 0} → (K → K → Ordering) → K → List K → Type 0
-IsNotBelow cmp x [] = Unit {0}
-IsNotBelow cmp x (y ∷ ys) = cmp y x ≡ Less → ⊥
-
--- all items before the gap are less than x, and the first behind it, if there is one, isn't
-abbrev pub IsPassed : {K : Type 0} → (K → K → Ordering) → K → ℕ → ℕ → List K → Type 0
-IsPassed cmp x start end items = AllWithin (λ y. cmp y x ≡ Less) items 0 start × IsNotBelow cmp x (drop end items)

@@ -5,14 +5,15 @@ ghost use Rattle.std.specs.List.Sorted.{IsStrictlySortedBy};
 ghost use Rattle.std.specs.declared.cmp.Ordering.TheVariants.{Less};
 ghost use Rattle.rbac_sets.specs.Sets.{contains, remove};
 ghost use Rattle.rbac_sets.specs.SortedSet.{set_of};
-ghost use Rattle.rbac_sets.specs.SetRemoval.{around, IsPassed, IsFirst};
+ghost use Rattle.rbac_sets.specs.SetRemoval.{around};
+ghost use Rattle.rbac_sets.specs.private.Gaps.{IsPassed, IsFirst};
 
 use crate::sorted_set::{Entry, Probe, SortedSet};
 use std::marker::Model;
 
 /// A set from which entries are removed, one after another.
 ///
-/// If they are removed in their order, each remaining entry is moved at most once, and those behind
+/// If they are removed in their order, each remaining entry is moved at most once, and those after
 /// the last removed entry only at the end. `SortedSet::start_removal` starts the removal, and
 /// `into_set` returns the set. Nothing is allocated. In contracts the value is the remaining
 /// entries, in their order, and the room for more; `set_of` is the set of these entries.

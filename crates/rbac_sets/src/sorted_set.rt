@@ -328,7 +328,7 @@ fn count_first<K: Entry, P: Prefix<K>>(entries: &[K], prefix: P) -> usize
     near.partition_point(|entry| prefix.compare(entry).is_eq())
 }
 
-// A place behind all entries that begin with these parts, if they come first. It is found by doubling,
+// A place after all entries that begin with these parts, if they come first. It is found by doubling,
 // and is at most twice the place of the last of them, or is 1.
 fn bound_of_first<K: Entry, P: Prefix<K>>(entries: &[K], prefix: P) -> usize
     requires { IsPartitionedBy (λ entry. is_eq (P.place prefix entry)) entries.now }
@@ -342,7 +342,7 @@ fn bound_of_first<K: Entry, P: Prefix<K>>(entries: &[K], prefix: P) -> usize
     bound.min(entries.len())
 }
 
-// The entries of both, sorted, in the memory of the first. It is used as a ring: merged entries go behind the remaining ones.
+// The entries of both, sorted, in the memory of the first. It is used as a ring: merged entries go after the remaining ones.
 fn merge<K: Entry>(entries: Vec<K>, others: Vec<K>) -> Vec<K>
     requires sorted { IsStrictlySortedBy K.cmp entries.items }
     requires others_sorted { IsStrictlySortedBy K.cmp others.items }

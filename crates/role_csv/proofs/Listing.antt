@@ -6,7 +6,8 @@ use Rattle.rbac_sets.specs.declared.kind.Kind.TheVariants as kind
 use Rattle.rbac_sets.specs.declared.refusal.Refusal.{Refusal}
 use Rattle.rbac_sets.specs.declared.refusal.Refusal.TheVariants.{BadCsv, TooMany}
 use Rattle.role_csv.specs.Assignments.{assignments, is_header, judged, most_bytes, most_records, pair_of, pair_then, pairs_from, under_header}
-use Rattle.role_csv.specs.Records.{Fields, HasRead, TextReader, records_of}
+use Rattle.role_csv.specs.Records.{Fields, records_of}
+use Rattle.role_csv.specs.private.Reading.{HasRead, TextReader}
 use Rattle.role_csv.proofs.ReadRecords.{records-first}
 
 -- ---- the pairs of records

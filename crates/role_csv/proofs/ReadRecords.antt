@@ -11,7 +11,8 @@ use Rattle.csv.specs.declared.parser.State.TheVariants as state
 use Rattle.csv.specs.declared.reader.Trim.TheVariants as trim
 use Rattle.csv.proofs.ReadFacts.{rows-end, rows-more}
 use Rattle.rbac_sets.specs.Sets.{Bytes}
-use Rattle.role_csv.specs.Records.{Fields, HasRead, TextReader, records_of}
+use Rattle.role_csv.specs.Records.{Fields, records_of}
+use Rattle.role_csv.specs.private.Reading.{HasRead, TextReader}
 
 -- reading a record consumes a byte, or the text is at its end
 abbrev ConsumesByte : Bytes → Read → Type 0

@@ -3,7 +3,7 @@ ghost use Rattle.std.specs.Prelude.{◌≡◌, ◌≢◌, ◌∷◌, [], true, f
 ghost use Rattle.std.specs.Str.{is_utf8};
 ghost use Rattle.csv.specs.Reading.{is_flexible};
 ghost use Rattle.csv.specs.Records.{fields_of};
-ghost use Rattle.role_csv.specs.Records.{HasRead, HasReadAll, ReadsOneMore};
+ghost use Rattle.role_csv.specs.private.Reading.{HasRead, HasReadAll, ReadsOneMore};
 
 use csv::{ByteRecord, Reader, ReaderBuilder};
 use rbac_sets::Refusal;

@@ -3,7 +3,8 @@ ghost use Rattle.std.specs.Prelude.{◌≡◌, ◌⊎◌, ◌++◌, ◌≤◌, �
 ghost use Rattle.std.specs.Io.KnownBytes.{Appends};
 ghost use Rattle.csv.specs.Writing.{default_writer, fields_written, has_written, writer_setup};
 ghost use Rattle.rbac_sets.specs.Stream.{HasRisen};
-ghost use Rattle.role_csv.specs.Export.{export, exported, writer_bytes, line_of};
+ghost use Rattle.role_csv.specs.Export.{export, exported, line_of};
+ghost use Rattle.role_csv.specs.private.Reading.{writer_bytes};
 
 use admin_mgr::State;
 use csv::{Writer, WriterBuilder};

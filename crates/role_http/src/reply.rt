@@ -3,7 +3,7 @@ ghost use Rattle.std.specs.Prelude.{◌≡◌, ◌≤◌, ◌⊎◌, ◌++◌, L
 ghost use Rattle.std.specs.Io.KnownBytes.{Appends};
 ghost use Rattle.rbac_sets.specs.Stream.{HasRisen};
 ghost use Rattle.role_http.specs.ReplyBytes.{allow, phrase, pieces, reply_bytes};
-ghost use Rattle.role_http.specs.Pieces.{all_of, texts_of};
+ghost use Rattle.role_http.specs.private.PieceReferences.{all_of, texts_of};
 
 use http::StatusCode;
 use itoa::Buffer;

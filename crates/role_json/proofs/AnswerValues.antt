@@ -13,7 +13,8 @@ use Rattle.rbac_sets.specs.declared.refusal.Refusal.TheVariants.{Version}
 use Rattle.admin_mgr.specs.Assignment.{Tally}
 use Rattle.admin_mgr.specs.PlanEffect.{tally_of_report}
 use Rattle.review_mgr.specs.Answering.{AnswerContent, NamesContent, PermissionsContent, CountContent, AccessContent, answer_content}
-use Rattle.role_json.specs.Answer.{data_of, done_text, import_text, pair_data, pairs_of, record_data, records_of, refusal_data, refusal_text, report_data, text_of, texts_of, value_text, value_data, with_value}
+use Rattle.role_json.specs.Answer.{done_text, import_text, pair_data, pairs_of, record_data, records_of, refusal_data, refusal_text, report_data, text_of, texts_of, value_text, value_data, with_value}
+use Rattle.role_json.specs.private.AnswerData.{data_of}
 use Rattle.role_json.specs.declared.answer.Verdict.{Verdict}
 use Rattle.role_json.specs.declared.answer.Verdict.TheVariants as verdict
 

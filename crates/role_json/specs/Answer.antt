@@ -84,13 +84,6 @@ unfoldable pub refusal_data : Refusal → Data
 refusal_data refusal =
     object (with_part (part_of refusal) (member (codes "code") (number (unsigned (code_of refusal))) (member (codes "error") (string (name_of refusal)) no_members)))
 
--- the answer to a request
-unfoldable pub data_of : Verdict → Data
-data_of verdict.Done = done_data
-data_of (verdict.Imported report) = with_value (report_data (tally_of_report report))
-data_of (verdict.Answered answer) = with_value (value_data (answer_content answer))
-data_of (verdict.Refused refusal) = refusal_data refusal
-
 -- `{"ok":true}`
 unfoldable pub done_text : List ℕ
 done_text = compact_text done_data

@@ -5,3 +5,4 @@ pub mod Request
 pub mod RequestContent
 pub mod RequestLaws
 pub mod Steps
+pub mod private

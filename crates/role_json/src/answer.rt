@@ -4,7 +4,8 @@ ghost use Rattle.serde_json.specs.Data.{array};
 ghost use Rattle.serde_json.specs.View.{view};
 ghost use Rattle.admin_mgr.specs.PlanEffect.{tally_of_report};
 ghost use Rattle.review_mgr.specs.Answering.{answer_content};
-ghost use Rattle.role_json.specs.Answer.{data_of, pair_data, pairs_of, part_of, record_data, records_of, refusal_data, report_data, text_of, texts_of, value_data, with_value};
+ghost use Rattle.role_json.specs.Answer.{pair_data, pairs_of, part_of, record_data, records_of, refusal_data, report_data, text_of, texts_of, value_data, with_value};
+ghost use Rattle.role_json.specs.private.AnswerData.{data_of};
 
 use admin_mgr::Report;
 use rbac_sets::{Name, Refusal};
@@ -53,7 +54,7 @@ pub fn answer_text(alloc: Global, verdict: &Verdict) -> Result<String, Refusal>
 }
 
 // The JSON value of a verdict.
-#[tactic(auto, unfolding(crate::specs::Answer::data_of))]
+#[tactic(auto, unfolding(crate::specs::private::AnswerData::data_of))]
 fn verdict_value(alloc: Global, verdict: &Verdict) -> Result<Value, AllocError>
     ensures { IfOk result (λ value. view value ≡ data_of verdict.now) }
 {

@@ -19,7 +19,7 @@ use Rattle.review_mgr.specs.declared.query.Query.{Query}
 use Rattle.role_json.specs.Answer.{text_of, value_text}
 use Rattle.role_json.specs.Request.{request}
 use Rattle.role_json.specs.RequestContent.{RequestContent, Change, Ask}
-use Rattle.role_lines.specs.LineAnswer.{AnswersLine, AnswersRequest, RefusesRequest, HadNoMemory, DoesRequest, verdict_of_refusal}
+use Rattle.role_lines.specs.private.LineAnswer.{AnswersLine, AnswersRequest, RefusesRequest, HadNoMemory, DoesRequest, verdict_of_refusal}
 use Rattle.role_lines.specs.Outcome.{accepted_text, outcome_of, state_after, outcome_text, unless, answer_to, after_line}
 use Rattle.role_lines.specs.Revision.{next_revision, revision_after, revision_after_line}
 

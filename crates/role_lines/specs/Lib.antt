@@ -1,7 +1,7 @@
-pub mod LineAnswer
 pub mod Decision
 pub mod OfficeInMemory
 pub mod Outcome
 pub mod Revision
 pub mod RowParts
 pub mod StoredRow
+pub mod private

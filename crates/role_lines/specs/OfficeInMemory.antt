@@ -1,5 +1,5 @@
 -- An office in memory, as contracts see it.
-use Rattle.std.specs.Prelude.{refl, ℕ, List, [], ◌∷◌, ◌++◌}
+use Rattle.std.specs.Prelude.{◌≡◌, ◌⊎◌, refl, ℕ, List, [], ◌∷◌, ◌++◌}
 use Rattle.std.specs.Coded.{Coded, coded_ℕ, coded_list, coded×, code_by}
 use Rattle.rbac_sets.specs.contracts.row.Row.{the_row}
 use Rattle.rbac_sets.specs.declared.row.Row.{Row}
@@ -43,3 +43,7 @@ with_row office row = record { facts = office.facts; revision = office.revision;
 
 abbrev pub without_rows : OfficeInMemory → OfficeInMemory
 without_rows office = record { facts = office.facts; revision = office.revision; kept = office.kept; rows = [] }
+
+-- an allocation failed: what the line asks for was done, or nothing was. In both cases the office keeps no answer.
+abbrev pub StopsAt : OfficeInMemory → List ℕ → OfficeInMemory → Type 0
+StopsAt old line new = (new ≡ without_answer old) ⊎ (new ≡ without_answer (after old line))

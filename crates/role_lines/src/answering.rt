@@ -4,7 +4,7 @@ ghost use Rattle.rbac_sets.specs.CommandContent.{content_of};
 ghost use Rattle.admin_mgr.specs.PlanEffect.{tally_of_report};
 ghost use Rattle.role_json.specs.Answer.{text_of};
 ghost use Rattle.role_json.specs.RequestContent.{requested, Ask, Change};
-ghost use Rattle.role_lines.specs.LineAnswer.{AnswersLine, AnswersRequest, RefusesRequest, HadNoMemory, DoesRequest, verdict_of_refusal};
+ghost use Rattle.role_lines.specs.private.LineAnswer.{AnswersLine, AnswersRequest, RefusesRequest, HadNoMemory, DoesRequest, verdict_of_refusal};
 ghost use Rattle.role_lines.specs.Outcome.{accepted_text};
 ghost use Rattle.role_lines.specs.Revision.{next_revision};
 

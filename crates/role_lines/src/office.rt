@@ -3,8 +3,7 @@ ghost use Rattle.std.specs.Prelude.{◌≡◌, IfOk, IfErr, OnOk};
 ghost use Rattle.admin_mgr.specs.RbacState.{empty_state};
 ghost use Rattle.admin_mgr.specs.RowChecks.{IsStateOf, RefusesRows};
 ghost use Rattle.role_lines.specs.Decision.{Decides, DecidesUser, Refuses, RefusesUser};
-ghost use Rattle.role_lines.specs.LineAnswer.{StopsAt};
-ghost use Rattle.role_lines.specs.OfficeInMemory.{after, starting, with_row, without_rows};
+ghost use Rattle.role_lines.specs.OfficeInMemory.{StopsAt, after, starting, with_row, without_rows};
 
 use crate::answering::line_verdict;
 use crate::indexed::IndexedState;

@@ -1,9 +1,8 @@
 -- Durability: whether a connection holds a state, and what a crash leaves.
-use Rattle.std.specs.Prelude.{◌≡◌, ◌⊎◌, false, IsTrue, List, Result, OnOk, OnErr}
+use Rattle.std.specs.Prelude.{◌≡◌, ◌⊎◌, false, IsTrue, List}
 use Rattle.sqlite.specs.Tree.{Trees}
 use Rattle.sqlite.specs.Effect.{Database, IsDatabase}
 use Rattle.sqlite.specs.State.{State, HasCleanDisk}
-use Rattle.sqlite.specs.declared.error.Error.{Error}
 use Rattle.admin_mgr.specs.RbacState.{RbacState}
 use Rattle.admin_mgr.specs.Good.{IsGood}
 use Rattle.admin_mgr.specs.OfficeRun.{Event, Leaves}
@@ -68,14 +67,3 @@ LeavesBeforeOr old new S = (trees : Trees) → new.may_leave trees → old.may_l
 -- a crash leaves a state that these events allow from S on
 abbrev pub LeavesByEvents : State → RbacState → List Event → Type 0
 LeavesByEvents s S events = (trees : Trees) → s.may_leave trees → (T : RbacState) × Leaves S events T × LeavesState T trees
-
--- A transaction that was to lead to such a database: if it was committed, such a database is durable; otherwise the connection
--- holds what it held before. A crash leaves what it could leave before, or such a database.
-pub record Transacts (old new : State) (Is : Database → Type 0) (result : Result (Unit {0}) Error) : Type 0 where
-  pub done : OnOk result (HoldsDurably new Is)
-  pub undone : OnErr result (HoldsAsBefore old new)
-  pub left : (trees : Trees) → new.may_leave trees → old.may_leave trees ⊎ LeavesSuch Is trees
-
--- a transaction that was to lead to the state
-abbrev pub TransactsTo : State → State → RbacState → Result (Unit {0}) Error → Type 0
-TransactsTo old new S result = Transacts old new (λ db. HoldsState db S) result

@@ -1,40 +1,27 @@
 -- How an office of version 1 is migrated to version 2.
-use Rattle.std.specs.Prelude.{ℕ, ◌≡◌, ◌≢◌, ◌⊎◌, ◌&&◌, pos, true, Bool, codes, IsTrue, Result}
+use Rattle.std.specs.Prelude.{◌≡◌, ◌≢◌, ◌⊎◌, ◌&&◌, pos, Bool, codes, IsTrue}
 use Rattle.rbac_sets.specs.declared.refusal.Refusal.{Refusal}
 use Rattle.rbac_sets.specs.declared.refusal.Refusal.TheVariants.{Memory, Store, Version}
-use Rattle.admin_mgr.specs.Good.{IsGood}
 use Rattle.admin_mgr.specs.OfficeRun.{migrated_to_version_2}
 use Rattle.admin_mgr.specs.RbacState.{RbacState}
 use Rattle.sqlite.specs.Effect.{Database}
 use Rattle.sqlite.specs.State.{State}
 use Rattle.sqlite.specs.Tree.{Trees}
-use Rattle.sqlite.specs.declared.error.Error.{Error}
 use Rattle.sqlite.specs.Schema.{Schema}
 use Rattle.role_tables.specs.TableContents.{TableContents, contents_of}
 use Rattle.role_tables.specs.OpeningChecks.{IsOfVersion2, IsStateOfContents, RefusesContents}
-use Rattle.role_tables.specs.Durability.{HoldsAsBefore, LeavesOnly, LeavesState, IsDurable, TransactsTo, WhateverIsDurable}
-use Rattle.role_tables.specs.TableByName.{without_row}
-use Rattle.role_tables.specs.OfficeTables.{StoredTable, Meta, Rows, changed_at, meta_row, cells, HoldsTables}
+use Rattle.role_tables.specs.Durability.{HoldsAsBefore, LeavesOnly, LeavesState, IsDurable, WhateverIsDurable}
 use Rattle.role_tables.specs.SchemaTests.{is_free, may_count}
 
 -- the table of locks can be created
 abbrev pub may_lock : Schema → Bool
 may_lock schema = is_free schema (codes "locked_row") && may_count schema
 
--- inside a transaction, the row of the version is deleted
-pub record DeletesVersion (version : ℕ) (old new : State) : Type 0 where
-  pub taken : (want : StoredTable → Bool) (rows : Rows) → IsTrue (want Meta) → HoldsTables want old.now rows → HoldsTables want new.now (changed_at Meta (without_row (cells (meta_row (codes "rbac") version))) rows)
-  pub mode : new.in_transaction ≡ old.in_transaction
-
 -- How a migration may be refused: by 51 Version if an office of version 2 is there, and otherwise as an opening may be. Besides,
 -- 41 Store comes if the store fails in a call or the table of locks can't be created, and an allocation may fail at any time.
 abbrev pub RefusesMigration : TableContents → Refusal → Type 0
 RefusesMigration found refusal =
     (refusal ≡ Store) ⊎ ((refusal ≡ Memory) ⊎ (((refusal ≡ Version (pos 2)) × IsOfVersion2 found) ⊎ (RefusesContents found refusal × (IsOfVersion2 found → ⊥))))
-
--- the durable state of version 1 was to be migrated to version 2, in one transaction
-abbrev pub MigratesTables : State → State → Result (Unit {0}) Error → Type 0
-MigratesTables old new result = (from : RbacState) → from.version ≡ 1 → IsGood from → may_lock old.now.schema ≡ true → IsDurable old from → TransactsTo old new (migrated_to_version_2 from) result
 
 -- the table of locks could be created, a state of version 1 was read, and `made` is this state in version 2
 abbrev pub IsMigratedFrom : Database → RbacState → Type 0

@@ -1,5 +1,5 @@
 -- The six tables of an office, which are looked up by their names.
-use Rattle.std.specs.Prelude.{true, not, nat_eq, IsTrue, ℕ, ◌+◌, ◌==◌, if◌then◌else◌, Bool, List, [], ◌∷◌, codes, pos}
+use Rattle.std.specs.Prelude.{true, not, nat_eq, IsTrue, ℕ, ◌+◌, if◌then◌else◌, Bool, List, [], ◌∷◌, codes, pos}
 use Rattle.sqlite.specs.declared.types.Value.TheVariants.{Int, Text as Words}
 use Rattle.sqlite.specs.Collation.TheVariants.{Binary}
 use Rattle.sqlite.specs.Order.{Row}
@@ -81,10 +81,6 @@ code Pairs = 2
 code Grants = 3
 code Sets = 4
 code Locks = 5
-
--- the rows, with those of one table changed so
-abbrev pub changed_at : StoredTable → (List Row → List Row) → Rows → Rows
-changed_at kind change rows other = if code other == code kind then change (rows other) else rows other
 
 -- an office of this version has the table
 abbrev pub is_wanted : ℕ → StoredTable → Bool

@@ -136,10 +136,6 @@ pub record IsStateOfContents (found : TableContents) (S : RbacState) : Type 0 wh
 abbrev pub ReadsState : State → State → RbacState → Type 0
 ReadsState old new S = IsStateOfContents (contents_of old.now) S × IsUnchanged old new
 
--- an allocation failed, or the store did, or one of the five tables is missing
-abbrev pub RefusesMetas : TableContents → Refusal → Type 0
-RefusesMetas found refusal = (refusal ≡ Memory) ⊎ ((refusal ≡ Store) ⊎ ((refusal ≡ NotAnOffice) × (HasCommonTables found → ⊥)))
-
 -- an allocation failed, or the store did
 abbrev pub IsMemoryOrStore : Refusal → Type 0
 IsMemoryOrStore refusal = (refusal ≡ Memory) ⊎ (refusal ≡ Store)

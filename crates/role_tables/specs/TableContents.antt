@@ -1,12 +1,10 @@
 -- What a database has of an office, by the names of tables and columns, however the tables were created; and the first two of
 -- the checks that it has to pass.
-use Rattle.std.specs.Prelude.{ℕ, ◌≡◌, ◌⊎◌, ◌&&◌, ◌^◌, pos, nat_le, nat_lt, Bool, true, false, List, [], ◌∷◌, map, slice_get, Option, Some, IsSome, IsTrue}
+use Rattle.std.specs.Prelude.{ℕ, ◌&&◌, ◌^◌, pos, nat_le, nat_lt, Bool, true, false, List, [], ◌∷◌, map, slice_get, Option, Some}
 use Rattle.std.specs.Option.{option_and_then, option_map}
 use Rattle.rbac_sets.specs.Name.{is_name}
 use Rattle.rbac_sets.specs.declared.row.Row.{Row}
 use Rattle.rbac_sets.specs.declared.row.Row.TheVariants.{NameRow, PairRow, GrantRow, SetRow, LockedRow}
-use Rattle.rbac_sets.specs.declared.refusal.Refusal.{Refusal}
-use Rattle.rbac_sets.specs.declared.refusal.Refusal.TheVariants.{Memory, Damaged}
 use Rattle.sqlite.specs.declared.types.Value.{Value}
 use Rattle.sqlite.specs.declared.types.Value.TheVariants.{Int, Text}
 use Rattle.sqlite.specs.Order as sql
@@ -14,7 +12,6 @@ use Rattle.sqlite.specs.Order.{column}
 use Rattle.sqlite.specs.Schema.{Schema}
 use Rattle.sqlite.specs.Table.{Table}
 use Rattle.sqlite.specs.Effect.{Database}
-use Rattle.sqlite.specs.State.{State}
 use Rattle.sqlite_schema.specs.Names.{table_named, column_named}
 use Rattle.role_tables.specs.TableByName.{Place, names_of, cells_at}
 use Rattle.role_tables.specs.OfficeTables.{StoredTable, Meta, Names, Pairs, Grants, Sets, Locks, making, places}
@@ -34,10 +31,6 @@ find_table schema name = option_and_then (slice_get schema.tables) (table_named 
 -- the values in the columns of this kind of table, row by row, if the table and the columns are there
 abbrev pub contents_of : Database → StoredTable → Option (List sql.Row)
 contents_of db kind = option_and_then (λ table. option_map (λ found. map (cells_at table found) (db.trees table.tree)) (find_places table (names_of (places kind)))) (find_table db.schema (making kind).name)
-
--- a table of the kind is there with its columns
-abbrev pub HasTable : State → StoredTable → Type 0
-HasTable s kind = IsSome (contents_of s.now kind)
 
 -- what a database has of each kind of table, if it is there: the values of its rows
 abbrev pub TableContents : Type 0
@@ -99,9 +92,3 @@ row_in Pairs v = PairRow (number_of (column v 0)) (text_of (column v 1)) (text_o
 row_in Grants v = GrantRow (text_of (column v 0)) (text_of (column v 1)) (text_of (column v 2))
 row_in Sets v = SetRow (number_of (column v 0)) (text_of (column v 1)) (number_of (column v 2))
 row_in Locks v = LockedRow (text_of (column v 0))
-
--- how one row may be refused; a text that isn't UTF-8 is no valid name
-abbrev pub RefusesRow : StoredTable → sql.Row → Refusal → Type 0
-RefusesRow kind v Memory = Unit {0}
-RefusesRow kind v (Damaged check) = ((check ≡ 1) × (is_well_typed kind v ≡ false)) ⊎ ((check ≡ 2) × IsTrue (is_well_typed kind v) × (has_names kind v ≡ false))
-RefusesRow kind v _ = ⊥

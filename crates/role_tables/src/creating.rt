@@ -3,9 +3,11 @@ ghost use Rattle.std.specs.Prelude.{◌≡◌, ◌⊎◌, ◌&&◌, [], false, t
 ghost use Rattle.admin_mgr.specs.RbacState.{empty_state};
 ghost use Rattle.sqlite.specs.State.{HasCleanDisk, KeepsCommit, Survives};
 ghost use Rattle.sqlite.specs.Held.{state};
-ghost use Rattle.role_tables.specs.Creation.{IsFirstStage, CreatesOffice, MayCreate, StageAfter};
+ghost use Rattle.role_tables.specs.Creation.{CreatesOffice, MayCreate};
+ghost use Rattle.role_tables.specs.private.CreationSteps.{IsFirstStage, StageAfter};
 ghost use Rattle.role_tables.specs.Runs.{IsInRun};
-ghost use Rattle.role_tables.specs.Durability.{ForgetsNoFault, HoldsAsBefore, LeavesBeforeOr, StaysOutside, TransactsTo};
+ghost use Rattle.role_tables.specs.Durability.{ForgetsNoFault, HoldsAsBefore, LeavesBeforeOr, StaysOutside};
+ghost use Rattle.role_tables.specs.private.Transactions.{TransactsTo};
 
 use crate::office::Office;
 use crate::opening::Unopened;

@@ -3,7 +3,8 @@ ghost use Rattle.std.specs.Prelude.{◌≡◌, ◌⊎◌, ◌∷◌, [], false, 
 ghost use Rattle.sqlite.specs.State.{HasCleanDisk, KeepsCommit, Survives};
 ghost use Rattle.sqlite.specs.Held.{state};
 ghost use Rattle.role_tables.specs.private.Texts.{read_text};
-ghost use Rattle.role_tables.specs.TableContents.{is_well_typed, has_names, row_in, RefusesRow, HasTable};
+ghost use Rattle.role_tables.specs.TableContents.{is_well_typed, has_names, row_in};
+ghost use Rattle.role_tables.specs.private.NamedTables.{RefusesRow, HasTable};
 ghost use Rattle.role_tables.specs.private.GatheredRows.{IsOfRows, Gathers, ReadsTable};
 ghost use Rattle.role_tables.specs.OpeningChecks.{IsMemoryOrStore};
 

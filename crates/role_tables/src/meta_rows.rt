@@ -4,7 +4,8 @@ ghost use Rattle.sqlite_value.specs.Order.{column};
 ghost use Rattle.sqlite.specs.State.{HasCleanDisk, KeepsCommit, Survives};
 ghost use Rattle.sqlite.specs.Held.{state};
 ghost use Rattle.role_tables.specs.OfficeTables.{Meta};
-ghost use Rattle.role_tables.specs.TableContents.{is_well_typed, is_whole_number, HasTable};
+ghost use Rattle.role_tables.specs.TableContents.{is_well_typed, is_whole_number};
+ghost use Rattle.role_tables.specs.private.NamedTables.{HasTable};
 ghost use Rattle.role_tables.specs.OpeningChecks.{is_tagged, version_at, is_known_version, IsMemoryOrStore};
 ghost use Rattle.role_tables.specs.private.MetaRows.{lesser, SeesMore, SeesMetas};
 

@@ -3,7 +3,8 @@ ghost use Rattle.std.specs.Prelude.{◌≡◌, ◌&&◌, not, codes, is_some, op
 ghost use Rattle.std.specs.List.{list_any, list_all};
 ghost use Rattle.sqlite_schema.specs.Names.{same_name, table_named, column_named};
 ghost use Rattle.role_tables.specs.TableContents.{find_table};
-ghost use Rattle.role_tables.specs.SchemaTests.{is_free, are_free, may_create, may_count, has_all, is_there, are_there};
+ghost use Rattle.role_tables.specs.SchemaTests.{is_free, are_free, may_create, may_count};
+ghost use Rattle.role_tables.specs.private.NamedTables.{has_all, is_there, are_there};
 ghost use Rattle.role_tables.specs.Migration.{may_lock};
 ghost use Rattle.role_tables.specs.OfficeTables.{places};
 ghost use Rattle.role_tables.specs.TableByName.{names_of, refers_to, is_referred};

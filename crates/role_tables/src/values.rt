@@ -3,7 +3,8 @@ ghost use Rattle.std.specs.Prelude.{◌≡◌, ◌⊎◌, ◌≤◌, IfSome, IfN
 ghost use Rattle.sqlite_value.specs.Order.{column};
 ghost use Rattle.sqlite.specs.declared.types.Value.TheVariants.{Int, Text};
 ghost use Rattle.rbac_sets.specs.Name.{is_name};
-ghost use Rattle.role_tables.specs.TableContents.{is_text, is_kind, is_count, is_well_typed, has_names, row_in, text_of, RefusesRow};
+ghost use Rattle.role_tables.specs.TableContents.{is_text, is_kind, is_count, is_well_typed, has_names, row_in, text_of};
+ghost use Rattle.role_tables.specs.private.NamedTables.{RefusesRow};
 ghost use Rattle.role_tables.specs.OfficeTables.{Names, Pairs, Grants, Sets, Locks};
 
 use rbac_sets::{Name, Refusal, Row};

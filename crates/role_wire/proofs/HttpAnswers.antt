@@ -11,7 +11,8 @@ use Rattle.role_tables.specs.Office.{OfficeModel}
 use Rattle.role_wire.specs.Continuation.{ReachesState}
 use Rattle.role_wire.specs.private.PreparedReply.{AnswersBody, IsReadAs, IsRefusal, ReportsRefusal, is_fixed}
 use Rattle.role_wire.specs.Outcome.{outcome_of, state_after}
-use Rattle.role_wire.specs.OfficeRequest.{IsImport, IsQuestion, DoesRequest, RefusesRequest}
+use Rattle.role_wire.specs.OfficeRequest.{IsImport, DoesRequest, RefusesRequest}
+use Rattle.role_wire.specs.private.RequestAnswer.{IsQuestion}
 use Rattle.role_wire.specs.Reply.{reply_of}
 use Rattle.role_wire.specs.ServedRequest.{IsThisReply, IsAnsweredInstead, IsImported, StaysClosed}
 use Rattle.role_wire.specs.declared.prepared_reply.PreparedReply.{PreparedReply}

@@ -24,9 +24,11 @@ use Rattle.role_json.specs.declared.answer.Verdict.{Verdict}
 use Rattle.role_json.specs.declared.answer.Verdict.TheVariants.{Done}
 use Rattle.role_tables.specs.Office.{OfficeModel}
 use Rattle.role_wire.specs.Continuation.{ReachesState}
-use Rattle.role_wire.specs.LineAnswer.{AnswersLine, FailsLine, FailsRequest, verdict_of_refusal, unread_verdict}
+use Rattle.role_wire.specs.LineAnswer.{AnswersLine, FailsLine}
+use Rattle.role_wire.specs.private.RequestAnswer.{FailsRequest, verdict_of_refusal, unread_verdict}
 use Rattle.role_wire.specs.Outcome.{outcome_of, state_after, outcome_text, unless, answer_to, after_line}
-use Rattle.role_wire.specs.OfficeRequest.{RefusesRequest, IsAccepted, IsImport, IsQuestion, DoesRequest}
+use Rattle.role_wire.specs.OfficeRequest.{RefusesRequest, IsAccepted, IsImport, DoesRequest}
+use Rattle.role_wire.specs.private.RequestAnswer.{IsQuestion}
 use Rattle.role_wire.specs.declared.lines.Unanswered.{Unanswered}
 use Rattle.role_wire.specs.declared.lines.Unanswered.TheVariants as unanswered
 use Rattle.role_wire.proofs.Performed.{same_state, stays}

@@ -8,9 +8,8 @@ use Rattle.rbac_sets.specs.declared.refusal.Refusal.{Refusal}
 use Rattle.rbac_sets.specs.declared.refusal.Refusal.TheVariants.{Memory, Store, Closed}
 use Rattle.admin_mgr.specs.CommandContent.{content_verdict}
 use Rattle.admin_mgr.specs.RbacState.{RbacState}
-use Rattle.review_mgr.specs.declared.query.Query.{Query}
 use Rattle.role_json.specs.Request.{request}
-use Rattle.role_json.specs.RequestContent.{RequestContent, Change, Ask}
+use Rattle.role_json.specs.RequestContent.{RequestContent, Change}
 use Rattle.role_tables.specs.Office.{OfficeModel}
 use Rattle.role_wire.specs.Continuation.{StoreFails, ReachesState}
 use Rattle.role_wire.specs.Outcome.{outcome_of, state_after}
@@ -18,9 +17,6 @@ use Rattle.role_wire.specs.Outcome.{outcome_of, state_after}
 -- it is an import, or a question
 abbrev pub IsImport : RequestContent → Type 0
 IsImport requested = (pairs : List Pair) × (requested ≡ Change (Import pairs))
-
-abbrev pub IsQuestion : RequestContent → Type 0
-IsQuestion requested = (query : Query) × (requested ≡ Ask query)
 
 -- the request is a command that is accepted in this state
 abbrev pub IsAccepted : RbacState → RequestContent → Type 0

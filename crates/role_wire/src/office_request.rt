@@ -6,7 +6,8 @@ ghost use Rattle.role_json.specs.Answer.{text_of};
 ghost use Rattle.role_json.specs.RequestContent.{requested, Change, Ask};
 ghost use Rattle.admin_mgr.specs.PlanEffect.{tally_of_report};
 ghost use Rattle.role_wire.specs.Outcome.{accepted_text};
-ghost use Rattle.role_wire.specs.OfficeRequest.{RefusesRequest, IsImport, IsQuestion, DoesRequest};
+ghost use Rattle.role_wire.specs.OfficeRequest.{RefusesRequest, IsImport, DoesRequest};
+ghost use Rattle.role_wire.specs.private.RequestAnswer.{IsQuestion};
 
 use admin_mgr::Report;
 use rbac_sets::{Command, Refusal};

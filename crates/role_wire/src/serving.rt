@@ -10,7 +10,8 @@ ghost use Rattle.role_http.specs.HeadAnswer.{with_left};
 ghost use Rattle.role_http.specs.ReplyBytes.{reply_bytes};
 ghost use Rattle.role_http.specs.Route.{routes};
 ghost use Rattle.role_wire.specs.private.PreparedReply.{AnswersBody, IsReadAs, IsRefusal, IsReplied};
-ghost use Rattle.role_wire.specs.OfficeRequest.{IsImport, IsQuestion};
+ghost use Rattle.role_wire.specs.OfficeRequest.{IsImport};
+ghost use Rattle.role_wire.specs.private.RequestAnswer.{IsQuestion};
 ghost use Rattle.role_wire.specs.Reply.{Asks, SaysIfWhole, TakesNoFurther, called_for};
 ghost use Rattle.role_wire.specs.ServedRequest.{IsImported, LeavesUnanswered, ServesRequest, StopsRequest, AnswersBytes};
 

@@ -133,7 +133,7 @@ func (s *clusterSettings) adoptInto(ctx context.Context, shared *ledger.Ledger, 
 	if err != nil {
 		return err
 	}
-	fmt.Printf("snapshot %d has the digest %s\n", snapshot.Revision, snapshot.Digest)
+	fmt.Fprintf(stdout, "snapshot %d has the digest %s\n", snapshot.Revision, snapshot.Digest)
 	return nil
 }
 

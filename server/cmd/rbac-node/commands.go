@@ -56,10 +56,10 @@ func run(words []string) error {
 	}
 	switch words[0] {
 	case "--version", "-version", "version":
-		fmt.Print(versionText())
+		fmt.Fprint(stdout, versionText())
 		return nil
 	case "--help", "-help", "-h", "help":
-		fmt.Print(helpText(""))
+		fmt.Fprint(stdout, helpText(""))
 		return nil
 	}
 	c, rest := find(words)
@@ -71,7 +71,7 @@ func run(words []string) error {
 	do := c.prepare(flags)
 	err := flags.Parse(rest)
 	if errors.Is(err, flag.ErrHelp) {
-		fmt.Print(c.help(flags))
+		fmt.Fprint(stdout, c.help(flags))
 		return nil
 	}
 	// What is made is for the user of the program alone.
@@ -91,7 +91,7 @@ func run(words []string) error {
 func unknown(words []string) error {
 	listed := helpText(words[0] + " ")
 	if listed != "" && len(words) > 1 && (words[1] == "--help" || words[1] == "-h") {
-		fmt.Print(listed)
+		fmt.Fprint(stdout, listed)
 		return nil
 	}
 	name := words[0]

@@ -26,6 +26,9 @@ func main() {
 		debug.SetMemoryLimit(mostMemory)
 	}
 	err := run(os.Args[1:])
+	if err == nil {
+		err = stdout.err
+	}
 	if err != nil {
 		fmt.Fprintln(os.Stderr, "rbac-node:", err)
 		status := statusError{1, nil}

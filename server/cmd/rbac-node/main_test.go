@@ -78,6 +78,35 @@ func TestUsage(t *testing.T) {
 	}
 }
 
+// An origin that no browser sends is refused, and so is null, which any site can make a browser send.
+func TestOrigins(t *testing.T) {
+	s := &settings{}
+	for text, isRight := range map[string]bool{
+		"": true, "https://a.example": true, "http://localhost:8080,https://[::1]:1": true, "chrome-extension://abc": true,
+		"null": false, "*": false, "https://*.example": false, "https://a.example/": false, "https://A.example": false,
+		"https://a.example, https://b.example": false, "https://a.example,null": false, "a.example": false, "https://": false,
+	} {
+		s.origins, s.front.PublicURL = text, ""
+		if err := s.checkURLs(); (err == nil) != isRight {
+			t.Errorf("origin %q: %v", text, err)
+		}
+	}
+	for text, isRight := range map[string]bool{
+		"https://a.example": true, "https://a.example/": true, "http://a/b/c": true,
+		"javascript:x": false, "https://a?b": false, "a.example": false, "https://": false,
+	} {
+		s.origins, s.front.PublicURL = "", text
+		if err := s.checkURLs(); (err == nil) != isRight {
+			t.Errorf("URL %q: %v", text, err)
+		}
+	}
+	for _, words := range [][]string{{"serve", "--office", "none", "--origin", "null"}, {"serve", "--office", "none", "--public-url", "x"}} {
+		if err := run(words); err == nil || !strings.Contains(err.Error(), words[3]+": ") {
+			t.Errorf("%v: %v", words, err)
+		}
+	}
+}
+
 // The process reports to systemd that it is ready, and then again and again that it is alive, but only while it is.
 func TestWatchdog(t *testing.T) {
 	path := filepath.Join(t.TempDir(), "notify")

@@ -54,7 +54,7 @@ func recordCommands() (all []command) {
 
 // prepareRecord defines the flags of a command about a record, and returns what does it.
 func prepareRecord(flags *flag.FlagSet, name string) func([]string) error {
-	c := &recordCommand{format: record.Text, Tool: record.Tool{Out: os.Stdout, Err: os.Stderr, Log: logs.New(os.Stderr)}}
+	c := &recordCommand{format: record.Text, Tool: record.Tool{Out: stdout, Err: os.Stderr, Log: logs.New(os.Stderr)}}
 	c.define(flags, name)
 	count := 0
 	if name == "backup" {

@@ -46,7 +46,7 @@ func (c *restoreCommand) restore(ctx context.Context) error {
 	if c.Office == "" {
 		return errors.New("give --office the file of the office")
 	}
-	c.Out = os.Stdout
+	c.Out = stdout
 	reason := fmt.Sprintf("restore of %s: %s", filepath.Base(c.Backup), c.reason)
 	if c.reason == "" {
 		reason = ""

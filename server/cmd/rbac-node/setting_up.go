@@ -3,7 +3,6 @@ package main
 import (
 	"flag"
 	"fmt"
-	"os"
 	"strings"
 
 	"rbac-node/internal/front"
@@ -45,5 +44,5 @@ func setUp(o setup.Options) error {
 			return fmt.Errorf("%s can be reached by other machines: give --dns with the names by which they find this one", address)
 		}
 	}
-	return setup.Run(o, os.Stdout)
+	return setup.Run(o, stdout)
 }

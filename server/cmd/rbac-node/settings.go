@@ -7,6 +7,7 @@ import (
 	"fmt"
 	"os"
 	"path/filepath"
+	"regexp"
 	"strings"
 	"time"
 
@@ -83,7 +84,7 @@ func (s *settings) check() error {
 	case s.sessionIdle > 0 && s.cluster.isChosen():
 		return errors.New("--session-idle is for one machine: a node doesn't know which sessions are used at others")
 	case s.record.every < 1 || s.record.verifyEvery < 0:
-		return errors.New("--record-base must be at least 1")
+		return errors.New("--record-base must be at least 1, and --record-verify not below zero")
 	case web.MaxConnections() < 1:
 		return fmt.Errorf("the limit of open files is too low for any connection: raise it by %d or more (ulimit -n, or LimitNOFILE= of systemd)",
 			1-web.MaxConnections())
@@ -99,6 +100,26 @@ func (s *settings) check() error {
 		return errors.New("--tokens and --oidc-keys need --callers")
 	case s.front.TLS.CA != "" && s.front.TLS.Cert == "":
 		return errors.New("--tls-ca needs --tls-cert")
+	}
+	return s.checkURLs()
+}
+
+var (
+	// anOrigin is one as a browser sends it. Not null: any site can make a browser send that.
+	anOrigin   = regexp.MustCompile(`^[a-z][a-z0-9+.-]*://[^/?#\s*A-Z]+$`)
+	aPublicURL = regexp.MustCompile(`^https?://[^/?#\s]+(/[^?#\s]*)?$`)
+)
+
+func (s *settings) checkURLs() error {
+	if s.origins != "" {
+		for _, one := range strings.Split(s.origins, ",") {
+			if !anOrigin.MatchString(one) {
+				return fmt.Errorf("--origin: %q is no origin as a browser sends it, such as https://admin.example", one)
+			}
+		}
+	}
+	if s.front.PublicURL != "" && !aPublicURL.MatchString(s.front.PublicURL) {
+		return fmt.Errorf("--public-url: %q is not http:// or https:// with a host, and without a query", s.front.PublicURL)
 	}
 	return nil
 }
@@ -129,7 +150,7 @@ func (s *settings) checkCallers(ctx context.Context) error {
 
 // printGrants prints who may do what by a file of callers.
 func (s *settings) printGrants(ctx context.Context) error {
-	return front.Grants(ctx, s.frontOptions(nil, logs.New(os.Stderr), prometheus.NewRegistry()).Callers)
+	return front.Grants(ctx, stdout, s.frontOptions(nil, logs.New(os.Stderr), prometheus.NewRegistry()).Callers)
 }
 
 // socketOf returns where the front of an office listens if nothing else is said: in the folder that systemd has made for it, or

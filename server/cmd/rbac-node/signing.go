@@ -31,7 +31,7 @@ type signCommand struct {
 
 // prepareSign defines the flags of `record sign`, and returns what signs the head of a record that a front on another machine keeps.
 func prepareSign(flags *flag.FlagSet) func([]string) error {
-	c := &signCommand{Signer: record.Signer{Out: os.Stdout}}
+	c := &signCommand{Signer: record.Signer{Out: stdout}}
 	flags.StringVar(&c.URL, "url", "", "`URL` of the front, such as https://office.example:8443")
 	flags.StringVar(&c.files.CA, "ca", "", "`file` of the authority of the front's certificate; without it those of the system")
 	flags.StringVar(&c.token, "token", "", "`file` of a token that shows who asks")

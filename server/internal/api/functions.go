@@ -76,6 +76,9 @@ func Functions() (names []string) {
 // NewEntry makes a call that changes nothing and is recorded as a text of JSON.
 func NewEntry(name string, text []byte) *Call { return &Call{Function: name, Kind: Entry, Line: text} }
 
+// IsRecorded reports whether a call is recorded: it is a command, or changes nothing and is an entry all the same.
+func (c *Call) IsRecorded() bool { return c.Kind == Command || c.Kind == Entry }
+
 // NewCall makes a call of a function all of whose values are texts: its keys, each followed by its text.
 func NewCall(name string, pairs ...string) (*Call, error) {
 	var arguments Arguments

@@ -161,3 +161,40 @@ func BenchmarkNote(b *testing.B) {
 		})
 	}
 }
+
+// A decision that can't be written is counted, and the other log says once that this begins. No line begins in a part of another one.
+func TestFull(t *testing.T) {
+	var other bytes.Buffer
+	registry := prometheus.NewRegistry()
+	l, err := New(1, "/dev/full", logs.New(&other), registry)
+	if err != nil {
+		t.Fatal(err)
+	}
+	for i := 0; i < 3; i++ {
+		l.Note(api.Decision{Session: "s"})
+	}
+	l.Close()
+	if text := other.String(); strings.Count(text, "\n") != 1 || !strings.Contains(text, "decisions can't be logged") {
+		t.Errorf("%q", text)
+	}
+	families, err := registry.Gather()
+	if err != nil || len(families) != 1 || families[0].GetMetric()[0].GetCounter().GetValue() != 3 {
+		t.Errorf("%v, %v", families, err)
+	}
+	path := filepath.Join(t.TempDir(), "decisions")
+	file := &reopened{path: path}
+	if err := file.open(); err != nil {
+		t.Fatal(err)
+	}
+	file.isTorn = true
+	if _, err := file.Write([]byte("a\n")); err != nil {
+		t.Fatal(err)
+	}
+	file.isShort = true
+	if _, err := file.Write([]byte("b\n")); err == nil || file.err == nil {
+		t.Error("it writes on a disk that has no room for it")
+	}
+	if text, err := os.ReadFile(path); err != nil || string(text) != "\na\n" {
+		t.Errorf("%q, %v", text, err)
+	}
+}

@@ -17,7 +17,7 @@ const (
 
 // sign writes on a command who asks for it and why.
 func (r *request) sign(call *api.Call) error {
-	if call.Kind != api.Command && call.Kind != api.Entry {
+	if !call.IsRecorded() {
 		return nil
 	}
 	call.Caller = r.caller()

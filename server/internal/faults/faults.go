@@ -14,4 +14,6 @@ const (
 	Unlocked = "has no lock that the replay inherits"
 	// Forgets says of all commands without an answer that the office never got them.
 	Forgets = "forgets the answers that it found"
+	// AnswersOtherwise answers the commands about some users otherwise than the replay.
+	AnswersOtherwise = "answers otherwise than the replay"
 )

@@ -71,6 +71,8 @@ type Feed struct {
 	resting sync.Mutex
 	// life counts the replays, except those that follow one that has answered everything.
 	life atomic.Int64
+	// isKilled says that the replay was killed: Before comes before the next one, also if it had answered all.
+	isKilled atomic.Bool
 	// isBusy says that a replay is being started, or that the keeper writes.
 	isBusy atomic.Bool
 	// why says why there is no replay, or is empty.
@@ -171,6 +173,9 @@ func (f *Feed) anew(ctx context.Context) bool {
 		f.Log.Warn("the replay, which was to be started anew, has failed", "replay", f.Name, "why", err)
 		return false
 	}
+	if f.isKilled.Load() {
+		return false
+	}
 	f.Log.Info("starting the replay anew", "replay", f.Name, "reads", f.reads)
 	return f.open(ctx) == nil
 }
@@ -260,8 +265,12 @@ func lose(units <-chan *Unit) {
 	}
 }
 
-// Kill ends the replay at once, and another one is started.
-func (f *Feed) Kill() { f.newest.Load().Kill() }
+// Kill ends the replay at once, and another one is started after Before. It is called by the observer while it follows a unit, or while
+// no replay starts or ends.
+func (f *Feed) Kill() {
+	f.isKilled.Store(true)
+	f.newest.Load().Kill()
+}
 
 // Quietly does something while no replay starts or ends. If no command is on its way either, nobody writes the file of the office.
 func (f *Feed) Quietly(do func() error) error {
@@ -315,6 +324,7 @@ func (f *Feed) start(ctx context.Context) error {
 	f.resting.Lock()
 	defer f.resting.Unlock()
 	f.life.Add(1)
+	f.isKilled.Store(false) // The replay that was killed has ended.
 	if err := f.before(ctx); err != nil {
 		return err
 	}

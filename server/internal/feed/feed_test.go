@@ -263,6 +263,30 @@ func TestStartAnew(t *testing.T) {
 	}
 }
 
+// A replay that is killed when it has answered all and ends in order isn't followed by one before which nothing was read.
+func TestKilledAtTheEnd(t *testing.T) {
+	options, count := optionsOf(t, filepath.Join(t.TempDir(), "office"), time.Minute, logs.New(&bytes.Buffer{})), 0
+	options.Before = func(context.Context) error { count++; return nil }
+	f, err := Open(context.Background(), options)
+	if err != nil {
+		t.Fatal(err)
+	}
+	if !f.anew(context.Background()) || count != 1 {
+		t.Fatalf("one that isn't killed: %d", count)
+	}
+	_ = f.replay.Close()
+	f.Kill()
+	if f.anew(context.Background()) {
+		t.Error("it is started anew")
+	}
+	if err := f.start(context.Background()); err != nil || count != 2 || f.isKilled.Load() {
+		t.Errorf("the next one: %v, %d", err, count)
+	}
+	if err := f.end(); err != nil {
+		t.Error(err)
+	}
+}
+
 // A feed that always has something to do says that it goes on, and ends.
 func TestAliveUnderLoad(t *testing.T) {
 	b := open(t, many, time.Minute)

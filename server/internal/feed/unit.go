@@ -42,7 +42,7 @@ func NewUnit(calls ...*api.Call) *Unit {
 // Commands returns the places of the lines that are recorded: commands, and entries that change nothing.
 func (u *Unit) Commands() (places []int) {
 	for i, call := range u.Calls {
-		if call.Kind == api.Command || call.Kind == api.Entry {
+		if call.IsRecorded() {
 			places = append(places, i)
 		}
 	}

@@ -6,6 +6,7 @@ import (
 	"crypto/tls"
 	"errors"
 	"fmt"
+	"io"
 	"log"
 	"net"
 	"net/http"
@@ -188,6 +189,7 @@ func (f *Front) Say(stage string) { f.stage.Store(stage) }
 func (f *Front) Begin(start func(func() error)) {
 	limits := web.Limits{
 		AnswerTimeout: 2*web.RequestTimeout + 2*f.AnswerTimeout, Connected: callers.WithPeer, Errors: log.New(&failures{front: f}, "", 0),
+		Admits: true,
 	}
 	for i, listener := range f.listeners {
 		f.servers = append(f.servers, web.ServeIn(f.room, start, web.Secure(listener, f.configAt(i)), f, limits))
@@ -273,8 +275,8 @@ func Check(ctx context.Context, options Options) error {
 	return nil
 }
 
-// Grants prints who may do what.
-func Grants(ctx context.Context, options callers.Options) error {
+// Grants writes who may do what.
+func Grants(ctx context.Context, to io.Writer, options callers.Options) error {
 	set, err := callers.Load(ctx, options)
 	if err != nil {
 		return err
@@ -285,7 +287,9 @@ func Grants(ctx context.Context, options callers.Options) error {
 		return err
 	}
 	for _, grant := range grants {
-		fmt.Fprintln(os.Stdout, grant)
+		if _, err := fmt.Fprintln(to, grant); err != nil {
+			return err
+		}
 	}
 	return nil
 }

@@ -16,8 +16,16 @@ import (
 // requestField is the field in which a client of AuthZEN numbers its requests.
 const requestField = "X-Request-Id"
 
+// notStored is in the head of each answer: a cache would answer others with it, or later, and looks neither at who asks nor at the fields
+// that say what is to be decided.
+var notStored = []string{"no-store"}
+
 // ServeHTTP answers a request, unless it comes from a foreign page or nobody knows who asks.
 func (f *Front) ServeHTTP(w http.ResponseWriter, r *http.Request) {
+	w.Header()["Cache-Control"] = notStored
+	if f.guard == nil || r.ContentLength == 0 { // A stranger may take long for a body, also where none is needed.
+		web.Admitted(r.Context())
+	}
 	if !isFramed(w, r) {
 		web.Refused(r.Context())
 		api.Refuse(w, api.BadRequest(http.StatusNotImplemented))
@@ -62,6 +70,7 @@ func (f *Front) ServeHTTP(w http.ResponseWriter, r *http.Request) {
 		return
 	}
 	defer visit.Leave()
+	web.Admitted(r.Context())
 	f.answer(w, r, visit)
 }
 

@@ -18,7 +18,7 @@ type Unit struct {
 	// Bounds says that of a long request that is refused only the beginning is recorded. Whoever appends the unit says so, and not
 	// whoever records it: so all nodes have the same record, whatever version each of them is, and also if they read the log again.
 	Bounds bool `json:"bounds,omitempty"`
-	// Lines are requests: each begins with `{"fn":`.
+	// Lines are requests, which begin with `{"fn":`, and ends of reviews, which begin with `{"record":`.
 	Lines [][]byte `json:"-"`
 }
 

@@ -25,6 +25,8 @@ type Life struct {
 	Folder string `json:"folder"`
 	// Settings have to be the same on all nodes.
 	Settings Settings `json:"settings"`
+	// HasReviews says that the node records the ends of reviews. Those of an earlier version don't.
+	HasReviews bool `json:"reviews,omitempty"`
 }
 
 // ErrFull reports that etcd has no room for what a node says of itself, and ErrDenied that etcd doesn't let the node write it.

@@ -143,10 +143,10 @@ func TestWrongOffice(t *testing.T) {
 // A record whose entries wait for room.
 type waitingRecord struct{ recorded.Follower }
 
-func (waitingRecord) Why() string            { return "the disk is full" }
-func (waitingRecord) HasBegun() bool         { return true }
-func (waitingRecord) Room()                  {}
-func (waitingRecord) Add(_ recorded.Command) {}
+func (waitingRecord) Why() string                { return "the disk is full" }
+func (waitingRecord) HasBegun() bool             { return true }
+func (waitingRecord) Room()                      {}
+func (waitingRecord) Add(recorded.Command) int64 { return 0 }
 
 // While entries of the record wait for room, no snapshot takes that up.
 func TestNoSnapshotWithoutRoom(t *testing.T) {

@@ -44,7 +44,8 @@ func (n *Node) beginLife() error {
 	}
 	n.life = ledger.Life{
 		Name: n.options.Name, Run: strconv.FormatInt(n.start.UnixNano(), 36), Folder: strings.TrimSpace(string(text)),
-		Settings: ledger.Settings{Every: n.options.SnapshotCommands, EveryBytes: n.options.SnapshotBytes},
+		Settings:   ledger.Settings{Every: n.options.SnapshotCommands, EveryBytes: n.options.SnapshotBytes},
+		HasReviews: true,
 	}
 	return nil
 }

@@ -3,11 +3,13 @@ package node
 import (
 	"bytes"
 	"fmt"
+	"strconv"
 
 	"rbac-node/internal/api"
 	"rbac-node/internal/faults"
 	"rbac-node/internal/ledger"
 	"rbac-node/internal/office"
+	"rbac-node/internal/recorded"
 	"rbac-node/internal/state"
 )
 
@@ -59,8 +61,13 @@ func (n *Node) partsOf(entry ledger.Entry, own *batch) (parts []part) {
 	return parts
 }
 
-// callOf reads a line of the log. The office gets the line as it is, also if no node has written it.
+// callOf reads a line of the log. The office gets the line as it is, also if no node has written it, unless it is the end of a review.
 func callOf(line []byte) *api.Call {
+	if bytes.HasPrefix(line, []byte(recorded.ReviewPrefix)) {
+		if _, err := api.FieldsOf(string(line)); err == nil {
+			return api.NewEntry(api.Review, line)
+		}
+	}
 	call, err := api.ParseLine(line)
 	if err != nil {
 		return &api.Call{Kind: api.Command, Line: line}
@@ -80,7 +87,7 @@ func ruleOf(b api.Batch) *api.Rule {
 // logged returns the calls of a batch that the log gets: questions only if it depends on their answers what is done.
 func logged(b api.Batch) (calls []*api.Call) {
 	for _, call := range b.Calls {
-		if call.Kind == api.Command || ruleOf(b) != nil {
+		if call.IsRecorded() || ruleOf(b) != nil {
 			calls = append(calls, call)
 		}
 	}
@@ -170,8 +177,11 @@ func (n *Node) do(c state.Change, p *part, before int64) (reply, error) {
 	return reply{answers: api.Answers{Texts: texts, Point: at}}, err
 }
 
-// answer does a call of a unit, which has a number if it is in the log, and records it.
+// answer does a call of a unit, which has a number if it is in the log, and records it. What is only recorded gets the number of its entry.
 func (n *Node) answer(c state.Change, unit ledger.Unit, call *api.Call, number int64) ([]byte, error) {
+	if call.Kind == api.Entry {
+		return strconv.AppendInt(nil, n.record(unit, call, []byte(recorded.Accepted)), 10), nil
+	}
 	if faults.Has(faults.LeavesOut) && n.options.Name == "n2" && bytes.Contains(call.Line, []byte(`"user":"lost`)) {
 		return []byte(`{"ok":true}`), nil
 	}

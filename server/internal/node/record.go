@@ -4,6 +4,7 @@ import (
 	"context"
 	"errors"
 	"net/http"
+	"strconv"
 
 	"rbac-node/internal/api"
 	"rbac-node/internal/faults"
@@ -23,15 +24,15 @@ func (n *Node) beginRecord(entry ledger.Entry) error {
 	return n.options.Record.Begin(within, entry.Units[0].At)
 }
 
-// record records a command of the log with its answer, if it has a function.
-func (n *Node) record(unit ledger.Unit, call *api.Call, answer []byte) {
+// record records a command of the log with its answer, if it has a function, and returns the number of its entry.
+func (n *Node) record(unit ledger.Unit, call *api.Call, answer []byte) (number int64) {
 	if call.Function == "" {
-		return
+		return 0
 	}
 	if faults.Has(faults.ForgetsCaller) && n.options.Name == "n1" && unit.Caller == "token:desk" {
 		unit.Caller = ""
 	}
-	n.options.Record.Add(recorded.Command{
+	return n.options.Record.Add(recorded.Command{
 		Call: call, Caller: unit.Caller, At: unit.At, Reason: unit.Reason, Answer: answer, IsBounded: unit.Bounds,
 	})
 }
@@ -54,7 +55,7 @@ func (noRecord) Resume(context.Context, string, bool) error { return nil }
 func (noRecord) HasBegun() bool                             { return false }
 func (noRecord) Begin(context.Context, string) error        { return nil }
 func (noRecord) Admit(*api.Call) error                      { return nil }
-func (noRecord) Add(recorded.Command)                       {}
+func (noRecord) Add(recorded.Command) int64                 { return 0 }
 func (noRecord) Room()                                      {}
 func (noRecord) Added() string                              { return office.NoRecord }
 func (noRecord) Keep(context.Context, string) error         { return nil }
@@ -71,9 +72,28 @@ func (n *Node) Record() recorded.Reader {
 	return n.options.Record
 }
 
-// Note keeps no entry: the log has commands alone.
-func (n *Node) Note(context.Context, *api.Call) (int64, error) {
-	return 0, api.BadRequest(http.StatusNotFound)
+// Note appends an entry that is no command to the log, with which all nodes record it, and returns its number. It is refused if this node
+// keeps no record, or if one of an earlier version runs: that would have another record.
+func (n *Node) Note(ctx context.Context, entry *api.Call) (int64, error) {
+	if !n.keepsRecord() {
+		return 0, api.BadRequest(http.StatusNotFound)
+	}
+	within, cancel := context.WithTimeout(ctx, n.options.AnswerTimeout)
+	defer cancel()
+	state, err := n.shared.State(within)
+	if err != nil {
+		return 0, err
+	}
+	for _, life := range state.Lives {
+		if !life.HasReviews {
+			return 0, api.BadRequestSince(http.StatusNotFound, "a node of an earlier version runs, which can't record this")
+		}
+	}
+	answers, err := n.Do(within, api.Batch{Kind: api.Command, Calls: []*api.Call{entry}})
+	if err != nil {
+		return 0, err
+	}
+	return strconv.ParseInt(string(answers.Texts[0]), 10, 64)
 }
 
 var errNotRecorded = errors.New("it was made by a node without a record")

@@ -36,7 +36,7 @@ func newRequest(ctx context.Context, b api.Batch) *request {
 	}
 	r.unit = ledger.Unit{At: recorded.TimeLayout, Rule: ruleOf(b), Bounds: true}
 	for _, call := range logged(b) {
-		if call.Kind == api.Command {
+		if call.IsRecorded() {
 			r.unit.Caller, r.unit.Reason = call.Caller, call.Reason // They are the same for all.
 		}
 		r.unit.Lines = append(r.unit.Lines, call.Line)
@@ -74,7 +74,7 @@ func (n *Node) command(ctx context.Context, b api.Batch) (api.Answers, error) {
 		return api.Answers{}, api.Diverged
 	}
 	for _, call := range b.Calls {
-		if call.Kind == api.Command {
+		if call.IsRecorded() {
 			if err := n.options.Record.Admit(call); err != nil {
 				return api.Answers{}, err
 			}

@@ -88,7 +88,7 @@ func (e *entry) isDone() bool { return e.isCommand() && e.answer != unknown && e
 func (e *entry) isReview() bool { return strings.HasPrefix(e.request, recorded.ReviewPrefix) }
 
 // accepted is the answer of an entry that is no command.
-const accepted = `{"ok":true}`
+const accepted = recorded.Accepted
 
 // fields returns the texts whose digest, after the link before them, is the link of the entry.
 func (e *entry) fields() []string {

@@ -189,17 +189,17 @@ func (f *Follower) Admit(call *api.Call) error {
 	return err
 }
 
-// Add adds the next command of the log, with its answer. It doesn't wait.
-func (f *Follower) Add(c recorded.Command) {
+// Add adds the next command of the log, with its answer, and returns the number of its entry. It doesn't wait.
+func (f *Follower) Add(c recorded.Command) (number int64) {
 	line, _ := recordedLine(c.Call) // All nodes record the same line, even if it is too long.
 	e := entry{at: c.At, caller: c.Caller, reason: c.Reason, request: string(line), answer: string(c.Answer)}
 	if c.IsBounded {
 		e.bound()
 	}
-	f.add(e)
+	return f.add(e)
 }
 
-func (f *Follower) add(e entry) {
+func (f *Follower) add(e entry) (number int64) {
 	f.mutex.Lock()
 	defer f.mutex.Unlock()
 	e.n = f.added.n + 1
@@ -210,13 +210,14 @@ func (f *Follower) add(e entry) {
 			f.fail(fmt.Errorf("entry %d is not what the log gives: %w", e.n, errMoveAway))
 		}
 		f.known = f.known[1:]
-		return
+		return e.n
 	}
 	f.queue, f.queued = append(f.queue, e), f.queued+e.size()
 	select {
 	case f.wake <- struct{}{}:
 	default:
 	}
+	return e.n
 }
 
 // Added returns the head after the last entry that was added, or an empty text if there is no record.

@@ -45,6 +45,15 @@ type cell struct {
 	isJSON bool
 }
 
+// withoutSemicolons returns the text of a cell. In JSON semicolons are escaped, so that a spreadsheet finds no formula behind one, and the
+// text still means the same.
+func (c cell) withoutSemicolons(text string) string {
+	if !c.isJSON || !json.Valid([]byte(text)) {
+		return text
+	}
+	return strings.ReplaceAll(text, ";", `\u003b`)
+}
+
 // A printer prints lines. No format has a letter that a terminal obeys.
 type printer struct {
 	format  Format
@@ -80,7 +89,7 @@ func (t *printer) add(cells ...cell) (err error) {
 	case CSV:
 		texts := make([]string, len(cells))
 		for i, one := range cells {
-			texts[i] = reports.Escaped(printed(one.text))
+			texts[i] = reports.Escaped(one.withoutSemicolons(printed(one.text)))
 		}
 		return t.csv.Write(texts)
 	case JSON:

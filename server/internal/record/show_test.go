@@ -124,10 +124,10 @@ func TestShowFilters(t *testing.T) {
 // TestShowFormats reads what is printed for programs: each entry is what it is, but that a formula has an apostrophe before it.
 func TestShowFormats(t *testing.T) {
 	b := open(t)
-	const request = "{\"fn\":\"addUser\",\"user\":\"\u009b\u202e,\\\"\U0001f600\"}"
+	const request = "{\"fn\":\"addUser\",\"user\":\"\u009b\u202e,\\\"\U0001f600;=1\"}"
 	b.answered(request)
 	path := filepath.Join(b.dir, fileName)
-	change(t, path, "UPDATE entry SET reason = '=1+1', caller = '@desk', found = 1 WHERE n = 2")
+	change(t, path, "UPDATE entry SET reason = '=1+1;@x', caller = '@desk', found = 1 WHERE n = 2")
 	var link string
 	if err := b.db.QueryRow("SELECT chain FROM entry WHERE n = 2").Scan(&link); err != nil {
 		t.Fatal(err)
@@ -143,9 +143,10 @@ func TestShowFormats(t *testing.T) {
 	if err != nil || len(lines) != 2 || strings.Join(lines[0], " ") != "number at caller reason request answer found chain" {
 		t.Fatalf("%v, %q", err, lines)
 	}
-	const escaped = `{"fn":"addUser","user":"\u009b\u202e,\"😀"}`
+	const asJSON = `{"fn":"addUser","user":"\u009b\u202e,\"😀;=1"}`
+	escaped := strings.ReplaceAll(asJSON, ";", `\u003b`)
 	got := append(lines[1][:1:1], lines[1][2:]...)
-	if want := []string{"2", "'@desk", "'=1+1", escaped, accepted, "true", link}; strings.Join(got, "|") != strings.Join(want, "|") {
+	if want := []string{"2", "'@desk", "'=1+1;'@x", escaped, accepted, "true", link}; strings.Join(got, "|") != strings.Join(want, "|") {
 		t.Errorf("%q is not %q", got, want)
 	}
 	out.Reset()
@@ -161,8 +162,8 @@ func TestShowFormats(t *testing.T) {
 		Request, Answer           json.RawMessage
 		Found                     bool
 	}
-	if err := json.Unmarshal(out.Bytes(), &line); err != nil || line.Number != 2 || line.Caller != "@desk" || line.Reason != "=1+1" ||
-		line.Chain != link || !line.Found || string(line.Answer) != accepted || string(line.Request) != escaped || line.At == "" {
+	if err := json.Unmarshal(out.Bytes(), &line); err != nil || line.Number != 2 || line.Caller != "@desk" || line.Reason != "=1+1;@x" ||
+		line.Chain != link || !line.Found || string(line.Answer) != accepted || string(line.Request) != asJSON || line.At == "" {
 		t.Errorf("%v, %+v", err, line)
 	}
 }

@@ -193,7 +193,7 @@ func (s *Signer) ask(ctx context.Context, after int64) (links recorded.Links, er
 		return links, err
 	}
 	if reply.StatusCode != http.StatusOK {
-		return links, fmt.Errorf("%s: the front answers %s: %s", url, reply.Status, strings.TrimSpace(string(text[:min(len(text), 200)])))
+		return links, fmt.Errorf("%s: the front answers %s: %s", url, printed(reply.Status), printed(strings.TrimSpace(string(text[:min(len(text), 200)]))))
 	}
 	err = json.Unmarshal(text, &struct{ Value *recorded.Links }{&links})
 	return links, err

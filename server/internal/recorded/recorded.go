@@ -17,6 +17,9 @@ const TimeLayout = "2006-01-02T15:04:05.000Z"
 // ReviewPrefix is how the request of an entry begins that says that somebody has ended a review of who has what.
 const ReviewPrefix = `{"record":"reviewed",`
 
+// Accepted is the answer of an entry that is no command.
+const Accepted = `{"ok":true}`
+
 // A Filter chooses entries. An empty text chooses all.
 type Filter struct {
 	User, Role, Object, Operation, Function, Caller, Since, Until string
@@ -83,7 +86,7 @@ type Links struct {
 	Head  string `json:"head"`
 }
 
-// A Command is one of the log with its answer.
+// A Command is one of the log with its answer, or an entry of it that is no command.
 type Command struct {
 	Call               *api.Call
 	Caller, At, Reason string
@@ -109,8 +112,8 @@ type Follower interface {
 	Begin(ctx context.Context, at string) error
 	// Admit refuses a command that can't be recorded.
 	Admit(call *api.Call) error
-	// Add adds a command. It doesn't wait; Room waits until there is room for many more.
-	Add(c Command)
+	// Add adds a command, and returns the number of its entry. It doesn't wait; Room waits until there is room for many more.
+	Add(c Command) (number int64)
 	Room()
 	// Added returns the head after all that was added, or an empty text. Keep makes the entries up to a head durable.
 	Added() string

@@ -240,6 +240,7 @@ func TestDump(t *testing.T) {
 func TestEscaped(t *testing.T) {
 	for _, one := range []struct{ text, wanted string }{
 		{"=1+1", "'=1+1"}, {"+a", "'+a"}, {"-", "'-"}, {"@x", "'@x"}, {"'=1", "''=1"}, {"", ""}, {"a=1", "a=1"}, {"'a", "'a"}, {"'", "'"},
+		{"a;=1", "a;'=1"}, {"a;'=1;+2;b", "a;''=1;'+2;b"}, {";", ";"}, {"＝1", "'＝1"}, {"a;＠x", "a;'＠x"},
 	} {
 		if found := Escaped(one.text); found != one.wanted {
 			t.Errorf("%q became %q and not %q", one.text, found, one.wanted)

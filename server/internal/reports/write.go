@@ -6,6 +6,7 @@ import (
 	"errors"
 	"io"
 	"strings"
+	"unicode/utf8"
 
 	"rbac-node/internal/api"
 )
@@ -39,13 +40,18 @@ func (report *Report) WriteCSV(to io.Writer, most int64) error {
 	return w.Error()
 }
 
-// Escaped returns a text with an apostrophe before it if a spreadsheet would take it for a formula. Names that begin with apostrophes
-// before such a text get one more, so that no two names become one.
+// Escaped returns a text with an apostrophe before each part that a spreadsheet would take for a formula: before the text itself, and behind
+// a semicolon, which separates cells in many countries. Parts that begin with apostrophes before such a text get one more, so that no two
+// names become one.
 func Escaped(text string) string {
-	if bare := strings.TrimLeft(text, "'"); bare != "" && strings.IndexByte("=+-@", bare[0]) >= 0 {
-		return "'" + text
+	parts := strings.Split(text, ";")
+	for i, part := range parts {
+		// Some spreadsheets also take the wide forms of these signs.
+		if first, size := utf8.DecodeRuneInString(strings.TrimLeft(part, "'")); size > 0 && strings.ContainsRune("=+-@＝＋－＠", first) {
+			parts[i] = "'" + part
+		}
 	}
-	return text
+	return strings.Join(parts, ";")
 }
 
 // WriteLines writes the first lines of a report, each as JSON: an object if the report has no columns, and otherwise a list of texts.

@@ -94,7 +94,17 @@ func Run(o Options, out io.Writer) error {
 	if err := makeAll(files, group); err != nil {
 		return err
 	}
-	return o.explain(out, files, tokens)
+	if err := o.explain(out, files, tokens); err != nil {
+		removeAll(files) // Nobody has seen the tokens.
+		return fmt.Errorf("%w: nothing was made", err)
+	}
+	return nil
+}
+
+func removeAll(files []file) {
+	for _, one := range files {
+		_ = os.Remove(one.path)
+	}
 }
 
 func (o Options) path(ending string) string { return filepath.Join(o.Folder, o.Office+"."+ending) }

@@ -4,6 +4,7 @@ import (
 	"crypto/tls"
 	"crypto/x509"
 	"encoding/pem"
+	"errors"
 	"os"
 	"path/filepath"
 	"strings"
@@ -142,5 +143,21 @@ func TestPackaged(t *testing.T) {
 		if !strings.Contains(said.String(), wanted) {
 			t.Errorf("it doesn't say %q: %s", wanted, said.String())
 		}
+	}
+}
+
+// full is a writer without room.
+type full struct{}
+
+func (full) Write([]byte) (int, error) { return 0, errors.New("no room") }
+
+// If the tokens can't be shown, nobody has them, so no file stays.
+func TestNotShown(t *testing.T) {
+	dir := t.TempDir()
+	if err := Run(Options{Office: "bank", Folder: dir, Listen: "unix:/s", Hosts: []string{"bank.example"}}, full{}); err == nil {
+		t.Error("there is no error")
+	}
+	if left, err := os.ReadDir(dir); err != nil || len(left) > 0 {
+		t.Errorf("%v, %v", left, err)
 	}
 }

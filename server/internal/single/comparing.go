@@ -66,7 +66,10 @@ func (o *Office) compare(ctx context.Context) error {
 		}
 	}
 	if differing := difference(rest, rows); differing != nil {
-		o.beginAgain(differing)
+		return o.feed.Quietly(func() error { // A replay that starts would not be killed.
+			o.beginAgain(differing)
+			return nil
+		})
 	}
 	return nil
 }
@@ -90,9 +93,12 @@ func difference(own, others []rbacoffice.Row) error {
 	return fmt.Errorf("they have different rows of %s", table)
 }
 
-// beginAgain says that the office in this process isn't that of the file, and lets both begin with the file.
+// beginAgain says that the office in this process isn't that of the file, and lets both begin with the file. If it has happened a short
+// time ago, they do so after a pause. Until then nothing is answered. It is called as Kill of the feed is.
 func (o *Office) beginAgain(why error) {
-	o.Log.Error("the office in this process isn't that of the file: the replay is ended, and both begin with the file", "why", why)
+	pause := o.rereading.differs(time.Now())
+	o.Log.Error("the office in this process isn't that of the file: the replay is ended, and both begin with the file",
+		"why", why, "pause", pause.String())
 	o.state.Forget()
 	o.feed.Kill()
 }

@@ -3,11 +3,13 @@ package single
 import (
 	"context"
 	"sync"
+	"time"
 
 	"golang.org/x/sync/semaphore"
 
 	"rbac-node/internal/api"
 	"rbac-node/internal/feed"
+	"rbac-node/internal/pause"
 	"rbac-node/internal/state"
 )
 
@@ -40,11 +42,17 @@ func (o *Office) read(ctx context.Context) error {
 	if err := o.record.Before(ctx); err != nil {
 		return err
 	}
+	if err := pause.For(ctx, o.rereading.rest(time.Now())); err != nil {
+		return err
+	}
 	o.Say("the rows of the office are read")
 	err := o.state.Load(ctx, o.File)
 	if o.feed == nil {
 		o.unread = err // If the office doesn't open either, that says more.
 		return nil
+	}
+	if err == nil {
+		o.rereading.isOver()
 	}
 	return err
 }

@@ -9,6 +9,7 @@ import (
 	"fmt"
 	"os"
 	"path/filepath"
+	"strings"
 	"time"
 
 	"github.com/prometheus/client_golang/prometheus"
@@ -49,9 +50,10 @@ type Options struct {
 type Office struct {
 	Options
 	order
-	feed   *feed.Feed
-	lock   *os.File
-	record recorder
+	feed      *feed.Feed
+	lock      *os.File
+	record    recorder
+	rereading *rereading
 }
 
 // Open opens the office of a file, and makes it if there is no file.
@@ -61,6 +63,7 @@ func Open(ctx context.Context, options Options) (*Office, error) {
 		return nil, err
 	}
 	o := &Office{Options: options, order: order{gate: semaphore.NewWeighted(wholeGate)}, lock: lock, record: noRecord{}}
+	o.rereading = newRereading(options.Metrics)
 	if err := o.open(ctx); err != nil {
 		_ = o.record.Close(false) // What has failed before says more.
 		_ = lock.Close()
@@ -154,7 +157,10 @@ func (o *Office) IsAlive(ctx context.Context) bool { return o.feed.IsAlive(ctx) 
 // Health returns the condition of the office.
 func (o *Office) Health() api.Health {
 	h := api.Health{Why: o.feed.Why(), Open: o.IsOpen}
-	if h.Why == "" && !o.state.IsKnown() {
+	switch isKnown := o.state.IsKnown(); {
+	case !isKnown && o.rereading.has():
+		h.Why = strings.TrimSuffix("the office in this process isn't that of its file, which is read again: "+h.Why, ": ")
+	case !isKnown && h.Why == "":
 		h.Why = "the office is read from its file again"
 	}
 	h.Ready, h.Record = h.Why == "", o.record.Why()

@@ -41,7 +41,7 @@ func TestExplained(t *testing.T) {
 		s := drawn(t, rand.New(rand.NewSource(seed)))
 		err := s.Look(func(v *View) {
 			for _, user := range v.Users() {
-				for _, permission := range v.Permissions() {
+				for _, permission := range v.all(rbacoffice.Permissions) {
 					reason, err := s.office.ExplainUser(user, permission[1], permission[0])
 					if found := explained(v, user, permission); err != nil || found != reason {
 						t.Fatalf("seed %d, %s, %s: %v and not %v, %v", seed, user, permission, found, reason, err)

@@ -89,21 +89,6 @@ func (v *View) Above(list, others []string) map[string][]string {
 	return found
 }
 
-// among returns, for each of some roles, which roles of a list are this role or a junior of it.
-func (v *View) among(list, roles []string) map[string]map[string]bool {
-	found := make(map[string]map[string]bool, len(roles))
-	for _, role := range roles {
-		has, below := map[string]bool{}, v.Below(role)
-		for _, one := range list {
-			if below[one] {
-				has[one] = true
-			}
-		}
-		found[role] = has
-	}
-	return found
-}
-
 // Blocked returns the first dynamic set of which a role with its juniors has too many members, and these, or nothing. Such a role can
 // never be activated.
 func (v *View) Blocked(role string) (set string, members []string) {

@@ -76,8 +76,8 @@ type holding struct {
 type judgement struct {
 	static, dynamic []NamedSet
 	users, sessions []holding
-	// has tells for a role which members of the sets are this role or a junior of it.
-	has map[string]map[string]bool
+	// above has for each member of the sets those of their roles that are this role or a senior of it then. One may come twice.
+	above map[string][]string
 }
 
 // Conflicts returns the separation of duty sets that a command would violate now, static ones first, in the order of their names. A
@@ -104,13 +104,13 @@ func (v *View) judge(call *api.Call) (j judgement) {
 	if len(j.dynamic) > 0 {
 		j.sessions = v.sessionsAfter(call)
 	}
-	j.has = v.had(&j, call)
+	j.above = v.above(&j, call)
 	return j
 }
 
-// had returns which members of the sets of a judgement each role has that somebody is assigned to or that is activated: those that are
-// the role or a junior of it after the command.
-func (v *View) had(j *judgement, call *api.Call) map[string]map[string]bool {
+// above returns, for each member of the sets of a judgement, those roles that somebody is assigned to or that are activated, and that are
+// this member or a senior of it after the command.
+func (v *View) above(j *judgement, call *api.Call) map[string][]string {
 	var members, roles []string
 	for _, sets := range [][]NamedSet{j.static, j.dynamic} {
 		for _, set := range sets {
@@ -122,13 +122,15 @@ func (v *View) had(j *judgement, call *api.Call) map[string]map[string]bool {
 			roles = append(roles, one.roles...)
 		}
 	}
-	if call.Function != "addInheritance" {
-		return v.among(sorted(members), sorted(roles))
+	if members = sorted(members); call.Function != "addInheritance" {
+		return v.Above(members, sorted(roles))
 	}
-	found := v.among(sorted(append(members, call.Ascendant)), sorted(append(roles, call.Descendant)))
-	for _, has := range found {
-		for member := range found[call.Descendant] {
-			has[member] = has[member] || has[call.Ascendant]
+	below := v.Below(call.Descendant)
+	found := v.Above(sorted(append(members, call.Ascendant)), sorted(roles))
+	seniors := found[call.Ascendant]
+	for _, member := range members {
+		if below[member] {
+			found[member] = append(found[member], seniors...)
 		}
 	}
 	return found
@@ -187,25 +189,19 @@ func (v *View) changedSet(call *api.Call) (static, dynamic []NamedSet) {
 			changed = one
 		}
 	}
+	cardinality, _ := strconv.ParseInt(call.Cardinality, 10, 64) // One that is too large is the largest.
 	switch function := call.Function; {
 	case strings.HasPrefix(function, "create"):
-		changed = NamedSet{call.Set, sorted(call.Roles), cardinalityOf(call)}
+		changed = NamedSet{call.Set, sorted(call.Roles), cardinality}
 	case strings.HasPrefix(function, "add"):
 		changed.Roles = sorted(append([]string{call.Role}, changed.Roles...))
 	default:
-		changed.Cardinality = cardinalityOf(call)
+		changed.Cardinality = cardinality
 	}
 	if isStatic {
 		return []NamedSet{changed}, nil
 	}
 	return nil, []NamedSet{changed}
-}
-
-// cardinalityOf reads the cardinality from the line of a call, which ends with it.
-func cardinalityOf(call *api.Call) int64 {
-	line := string(call.Line)
-	number, _ := strconv.ParseInt(strings.TrimSuffix(line[strings.LastIndexByte(line, ':')+1:], "}"), 10, 64)
-	return number
 }
 
 // sorted returns names in their order, each once.
@@ -264,7 +260,7 @@ func (j *judgement) conflicts(kind string, sets []NamedSet, holders []holding) (
 				all |= masks[role]
 			}
 			if int64(bits.OnesCount64(all)) >= one.Cardinality {
-				one.Holders = append(one.Holders, Holder{j.held(one.Roles, holder.roles), holder.digest, holder.user})
+				one.Holders = append(one.Holders, Holder{held(one.Roles, holder.roles, masks), holder.digest, holder.user})
 			}
 		}
 		if len(one.Holders) > 0 {
@@ -276,23 +272,21 @@ func (j *judgement) conflicts(kind string, sets []NamedSet, holders []holding) (
 
 // masks returns which of some members, of which there are at most 32, each role has: a bit for each.
 func (j *judgement) masks(members []string) map[string]uint64 {
-	masks := make(map[string]uint64, len(j.has))
-	for role, has := range j.has {
-		for i, member := range members {
-			if has[member] {
-				masks[role] |= 1 << i
-			}
+	masks := map[string]uint64{}
+	for i, member := range members {
+		for _, role := range j.above[member] {
+			masks[role] |= 1 << i
 		}
 	}
 	return masks
 }
 
-// held returns which of some members are among roles and their juniors, and by which of the roles.
-func (j *judgement) held(members, roles []string) (found []Held) {
-	for _, member := range members {
+// held returns which of some members are among roles and their juniors, and by which of the roles, as the masks of these say.
+func held(members, roles []string, masks map[string]uint64) (found []Held) {
+	for i, member := range members {
 		one := Held{Role: member}
 		for _, role := range roles {
-			if j.has[role][member] {
+			if masks[role]&(1<<i) != 0 {
 				one.By = append(one.By, role)
 			}
 		}

@@ -18,6 +18,7 @@ import (
 	"rbac/clients/go/rbacoffice"
 
 	"rbac-node/internal/api"
+	"rbac-node/internal/faults"
 )
 
 // A State is what is in an office after the last command whose answer was read.
@@ -174,6 +175,9 @@ func (s *State) accept(call *api.Call, answer []byte) error {
 		return nil
 	}
 	own, err := s.do(call)
+	if faults.Has(faults.AnswersOtherwise) && strings.HasPrefix(call.User, "odd") {
+		own = nil
+	}
 	if err == nil && !bytes.Equal(own, answer) {
 		err = fmt.Errorf("librbac answers %s to %s, and the program %s", own, call.Function, answer)
 	}

@@ -137,8 +137,10 @@ func (v *View) fail(err error) bool {
 }
 
 const (
-	// atOnce is how many rows are asked for at once, and moreThanRows is more than a table may have.
-	atOnce, moreThanRows = 1000, 1 << 20
+	// atOnce is how many rows are asked for at once.
+	atOnce = 1000
+	// afterAll comes after each name: none has such a byte.
+	afterAll = "\xff"
 )
 
 // each calls a function with the rows of a table from a place on, until it returns false.
@@ -168,15 +170,24 @@ func (v *View) scan(table rbacoffice.Table, from int, take func(row Row) bool) {
 	v.each(table, from, func(row *rbacoffice.Row) bool { return take(row.Names) })
 }
 
+// places returns the places of the rows of a table with a first name, or where they would be.
+func (v *View) places(table rbacoffice.Table, first string) (start, end int) {
+	start, end, err := v.state.office.Range(table, first)
+	v.fail(err)
+	return start, end
+}
+
 // place returns the place of the first row of a table that isn't before another row.
 func (v *View) place(table rbacoffice.Table, wanted Row) int {
-	return sort.Search(moreThanRows, func(i int) bool {
-		return !v.from(table, i, 1) || !Row(v.rows[0].Names).IsBefore(wanted)
+	start, end := v.places(table, wanted[0])
+	return start + sort.Search(end-start, func(i int) bool {
+		return !v.from(table, start+i, 1) || !Row(v.rows[0].Names).IsBefore(wanted)
 	})
 }
 
 func (v *View) count(table rbacoffice.Table) int {
-	return sort.Search(moreThanRows, func(i int) bool { return !v.from(table, i, 1) })
+	_, end := v.places(table, afterAll)
+	return end
 }
 
 func (v *View) all(table rbacoffice.Table) []Row {
@@ -221,8 +232,8 @@ func (v *View) AssignedRoles(user string) []string { return v.of(rbacoffice.Assi
 // Users returns all users in their order.
 func (v *View) Users() []string { return firsts(v.all(rbacoffice.Users)) }
 
-// Permissions returns all permissions in their order: the object and the operation of each.
-func (v *View) Permissions() []Row { return v.all(rbacoffice.Permissions) }
+// Grants returns all grants in their order: the object, the operation and the role of each.
+func (v *View) Grants() []Row { return v.all(rbacoffice.Grants) }
 
 func firsts(rows []Row) []string {
 	names := make([]string, len(rows))

@@ -159,8 +159,8 @@ func (p *places) place(permission state.Row) int {
 	return place
 }
 
-// look asks the clone what users can do, or all users if none are named, and which sessions there are. The roles of each permission and of
-// each user are its answers.
+// look asks the clone what users can do, or all users if none are named, and which sessions there are. The grants are its rows, and the
+// roles of each user its answers.
 func look(ctx context.Context, clone *state.State, users []string, places *places) (seen *view, err error) {
 	failed := clone.Look(func(v *state.View) {
 		seen = &view{users: map[string]*big.Int{}, sessions: v.Sessions(), isThere: map[string]bool{}}
@@ -205,13 +205,12 @@ const separator = "\t"
 // grants returns the permissions that are granted to each role itself, except the roles that no session can have.
 func grants(v *state.View, places *places) map[string]*big.Int {
 	granted := map[string]*big.Int{}
-	for _, one := range v.Permissions() {
-		for _, role := range v.Names("permissionRoles", "object", one[0], "operation", one[1]) {
-			if granted[role] == nil {
-				granted[role] = new(big.Int)
-			}
-			granted[role].SetBit(granted[role], places.place(one), 1)
+	for _, one := range v.Grants() {
+		permission, role := state.Row{one[0], one[1]}, one[2]
+		if granted[role] == nil {
+			granted[role] = new(big.Int)
 		}
+		granted[role].SetBit(granted[role], places.place(permission), 1)
 	}
 	for role := range granted {
 		if set, _ := v.Blocked(role); set != "" {

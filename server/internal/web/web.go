@@ -143,10 +143,15 @@ type Limits struct {
 	Connected func(ctx context.Context, conn net.Conn) context.Context
 	// Errors gets what goes wrong with connections. Without it that goes to standard error.
 	Errors *log.Logger
+	// Admits says that the handler calls Admitted for the requests of those who may be here. Without it everybody may.
+	Admits bool
 }
 
 // ServeIn starts a server in a goroutine. Servers may share a room. HTTP/2 is off: Go 1.19 lacks what was mended in it since.
 func ServeIn(room *Room, start func(func() error), listener net.Listener, handler http.Handler, limits Limits) *http.Server {
+	if !limits.Admits {
+		handler = admitting{handler}
+	}
 	server := &http.Server{
 		Handler: handler, MaxHeaderBytes: maxHeadBytes, ConnState: room.noteState, ErrorLog: limits.Errors,
 		ConnContext: func(ctx context.Context, conn net.Conn) context.Context {
@@ -232,8 +237,8 @@ func (c *Conn) Write(text []byte) (int, error) {
 	return c.Conn.Write(text)
 }
 
-// A Room has one element in taken for each connection. It knows which connections have not sent a request yet, and which are idle
-// after one.
+// A Room has one element in taken for each connection. It knows which connections have sent no request, or a part of one, that shows that
+// they may be here, and which are idle after one.
 type Room struct {
 	taken       chan struct{}
 	mutex       sync.Mutex
@@ -287,8 +292,8 @@ func (l *limited) Close() error {
 	return l.Listener.Close()
 }
 
-// closeOne closes the connection that has been without a request for longest, unless it has only just come. If all have asked, it
-// closes the one that has been idle for longest, if there is one. So those that never ask don't push out those that have asked.
+// closeOne closes the connection that has been without an admitted request for longest, unless it has only just come. If there is none, it
+// closes the one that has been idle for longest, if there is one. So those that never ask, or that may not, don't push out the others.
 func (r *Room) closeOne() {
 	r.mutex.Lock()
 	defer r.mutex.Unlock()
@@ -309,6 +314,24 @@ type place struct {
 }
 
 type placeKey struct{}
+
+// Admitted says that whoever has sent the request with this context may be here. Until it is answered, its connection makes no room for
+// others, however long that takes.
+func Admitted(ctx context.Context) {
+	if at, has := ctx.Value(placeKey{}).(place); has {
+		at.room.mutex.Lock()
+		defer at.room.mutex.Unlock()
+		at.room.fresh.remove(at.conn)
+	}
+}
+
+// An admitting handler admits everybody.
+type admitting struct{ http.Handler }
+
+func (a admitting) ServeHTTP(w http.ResponseWriter, r *http.Request) {
+	Admitted(r.Context())
+	a.Handler.ServeHTTP(w, r)
+}
 
 // Refused says that the request with this context has shown no right to be here. Until it is done its connection makes room as one does
 // that has not sent any: the client may take long to send the rest.
@@ -334,7 +357,7 @@ func (r *Room) noteState(conn net.Conn, state http.ConnState) {
 	r.fresh.remove(conn)
 	r.idle.remove(conn)
 	switch state {
-	case http.StateNew:
+	case http.StateNew, http.StateActive: // The rest of a request may take long, and who sends it isn't known yet.
 		r.fresh.add(conn)
 	case http.StateIdle:
 		r.idle.add(conn)

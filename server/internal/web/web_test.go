@@ -116,16 +116,17 @@ func TestCloseOne(t *testing.T) {
 	for _, test := range []struct {
 		name   string
 		states []http.ConnState
-		// isOld says that the new ones came some time ago.
-		isOld bool
+		// isOld says that the new ones came some time ago, and isStrange that nobody may be here who has sent a request.
+		isOld, isStrange bool
 		// closed is the connection that is closed, or -1.
 		closed int
 	}{
-		{"the first idle one", []http.ConnState{http.StateActive, http.StateIdle, http.StateIdle}, true, 1},
-		{"a new one that came some time ago", []http.ConnState{http.StateIdle, http.StateActive, http.StateNew, http.StateNew}, true, 2},
-		{"none while one has just come", []http.ConnState{http.StateNew, http.StateIdle}, false, -1},
-		{"none that has ended", []http.ConnState{http.StateClosed, http.StateIdle}, true, 1},
-		{"none", nil, true, -1},
+		{"the first idle one", []http.ConnState{http.StateActive, http.StateIdle, http.StateIdle}, true, false, 1},
+		{"a new one that came some time ago", []http.ConnState{http.StateIdle, http.StateActive, http.StateNew, http.StateNew}, true, false, 2},
+		{"one whose request shows no right", []http.ConnState{http.StateIdle, http.StateActive, http.StateNew}, true, true, 1},
+		{"none while one has just come", []http.ConnState{http.StateNew, http.StateIdle}, false, false, -1},
+		{"none that has ended", []http.ConnState{http.StateClosed, http.StateIdle}, true, false, 1},
+		{"none", nil, true, false, -1},
 	} {
 		t.Run(test.name, func(t *testing.T) {
 			r := NewRoom(9)
@@ -135,6 +136,9 @@ func TestCloseOne(t *testing.T) {
 				r.taken <- struct{}{}
 				r.noteState(conns[i], http.StateNew)
 				r.noteState(conns[i], state)
+				if state == http.StateActive && !test.isStrange {
+					Admitted(context.WithValue(context.Background(), placeKey{}, place{r, conns[i]}))
+				}
 			}
 			for place := r.fresh.order.Front(); place != nil && test.isOld; place = place.Next() {
 				place.Value = waiting{place.Value.(waiting).conn, time.Now().Add(-time.Hour)}
@@ -180,12 +184,14 @@ func TestRefused(t *testing.T) {
 			ctx := context.WithValue(context.Background(), placeKey{}, place{r, conn})
 			r.noteState(conn, http.StateNew)
 			r.noteState(conn, http.StateActive)
+			Admitted(ctx)
 			if test.refused {
 				Refused(ctx)
 			}
 			if test.isDone {
 				r.noteState(conn, http.StateIdle)
 				r.noteState(conn, http.StateActive)
+				Admitted(ctx)
 			}
 			for at := r.fresh.order.Front(); at != nil; at = at.Next() {
 				at.Value = waiting{conn, time.Now().Add(-time.Hour)}

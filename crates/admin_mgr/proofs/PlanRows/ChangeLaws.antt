@@ -18,7 +18,7 @@ use Rattle.rbac_sets.specs.declared.row.Change.TheVariants.{Put, Take}
 use Rattle.admin_mgr.specs.RbacState.{RbacState}
 use Rattle.admin_mgr.specs.Rows.{has_row}
 use Rattle.admin_mgr.specs.Changes.{same_row, is_put, is_taken}
-use Rattle.admin_mgr.specs.RowUpdates.{is_plain, with_row, without_row, after_changes}
+use Rattle.admin_mgr.specs.private.OneRow.{is_plain, with_row, without_row, after_changes}
 
 -- ---- the kinds of the rows that change one by one
 

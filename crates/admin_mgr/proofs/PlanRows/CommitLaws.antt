@@ -9,13 +9,13 @@ use Rattle.rbac_sets.specs.declared.row.Row.{Row}
 use Rattle.rbac_sets.specs.declared.row.Row.TheVariants.{NameRow, PairRow, GrantRow, SetRow, LockedRow}
 use Rattle.rbac_sets.specs.declared.row.Change.{Change}
 use Rattle.rbac_sets.specs.declared.row.Change.TheVariants.{Put, Take}
-use Rattle.role_order.specs.Planned.{changed}
-use Rattle.role_order.specs.Planned.{Plan as OrderPlan}
+use Rattle.role_order.specs.Planned.{changed, Plan as OrderPlan}
 use Rattle.admin_mgr.specs.declared.plan.Plan.{Plan}
 use Rattle.admin_mgr.specs.RbacState.{RbacState}
 use Rattle.admin_mgr.specs.Rows.{has_row}
 use Rattle.admin_mgr.specs.Changes.{same_row, is_put, is_taken, IsOnce, Turns}
-use Rattle.admin_mgr.specs.RowUpdates.{is_plain, with_row, without_row, with_edges, after_change, after_changes, AreFree}
+use Rattle.admin_mgr.specs.RowUpdates.{with_edges}
+use Rattle.admin_mgr.specs.private.OneRow.{is_plain, with_row, without_row, after_change, after_changes, AreFree}
 use Rattle.admin_mgr.specs.PlanEffect.{TurnsEdges, LeadsTo}
 use Rattle.admin_mgr.proofs.PlanRows.RowLaws.{plain_determine}
 use Rattle.admin_mgr.proofs.PlanRows.ChangeLaws.{has_row-with, has_row-without, has_row-changes}

@@ -5,7 +5,8 @@ use Rattle.rbac_sets.specs.declared.row.Row.{Row}
 use Rattle.rbac_sets.specs.declared.row.Change.{Change}
 use Rattle.rbac_sets.specs.declared.row.Change.TheVariants.{Take}
 use Rattle.admin_mgr.specs.RbacState.{RbacState}
-use Rattle.admin_mgr.specs.RowUpdates.{without_row, after_change, after_changes, AreFree, HasRoom, UsesRoom, puts_of}
+use Rattle.admin_mgr.specs.RowUpdates.{HasRoom, puts_of}
+use Rattle.admin_mgr.specs.private.OneRow.{without_row, after_change, after_changes, AreFree, UsesRoom}
 use Rattle.admin_mgr.proofs.PlanRows.RoomLaws.{room_left, spends_none}
 use Rattle.admin_mgr.proofs.PlanRows.StepLaws.{after_append}
 

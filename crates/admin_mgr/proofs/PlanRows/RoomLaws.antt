@@ -9,7 +9,8 @@ use Rattle.rbac_sets.specs.declared.row.Change.TheVariants.{Put, Take}
 use Rattle.rbac_sets.specs.declared.table.Table.{Table}
 use Rattle.rbac_sets.specs.declared.table.TheConstants.Table.{COUNT}
 use Rattle.rbac_sets.specs.Table.{number_of, is_number}
-use Rattle.admin_mgr.specs.RowUpdates.{table_put, puts_at, puts_of, HasRoom, UsesRoom}
+use Rattle.admin_mgr.specs.RowUpdates.{table_put, puts_at, puts_of, HasRoom}
+use Rattle.admin_mgr.specs.private.OneRow.{UsesRoom}
 use Rattle.admin_mgr.specs.private.PlanChanges.{is_take}
 
 -- the room for the table of this number

@@ -7,7 +7,7 @@ use Rattle.rbac_sets.specs.NameOrder.{name_total, name_exact, pair_total, pair_e
 use Rattle.rbac_sets.proofs.SetLaws.{same_set}
 use Rattle.admin_mgr.specs.RbacState.{RbacState}
 use Rattle.admin_mgr.specs.Rows.{has_row}
-use Rattle.admin_mgr.specs.RowUpdates.{is_plain}
+use Rattle.admin_mgr.specs.private.OneRow.{is_plain}
 use Rattle.admin_mgr.specs.Laws.{RowsDetermine}
 
 -- states of one version with the same edges, and otherwise with the same rows, are equal

@@ -16,7 +16,7 @@ use Rattle.rbac_sets.specs.declared.row.Row.{Row}
 use Rattle.rbac_sets.specs.declared.row.Change.TheVariants.{Put, Take}
 use Rattle.admin_mgr.specs.RbacState.{RbacState}
 use Rattle.admin_mgr.specs.Rows.{has_row}
-use Rattle.admin_mgr.specs.RowUpdates.{is_plain, with_row, without_row}
+use Rattle.admin_mgr.specs.private.OneRow.{is_plain, with_row, without_row}
 use Rattle.admin_mgr.specs.private.PlanChanges.{take_all, put_all}
 use Rattle.admin_mgr.proofs.PlanRows.StepLaws.Way.{taking, putting}
 use Rattle.admin_mgr.proofs.PlanRows.StepLaws.{Steps, steps_nothing, steps_append, steps_to, steps_take, steps_put}

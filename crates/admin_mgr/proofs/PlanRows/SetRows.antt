@@ -5,7 +5,7 @@ use Rattle.rbac_sets.specs.declared.row.Row.{Row}
 use Rattle.rbac_sets.specs.declared.row.Row.TheVariants.{NameRow, SetRow, LockedRow}
 use Rattle.rbac_sets.specs.declared.row.TheConstants.Row.{USER, ROLE, OBJECT, PERMISSION, ASSIGNMENT, STATIC_MEMBER, DYNAMIC_MEMBER, SESSION, ACTIVATED_ROLE, STATIC_CARDINALITY, DYNAMIC_CARDINALITY}
 use Rattle.admin_mgr.specs.Rows.{has_row}
-use Rattle.admin_mgr.specs.RowUpdates.{with_row, without_row}
+use Rattle.admin_mgr.specs.private.OneRow.{with_row, without_row}
 use Rattle.admin_mgr.specs.private.PlanChanges.{pair_row, grant_row}
 use Rattle.admin_mgr.proofs.PlanRows.RunLaws.{IsSetOf}
 

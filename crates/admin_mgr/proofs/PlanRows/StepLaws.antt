@@ -7,7 +7,8 @@ use Rattle.rbac_sets.specs.declared.row.Change.{Change}
 use Rattle.rbac_sets.specs.declared.row.Change.TheVariants.{Put, Take}
 use Rattle.admin_mgr.specs.RbacState.{RbacState}
 use Rattle.admin_mgr.specs.Rows.{has_row}
-use Rattle.admin_mgr.specs.RowUpdates.{is_plain, with_row, without_row, with_edges, after_change, after_changes}
+use Rattle.admin_mgr.specs.RowUpdates.{with_edges}
+use Rattle.admin_mgr.specs.private.OneRow.{is_plain, with_row, without_row, after_change, after_changes}
 use Rattle.admin_mgr.proofs.PlanRows.ChangeLaws.{plain_pairs}
 
 -- whether changes remove rows or insert them

@@ -13,7 +13,7 @@ use Rattle.rbac_sets.specs.declared.row.Change.TheVariants.{Put, Take}
 use Rattle.admin_mgr.specs.RbacState.{RbacState}
 use Rattle.admin_mgr.specs.Rows.{has_row}
 use Rattle.admin_mgr.specs.Changes.{same_row, is_put, is_taken, puts, takes, IsOnce, TakesFirst, Turns}
-use Rattle.admin_mgr.specs.RowUpdates.{is_plain, with_row, without_row, after_changes}
+use Rattle.admin_mgr.specs.private.OneRow.{is_plain, with_row, without_row, after_changes}
 use Rattle.admin_mgr.proofs.PlanRows.ChangeLaws.{has_row-with, has_row-without, has_row-changes}
 use Rattle.admin_mgr.proofs.PlanRows.CommitLaws.{same_row-is, same_row-self, edges-changes, version-changes}
 use Rattle.admin_mgr.proofs.PlanRows.StepLaws.Way.{taking, putting}

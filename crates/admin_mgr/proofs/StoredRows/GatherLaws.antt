@@ -14,8 +14,8 @@ use Rattle.rbac_sets.proofs.SetLaws.{from_list_push}
 use Rattle.rbac_sets.specs.declared.row.Row.{Row}
 use Rattle.rbac_sets.specs.declared.row.Row.TheVariants.{NameRow, PairRow, GrantRow, SetRow, LockedRow}
 use Rattle.rbac_sets.specs.declared.row.TheConstants.Row.{USER, ROLE, OBJECT, PERMISSION, ASSIGNMENT, INHERITANCE, CLOSURE_PAIR, STATIC_MEMBER, DYNAMIC_MEMBER, SESSION, ACTIVATED_ROLE, STATIC_CARDINALITY, DYNAMIC_CARDINALITY}
-use Rattle.admin_mgr.specs.RowUpdates.{with_row}
-use Rattle.admin_mgr.specs.StoredSets.{StoredSets, gathered, names_of, pairs_of, grants_of, cardinalities_of, locks_of, with_pair_of, with_stored, is_known, same_key, HaveKeysOnce}
+use Rattle.admin_mgr.specs.private.OneRow.{with_row, with_pair_of, with_stored}
+use Rattle.admin_mgr.specs.StoredSets.{StoredSets, gathered, names_of, pairs_of, grants_of, cardinalities_of, locks_of, is_known, same_key, HaveKeysOnce}
 use Rattle.admin_mgr.specs.RowChecks.{AreReadable}
 
 -- ---- one more row

@@ -17,7 +17,8 @@ use Rattle.rbac_sets.specs.declared.row.TheConstants.Row.{USER, ROLE, OBJECT, PE
 use Rattle.rbac_sets.specs.Table.{table_of}
 use Rattle.rbac_sets.specs.declared.table.Table.{Table}
 use Rattle.admin_mgr.specs.Changes.{same_row}
-use Rattle.admin_mgr.specs.StoredSets.{StoredSets, gathered, has_key, names_of, pairs_of, grants_of, cardinalities_of, locks_of, is_known, is_among, same_key}
+use Rattle.admin_mgr.specs.StoredSets.{StoredSets, gathered, names_of, pairs_of, grants_of, cardinalities_of, locks_of, is_known, is_among, same_key}
+use Rattle.admin_mgr.specs.private.OneRow.{has_key}
 
 -- if no cardinality has the name, no set of this name has one
 pub no_cardinality : (cardinalities : Cardinalities) (name : Bytes) (n : ℕ) → any (λ (entry : Cardinality). same_name entry.0 name) cardinalities ≡ false → contains cardinalities (name, n) ≡ false

@@ -4,7 +4,8 @@ use Rattle.std.specs.List.{list_any}
 use Rattle.std.proofs.lemmas.Bool.{and_parts, and_from, not-true, true≢false}
 use Rattle.std.proofs.lemmas.List.{append_assoc}
 use Rattle.rbac_sets.specs.declared.row.Row.{Row}
-use Rattle.admin_mgr.specs.StoredSets.{StoredSets, gathered, has_key, with_stored, is_known, same_key}
+use Rattle.admin_mgr.specs.StoredSets.{StoredSets, gathered, is_known, same_key}
+use Rattle.admin_mgr.specs.private.OneRow.{has_key, with_stored}
 use Rattle.admin_mgr.specs.RowChecks.{AreReadable}
 use Rattle.admin_mgr.proofs.StoredRows.GatherLaws.{gathered_more, readable_none, readable_more, readable_known, readable_free}
 use Rattle.admin_mgr.proofs.StoredRows.KeyLaws.{key_among}

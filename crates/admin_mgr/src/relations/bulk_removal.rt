@@ -3,7 +3,7 @@ ghost use Rattle.std.specs.Prelude.{◌≡◌, ◌≤◌, List, true, false, len
 ghost use Rattle.rbac_sets.specs.declared.row.Change.{Change};
 ghost use Rattle.rbac_sets.specs.declared.row.Change.TheVariants.{Take};
 ghost use Rattle.admin_mgr.specs.RbacState.{RbacState};
-ghost use Rattle.admin_mgr.specs.RowUpdates.{after_changes, without_row};
+ghost use Rattle.admin_mgr.specs.private.OneRow.{after_changes, without_row};
 ghost use Rattle.admin_mgr.specs.private.BulkRemoval.{with_sets, HaveRoomOf};
 
 use rbac_sets::{Change, Name, Row, SetRemoval};
@@ -36,7 +36,7 @@ impl BulkRemoval {
     }
 
     // Takes the row if it is one of these sets or of the role hierarchy, and returns whether it is.
-    #[tactic(auto, unfolding(crate::specs::RowUpdates::without_row))]
+    #[tactic(auto, unfolding(crate::specs::private::OneRow::without_row))]
     fn take(&mut self, row: &Row) -> bool
         ensures taken { result ≡ true → (S : RbacState) → with_sets S self.new ≡ without_row (with_sets S self.old) row.now }
         ensures left { result ≡ false → self.new ≡ self.old }

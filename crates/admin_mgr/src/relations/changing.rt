@@ -6,7 +6,8 @@ ghost use Rattle.rbac_sets.specs.declared.row.TheConstants.Row.{ACTIVATED_ROLE};
 ghost use Rattle.rbac_sets.specs.declared.row.Change.{Change};
 ghost use Rattle.rbac_sets.specs.declared.row.Change.TheVariants.{Put, Take};
 ghost use Rattle.role_order.specs.Planned.{Fits, changed};
-ghost use Rattle.admin_mgr.specs.RowUpdates.{with_row, without_row, with_edges, after_change, after_changes, IsFree, AreFree, HasRoom, UsesRoom, table_put, puts_of};
+ghost use Rattle.admin_mgr.specs.RowUpdates.{with_edges, HasRoom, table_put, puts_of};
+ghost use Rattle.admin_mgr.specs.private.OneRow.{with_row, without_row, after_change, after_changes, IsFree, AreFree, UsesRoom};
 ghost use Rattle.admin_mgr.specs.PlanEffect.{order_of, HasRoomIn};
 ghost use Rattle.admin_mgr.specs.Changes.{takes};
 ghost use Rattle.admin_mgr.specs.private.PlanChanges.{is_take, pair_row, take_all};
@@ -59,7 +60,7 @@ impl Relations {
     }
 
     // Makes the changes one after the other, except those of rows of the role hierarchy.
-    #[tactic(auto, unfolding(crate::specs::RowUpdates::after_changes))]
+    #[tactic(auto, unfolding(crate::specs::private::OneRow::after_changes))]
     pub(crate) fn change(&mut self, mut changes: Vec<Change>)
         requires free { AreFree self.old.facts changes.items }
         requires room { HasRoom self.old.room changes.items }
@@ -151,7 +152,7 @@ impl Relations {
     }
 
     // Puts a row that the sets don't have yet. Rows of the role hierarchy are left to its plan.
-    #[tactic(auto, unfolding(crate::specs::RowUpdates::with_row, crate::specs::Rows::has_row))]
+    #[tactic(auto, unfolding(crate::specs::private::OneRow::with_row, crate::specs::Rows::has_row))]
     fn put(&mut self, row: Row)
         requires free { IsFree self.old.facts (Put row) }
         requires room { HasRoom self.old.room (Put row ∷ []) }
@@ -182,7 +183,7 @@ impl Relations {
     }
 
     // Takes a row. Rows of the role hierarchy are left to its plan.
-    #[tactic(auto, unfolding(crate::specs::RowUpdates::without_row), using(crate::proofs::PlanRows::RoomLaws::spends_none))]
+    #[tactic(auto, unfolding(crate::specs::private::OneRow::without_row), using(crate::proofs::PlanRows::RoomLaws::spends_none))]
     fn take(&mut self, row: &Row)
         ensures facts { self.new.facts ≡ without_row self.old.facts row.now }
         ensures room { UsesRoom (Take row.now) self.old.room self.new.room }

@@ -5,7 +5,8 @@ ghost use Rattle.rbac_sets.specs.Named.{is_named};
 ghost use Rattle.rbac_sets.specs.Sets.{contains, insert};
 ghost use Rattle.rbac_sets.specs.SortedSet.{set_of};
 ghost use Rattle.role_order.specs.Order.{IsAcyclic, IsClosure};
-ghost use Rattle.admin_mgr.specs.StoredSets.{gathered, has_key, is_known, with_stored};
+ghost use Rattle.admin_mgr.specs.StoredSets.{gathered, is_known};
+ghost use Rattle.admin_mgr.specs.private.OneRow.{has_key, with_stored};
 ghost use Rattle.admin_mgr.specs.RowChecks.{AreReadable};
 
 use crate::judge::set_refusals::has_set;
@@ -108,7 +109,7 @@ impl StoredSets {
     }
 
     // Whether there is a row with the key of this one.
-    #[tactic(auto, unfolding(crate::specs::StoredSets::has_key))]
+    #[tactic(auto, unfolding(crate::specs::private::OneRow::has_key))]
     fn has_key(&self, row: &Row) -> bool
         ensures { result ≡ has_key self.now row.now }
     {
@@ -139,7 +140,7 @@ impl StoredSets {
     }
 
     // Adds a row whose key is new. A row of an unknown kind is ignored.
-    #[tactic(auto, unfolding(crate::specs::RowUpdates::with_row, crate::specs::StoredSets::has_key))]
+    #[tactic(auto, unfolding(crate::specs::private::OneRow::with_row, crate::specs::private::OneRow::has_key))]
     fn put(&mut self, row: Row) -> Result<(), Refusal>
         requires { has_key self.old row ≡ false }
         ensures ok { OnOk result (self.new ≡ with_stored self.old row) }

@@ -24,7 +24,8 @@ use Rattle.sqlite_rules.specs.Edit.{taken_by}
 use Rattle.sqlite_trees.proofs.ListLemmas.{all_weaker, all-filter, all_from_map, ascending-filter, filter_same, filter-map, IsPermutation-filter}
 use Rattle.sqlite_schema.specs.Names.{place_of}
 use Rattle.sqlite_schema.specs.declared.program.Program.{Program}
-use Rattle.role_tables.specs.TableByName.{Place, cells_at, IsNamed, HaveIntIds, HasNoNull, IsUnreferenced, is_referred, IsAlone, HoldsRows, same_row, without_row}
+use Rattle.role_tables.specs.TableByName.{Place, cells_at, IsNamed, HaveIntIds, HasNoNull, is_referred, IsAlone, HoldsRows}
+use Rattle.role_tables.specs.private.NamedTables.{IsUnreferenced, same_row, without_row}
 use Rattle.role_tables.proofs.Meanings.Understood.{in_ok, in_ok_then, Plans, runs_so}
 use Rattle.role_tables.proofs.Meanings.Deletes.{tests_from, taking_query, Tests, deletes}
 use Rattle.role_tables.proofs.Meanings.DeletedRows.{is_at, answer_ids, taken_rows, tests_are, values_at, AreParams}

@@ -13,7 +13,8 @@ use Rattle.sqlite_resolve.specs.Lowering.{fresh, max_budget, take_slot, begin, f
 use Rattle.sqlite_resolve.specs.Scope.{Context, column_in, is_among, hit, only, in_level, find, column_at, term_of, column, declared}
 use Rattle.sqlite_resolve.specs.Body.{table_in, bound, bounds, shown}
 use Rattle.sqlite_resolve.specs.Expr.{lower_to, node, opened, passes}
-pub use Rattle.role_tables.specs.TableByName.{Place, AreIn}
+pub use Rattle.role_tables.specs.TableByName.{Place}
+pub use Rattle.role_tables.specs.private.NamedTables.{AreIn}
 use Rattle.role_tables.proofs.Meanings.ParsedTexts.{levels, column_expr, source_of}
 
 -- the budget is enough to read this number of nodes

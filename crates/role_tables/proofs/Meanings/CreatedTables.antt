@@ -23,7 +23,7 @@ use Rattle.sqlite_resolve.specs.Lowering.{Checked}
 use Rattle.sqlite_resolve.specs.Scope.{Name}
 use Rattle.sqlite_resolve.specs.Define as define
 use Rattle.sqlite_resolve.specs.Compile.{compiled, first, planned, timed, meaning, returning, command, create_table, creates, is_attached, is_reserved}
-use Rattle.role_tables.specs.StrictTable.{Creates}
+use Rattle.role_tables.specs.private.CreationSteps.{Creates}
 use Rattle.role_tables.proofs.Meanings.Understood.{in_ok}
 use Rattle.role_tables.proofs.Meanings.Creates as of
 

@@ -10,7 +10,7 @@ use Rattle.sqlite.specs.Listing.{understood}
 use Rattle.sqlite.specs.Effect.{Database}
 use Rattle.sqlite.specs.State.{State, Writes, Executes}
 use Rattle.sqlite.proofs.Callers.{IsPlain, command_of, statement_of, runs_as}
-use Rattle.role_tables.specs.StrictTable.{Creates}
+use Rattle.role_tables.specs.private.CreationSteps.{Creates}
 use Rattle.role_tables.proofs.Meanings.Parts.{went, same_value}
 
 module _ (schema : Schema) (table : Table) (sql : List ℕ) (is : command_of (understood schema sql) ≡ CreateTable) (text : statement_of sql (understood schema sql) ≡ sql) (defined : table_defined_by sql ≡ Ok table)

@@ -21,7 +21,8 @@ use Rattle.sqlite_trees.specs.View.{is_int}
 use Rattle.sqlite_rules.proofs.TableLemmas.{int_is}
 use Rattle.sqlite_value.proofs.OrderLemmas.{value_cmp_total}
 use Rattle.sqlite_trees.proofs.ListLemmas.{map-map, all_weaker, all-filter, filter_same}
-use Rattle.role_tables.specs.TableByName.{HaveIntIds, HasNoNull, same_row}
+use Rattle.role_tables.specs.TableByName.{HaveIntIds, HasNoNull}
+use Rattle.role_tables.specs.private.NamedTables.{same_row}
 use Rattle.role_tables.proofs.Meanings.Columns.{Place}
 use Rattle.role_tables.proofs.Meanings.Deletes.{is_equal, tests_from, taking_query}
 use Rattle.role_tables.proofs.Meanings.SelectedRows.{stored_tree}

@@ -13,7 +13,8 @@ use Rattle.sqlite_rules.specs.Lists.{Has}
 use Rattle.sqlite_rules.specs.Action.{work_by, work_for, deed_for, pairs}
 use Rattle.sqlite_rules.specs.declared.action.Deed.{Deed}
 use Rattle.sqlite_rules.proofs.PlaceLemmas.{named_parent}
-use Rattle.role_tables.specs.TableByName.{IsUnreferenced, IsAlone, is_referred, refers_to}
+use Rattle.role_tables.specs.TableByName.{IsAlone, is_referred, refers_to}
+use Rattle.role_tables.specs.private.NamedTables.{IsUnreferenced}
 
 or_none : (a b : Bool) → (a || b) ≡ false → (a ≡ false) × (b ≡ false)
 or_none true b h = absurd (cc)

@@ -26,7 +26,8 @@ use Rattle.sqlite_trees.proofs.TreeLemmas.{IsTable-put_row, all-put_row}
 use Rattle.sqlite_trees.proofs.ListLemmas.{all_weaker}
 use Rattle.sqlite_trees.specs.View.{is_int}
 use Rattle.role_tables.specs.StrictTable.{strict_table}
-use Rattle.role_tables.specs.TableByName.{Place, cells_at, IsNamed, HaveIntIds, IsUnreferenced, is_referred, IsAlone, HoldsRows}
+use Rattle.role_tables.specs.TableByName.{Place, cells_at, IsNamed, HaveIntIds, is_referred, IsAlone, HoldsRows}
+use Rattle.role_tables.specs.private.NamedTables.{IsUnreferenced}
 use Rattle.role_tables.proofs.Meanings.Understood.{in_ok, in_ok_then, Plans, runs_so}
 use Rattle.role_tables.proofs.Meanings.Inserts.{Inserts, inserts_planned}
 use Rattle.role_tables.proofs.Meanings.ChangedRows.{KeepsTables}

@@ -10,8 +10,9 @@ use Rattle.sqlite.specs.Effect.{Database, IsDatabase, value_rows}
 use Rattle.sqlite.specs.State.{State, Executes}
 use Rattle.sqlite_rules.specs.Cast.{cast_all}
 use Rattle.sqlite_trees.proofs.ListLemmas.{all-slice_get, all-permutation, all-filter}
-use Rattle.role_tables.specs.TableByName.{Place, AreIn, cells_at, HasNoNull, HoldsRows, without_row, same_row}
-use Rattle.role_tables.specs.OfficeTables.{StoredTable, Meta, Names, Pairs, Grants, Sets, Locks, making, made, places, Rows, code, changed_at, OfficeRow, meta_row, name_row, pair_row, grant_row, set_row, locked_row, table_of, cells, HoldsTables}
+use Rattle.role_tables.specs.TableByName.{Place, cells_at, HasNoNull, HoldsRows}
+use Rattle.role_tables.specs.private.NamedTables.{AreIn, without_row, same_row, changed_at}
+use Rattle.role_tables.specs.OfficeTables.{StoredTable, Meta, Names, Pairs, Grants, Sets, Locks, making, made, places, Rows, code, OfficeRow, meta_row, name_row, pair_row, grant_row, set_row, locked_row, table_of, cells, HoldsTables}
 use Rattle.role_tables.specs.private.Texts.{insert_text, delete_text}
 use Rattle.role_tables.proofs.OfficeTables.Texts.{are_in, take_is, where_of, are_ours, put_terms, put_is}
 use Rattle.role_tables.proofs.Meanings.ForeignKeys.{unreferenced}

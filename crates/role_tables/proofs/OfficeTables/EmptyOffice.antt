@@ -5,10 +5,11 @@ use Rattle.admin_mgr.specs.RowChecks.{AreRowsOf}
 use Rattle.admin_mgr.proofs.StateAfter.EmptyLaws.{empty_has_no_row}
 use Rattle.sqlite.specs.Effect.{Database}
 use Rattle.sqlite.specs.State.{State, Executes}
-use Rattle.role_tables.specs.OfficeTables.{StoredTable, Meta, Names, Pairs, Grants, Sets, Locks, made, Rows, changed_at, meta_row, cells, is_wanted, tables_of, HoldsTables}
+use Rattle.role_tables.specs.OfficeTables.{StoredTable, Meta, Names, Pairs, Grants, Sets, Locks, made, Rows, meta_row, cells, is_wanted, tables_of, HoldsTables}
+use Rattle.role_tables.specs.private.NamedTables.{changed_at}
 use Rattle.role_tables.specs.private.Texts.{insert_text}
 use Rattle.role_tables.specs.StoredState.{stored_rows, HoldsState}
-use Rattle.role_tables.specs.Creation.{with_tables, no_table, no_rows, IsStage, AreNew, StageAfter, InsertsVersion}
+use Rattle.role_tables.specs.private.CreationSteps.{with_tables, no_table, no_rows, IsStage, AreNew, StageAfter, InsertsVersion}
 use Rattle.role_tables.proofs.OfficeTables.Changes.{puts_row}
 use Rattle.role_tables.proofs.StoredRows.Texts.{holds_same}
 

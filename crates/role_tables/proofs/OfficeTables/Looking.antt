@@ -12,7 +12,7 @@ use Rattle.sqlite_schema.specs.Names.{same_name, table_named}
 use Rattle.role_tables.specs.TableByName.{is_referred}
 use Rattle.role_tables.specs.OfficeTables.{StoredTable, Meta, Names, Pairs, Grants, Sets, Locks, making, is_wanted, row_tables, tables_of}
 use Rattle.role_tables.specs.SchemaTests.{is_free, are_free, may_count, may_create}
-use Rattle.role_tables.specs.Creation.{IsStage, no_table, no_rows}
+use Rattle.role_tables.specs.private.CreationSteps.{IsStage, no_table, no_rows}
 
 not_placed : {A : Type 0} (p : A → Bool) (n : ℕ) (xs : List A) → list_any p xs ≡ false → position_from p n xs ≡ None
 not_placed p n [] none = refl

@@ -6,7 +6,7 @@ use Rattle.sqlite.specs.Tree.{IsTable}
 use Rattle.sqlite.specs.Change.{created, next_tree}
 use Rattle.sqlite.specs.State.{State}
 use Rattle.sqlite_schema.specs.Names.{same_name, table_named}
-use Rattle.role_tables.specs.StrictTable.{Creates}
+use Rattle.role_tables.specs.private.CreationSteps.{Creates}
 use Rattle.role_tables.specs.TableByName.{cells_at, IsNamed, HaveIntIds, is_referred, IsAlone, HoldsRows}
 use Rattle.role_tables.proofs.OfficeTables.Lists.{found_last, got_last}
 use Rattle.sqlite_tied.specs.Compute.{everything}

@@ -17,10 +17,9 @@ use Rattle.sqlite_catalog.proofs.StepLemmas.{table_below}
 use Rattle.sqlite_trees.proofs.ListLemmas.{all-slice_get}
 use Rattle.role_tables.specs.TableByName.{IsAlone, HoldsRows, HaveIntIds, cells_at, is_referred, refers_to}
 use Rattle.std.specs.List.Sorted.{IsPermutation}
-use Rattle.role_tables.specs.StrictTable.{Creates}
+use Rattle.role_tables.specs.private.CreationSteps.{Creates, with_table, with_tables, IsStage, AreNew, StageAfter}
 use Rattle.role_tables.specs.OfficeTables.{StoredTable, Meta, Names, Pairs, Grants, Sets, Locks, making, made, places, Rows, code, is_wanted}
 use Rattle.role_tables.specs.private.Texts.{create_text}
-use Rattle.role_tables.specs.Creation.{with_table, with_tables, IsStage, AreNew, StageAfter}
 use Rattle.role_tables.proofs.OfficeTables.Lists.{found_first, none_last, got_first, any_last, any_same}
 use Rattle.std.proofs.lemmas.List.{take_more, take_all}
 use Rattle.role_tables.proofs.OfficeTables.Changes.{same_code}

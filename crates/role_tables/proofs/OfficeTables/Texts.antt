@@ -8,7 +8,8 @@ use Rattle.sqlite_tied.specs.Compute.{everything}
 use Rattle.sqlite_ast.specs.declared.Expr.{Expr}
 use Rattle.sqlite_resolve.specs.Compile.{first}
 use Rattle.sqlite_resolve.specs.Lowering.{max_budget}
-use Rattle.role_tables.specs.TableByName.{Place, AreIn, names_of}
+use Rattle.role_tables.specs.TableByName.{Place, names_of}
+use Rattle.role_tables.specs.private.NamedTables.{AreIn}
 use Rattle.role_tables.specs.OfficeTables.{StoredTable, Meta, Names, Pairs, Grants, Sets, Locks, making, made, places}
 use Rattle.role_tables.specs.private.Texts.{insert_text, delete_text, read_text}
 use Rattle.role_tables.proofs.Meanings.ParsedTexts.{column_is}

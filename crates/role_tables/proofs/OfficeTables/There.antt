@@ -10,7 +10,7 @@ use Rattle.sqlite_schema.specs.declared.schema.Column.{Column}
 use Rattle.role_tables.specs.TableByName.{Place, names_of, cells_at}
 use Rattle.role_tables.specs.OfficeTables.{StoredTable, making, places, is_wanted, tables_of}
 use Rattle.role_tables.specs.TableContents.{find_places, find_table, contents_of}
-use Rattle.role_tables.specs.SchemaTests.{has_all, is_such, is_there, are_there}
+use Rattle.role_tables.specs.private.NamedTables.{has_all, is_such, is_there, are_there}
 use Rattle.role_tables.proofs.OfficeTables.Looking.{each_of, all_of}
 
 mapped_some : {A B : Type 0} (f : A → B) (o : Option A) → is_some (option_map f o) ≡ is_some o

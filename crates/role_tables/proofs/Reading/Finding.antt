@@ -23,7 +23,8 @@ use Rattle.sqlite_resolve.specs.Lowering.{max_budget}
 use Rattle.sqlite_resolve.specs.Compile.{first}
 use Rattle.sqlite_schema.specs.Names.{table_named, column_named}
 use Rattle.sqlite_schema.specs.declared.schema.Column.{Column}
-use Rattle.role_tables.specs.TableByName.{Place, AreIn, IsNamed, names_of, cells_at}
+use Rattle.role_tables.specs.TableByName.{Place, IsNamed, names_of, cells_at}
+use Rattle.role_tables.specs.private.NamedTables.{AreIn}
 use Rattle.role_tables.specs.OfficeTables.{StoredTable, making, places}
 use Rattle.role_tables.specs.private.Texts.{read_text}
 use Rattle.role_tables.specs.TableContents.{find_places, contents_of}

@@ -11,7 +11,7 @@ use Rattle.admin_mgr.specs.RbacState.{RbacState}
 use Rattle.admin_mgr.specs.RowChecks.{RefusesRows, IsStateOf}
 use Rattle.role_tables.specs.OfficeTables.{StoredTable, Meta, Names, Pairs, Grants, Sets, Locks, is_wanted, row_tables}
 use Rattle.role_tables.specs.TableContents.{TableContents, has_names, contents_of}
-use Rattle.role_tables.specs.SchemaTests.{is_there}
+use Rattle.role_tables.specs.private.NamedTables.{is_there}
 use Rattle.role_tables.specs.OpeningChecks.{IsOfVersion2, values, versions, is_number, is_known_version, HasCommonTables, IsOffice, HasKnownVersions, version_in, HasLocks, HasKnownOffice, AreWellTyped, HaveValidNames, rows_in_all, office_rows, RefusesContents, IsStateOfContents}
 use Rattle.role_tables.specs.Migration.{RefusesMigration}
 use Rattle.role_tables.specs.private.MetaRows.{IsUnknownOf, Sees}

@@ -16,8 +16,8 @@ use Rattle.sqlite.specs.Order.{row_cmp, value_cmp}
 use Rattle.sqlite_value.proofs.OrderLemmas.{row_cmp_total, value_cmp-Int, value_cmp-Text}
 use Rattle.admin_mgr.specs.Changes as change
 use Rattle.admin_mgr.proofs.PlanRows.CommitLaws.{same_row-self, same_row-is}
-use Rattle.role_tables.specs.TableByName.{same_row, without_row}
-use Rattle.role_tables.specs.OfficeTables.{StoredTable, Meta, Names, Pairs, Grants, Sets, Locks, code, changed_at, OfficeRow, meta_row, name_row, pair_row, grant_row, set_row, locked_row, table_of, cells}
+use Rattle.role_tables.specs.private.NamedTables.{same_row, without_row, changed_at}
+use Rattle.role_tables.specs.OfficeTables.{StoredTable, Meta, Names, Pairs, Grants, Sets, Locks, code, OfficeRow, meta_row, name_row, pair_row, grant_row, set_row, locked_row, table_of, cells}
 use Rattle.role_tables.specs.StoredState.{stored, is_of, cells_of, meta_of, stored_rows}
 use Rattle.role_tables.proofs.OfficeTables.Changes.{same_code}
 

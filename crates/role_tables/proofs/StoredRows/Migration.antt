@@ -19,14 +19,16 @@ use Rattle.sqlite.specs.Order.{row_cmp}
 use Rattle.sqlite_value.proofs.OrderLemmas.{row_cmp_total}
 use Rattle.sqlite.specs.Effect.{Database}
 use Rattle.sqlite.specs.State.{State, Executes}
-use Rattle.role_tables.specs.TableByName.{same_row, without_row, is_referred}
+use Rattle.role_tables.specs.TableByName.{is_referred}
+use Rattle.role_tables.specs.private.NamedTables.{same_row, without_row, changed_at}
 use Rattle.sqlite_schema.specs.Names.{table_named}
-use Rattle.role_tables.specs.OfficeTables.{StoredTable, Meta, Names, Pairs, Grants, Sets, Locks, making, Rows, changed_at, meta_row, cells, is_wanted, HoldsTables}
+use Rattle.role_tables.specs.OfficeTables.{StoredTable, Meta, Names, Pairs, Grants, Sets, Locks, making, Rows, meta_row, cells, is_wanted, HoldsTables}
 use Rattle.role_tables.specs.private.Texts.{delete_text}
 use Rattle.role_tables.specs.StoredState.{is_of, cells_of, stored_rows, HoldsState}
 use Rattle.role_tables.specs.SchemaTests.{is_free, may_count}
-use Rattle.role_tables.specs.Creation.{with_table, IsStage, StageAfter, InsertsVersion}
-use Rattle.role_tables.specs.Migration.{may_lock, DeletesVersion}
+use Rattle.role_tables.specs.private.CreationSteps.{with_table, IsStage, StageAfter, InsertsVersion}
+use Rattle.role_tables.specs.Migration.{may_lock}
+use Rattle.role_tables.specs.private.Transactions.{DeletesVersion}
 use Rattle.role_tables.proofs.OfficeTables.Changes.{takes_row}
 use Rattle.role_tables.proofs.StoredRows.Texts.{holds_same}
 use Rattle.role_tables.proofs.OfficeTables.Looking.{free_parts, counts}

@@ -26,7 +26,8 @@ use Rattle.sqlite.proofs.StateLemmas.{survives_then}
 use Rattle.sqlite.proofs.Callers.{survives_begin}
 use Rattle.role_tables.specs.OfficeTables.{HoldsTables, table_of, is_wanted}
 use Rattle.role_tables.specs.StoredState.{stored, stored_rows, HoldsState}
-use Rattle.role_tables.specs.Durability.{HoldsDurably, HoldsAsBefore, Transacts}
+use Rattle.role_tables.specs.Durability.{HoldsDurably, HoldsAsBefore}
+use Rattle.role_tables.specs.private.Transactions.{Transacts}
 use Rattle.role_tables.specs.private.TableChanges.{AreKept, TablesAfter}
 
 -- ---- a transaction

@@ -6,7 +6,7 @@ use Rattle.sqlite.specs.State.{State, IsUnchanged}
 use Rattle.role_tables.specs.OfficeTables.{StoredTable, Meta, Locks}
 use Rattle.role_tables.specs.TableContents.{TableContents, is_well_typed, has_names, row_in, contents_of}
 use Rattle.role_tables.specs.OpeningChecks.{values, rows_in_all}
-use Rattle.role_tables.specs.SchemaTests.{is_there}
+use Rattle.role_tables.specs.private.NamedTables.{is_there}
 use Rattle.role_tables.specs.declared.meta_rows.Metas.{Metas}
 use Rattle.rbac_sets.specs.declared.row.Row.{Row}
 use Rattle.rbac_sets.specs.declared.refusal.Refusal.{Refusal}

@@ -11,7 +11,8 @@ use Rattle.admin_mgr.specs.RowsAfter.{rows_after, rows_by}
 use Rattle.sqlite.specs.State.{State}
 use Rattle.sqlite.specs.declared.error.Error.{Error}
 use Rattle.role_tables.specs.OfficeTables.{table_of, is_wanted, HoldsTables}
-use Rattle.role_tables.specs.Durability.{IsDurable, TransactsTo}
+use Rattle.role_tables.specs.Durability.{IsDurable}
+use Rattle.role_tables.specs.private.Transactions.{TransactsTo}
 use Rattle.role_tables.specs.StoredState.{stored, stored_rows}
 
 -- an office of this version has the table of the changed row

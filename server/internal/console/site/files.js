@@ -8,9 +8,12 @@ export function download(name, type, text) {
     setTimeout(() => URL.revokeObjectURL(link.href), 60_000);
 }
 
-/** Returns a cell of CSV. What a spreadsheet would take for a formula gets an apostrophe, and one more if it has some, as in the reports. */
+/**
+ * Returns a cell of CSV. What a spreadsheet would take for a formula gets an apostrophe, and one more if it has some, as in the reports: the
+ * text, or what is behind a semicolon, which separates cells in many countries.
+ */
 function cell(text) {
-    const safe = /^'*[=+\-@]/.test(text) ? `'${text}` : text;
+    const safe = text.replace(/(^|;)('*[=+\-@＝＋－＠])/g, "$1'$2");
     return /[",\r\n]/.test(safe) ? `"${safe.replaceAll('"', '""')}"` : safe;
 }
 

@@ -34,7 +34,7 @@ export function fileName(review, ending) {
 export function reviewName(text) {
     const name = text.trim();
     if (!name || new TextEncoder().encode(name).length > MOST_NAME || /[\p{Cc}\u2028\u2029]/u.test(name)) {
-        throw new Unfit(`The name of a review has 1 to ${MOST_NAME} bytes, and no control characters.`);
+        throw new Unfit(`The name of a review has 1 to ${MOST_NAME} bytes, and no control characters or line separators.`);
     }
     return name;
 }

@@ -3,7 +3,7 @@ use Rattle.std.proofs.Math.Seq.{drop-cons}
 use Rattle.std.proofs.lemmas.Result.{err_from_is_err_and}
 use Rattle.rbac_sets.proofs.Counting.{risen_since}
 use Rattle.rbac_sets.proofs.Known.{Appends-more}
-use Rattle.role_http.specs.Pieces.{all_of}
+use Rattle.role_http.specs.private.PieceReferences.{all_of}
 use Rattle.role_http.proofs.reply.write_pieces.Goals as goal
 
 next : (pieces : List (Bor (List ℕ))) (i : ℕ) (d : Bor (List ℕ)) → i < length pieces → all_of (drop i pieces) ≡ (get_or pieces i d).now ++ all_of (drop (i + 1) pieces)

@@ -1,6 +1,6 @@
 use Rattle.std.proofs.Common.{◌≡◌, ◌++◌, ◌≤◌, List, ℕ, drop}
 use Rattle.std.specs.Io.KnownBytes.{Appends}
-use Rattle.role_http.specs.Pieces.{all_of}
+use Rattle.role_http.specs.private.PieceReferences.{all_of}
 use Rattle.role_http.proofs.reply.write_pieces.Given as goal
 
 abbrev pub invariant-loop-piece : goal.invariant-loop-piece

@@ -1,5 +1,6 @@
 use Rattle.std.proofs.Common.{◌≡◌, ◌∙◌, ap, refl}
-use Rattle.role_http.specs.Pieces.{all_of, joined}
+use Rattle.role_http.specs.Pieces.{joined}
+use Rattle.role_http.specs.private.PieceReferences.{all_of}
 use Rattle.role_http.specs.ReplyBytes.{reply_bytes}
 use Rattle.role_http.proofs.reply.write_reply.Goals as goal
 

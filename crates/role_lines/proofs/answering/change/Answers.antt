@@ -4,7 +4,7 @@ use Rattle.admin_mgr.specs.After.{after}
 use Rattle.admin_mgr.specs.PlanEffect.{LeadsTo, tally_of_report}
 use Rattle.role_json.specs.Answer.{text_of}
 use Rattle.role_json.specs.RequestContent.{Change}
-use Rattle.role_lines.specs.LineAnswer.{RefusesRequest}
+use Rattle.role_lines.specs.private.LineAnswer.{RefusesRequest}
 use Rattle.role_lines.proofs.Judging.{command_done, command_refused}
 use Rattle.role_lines.proofs.answering.change.Goals as goal
 

@@ -1,7 +1,7 @@
 use Rattle.std.proofs.Common.{IfOk, IfErr, subst, sym}
 use Rattle.role_json.specs.Answer.{text_of}
 use Rattle.role_json.specs.RequestContent.{requested}
-use Rattle.role_lines.specs.LineAnswer.{AnswersLine, HadNoMemory}
+use Rattle.role_lines.specs.private.LineAnswer.{AnswersLine, HadNoMemory}
 use Rattle.role_lines.proofs.Judging.{line_answered, line_unread}
 use Rattle.role_lines.proofs.Results.{if_ok-then}
 use Rattle.role_lines.proofs.answering.line_verdict.Goals as goal

@@ -5,7 +5,7 @@ use Rattle.review_mgr.specs.Answering.{answer_content, value}
 use Rattle.review_mgr.specs.Questions.{refused}
 use Rattle.role_json.specs.Answer.{text_of}
 use Rattle.role_json.specs.RequestContent.{Ask}
-use Rattle.role_lines.specs.LineAnswer.{RefusesRequest}
+use Rattle.role_lines.specs.private.LineAnswer.{RefusesRequest}
 use Rattle.role_lines.proofs.Judging.{question_answered, question_refused}
 use Rattle.role_lines.proofs.answering.question.Goals as goal
 

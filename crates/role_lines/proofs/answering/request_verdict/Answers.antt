@@ -1,7 +1,7 @@
 use Rattle.std.proofs.Common.{IfOk, IfErr, subst, sym}
 use Rattle.role_json.specs.Answer.{text_of}
 use Rattle.role_json.specs.RequestContent.{requested}
-use Rattle.role_lines.specs.LineAnswer.{AnswersRequest, HadNoMemory}
+use Rattle.role_lines.specs.private.LineAnswer.{AnswersRequest, HadNoMemory}
 use Rattle.role_lines.proofs.Judging.{request_done, request_declined}
 use Rattle.role_lines.proofs.answering.request_verdict.Goals as goal
 

@@ -4,7 +4,7 @@ use Rattle.sqlite.proofs.StateLemmas.{survives_weaker}
 use Rattle.role_tables.specs.OfficeTables.{Meta, tables_of}
 use Rattle.role_tables.specs.OpeningChecks.{HasCommonTables}
 use Rattle.role_tables.specs.TableContents.{contents_of}
-use Rattle.role_tables.specs.SchemaTests.{are_there}
+use Rattle.role_tables.specs.private.NamedTables.{are_there}
 use Rattle.role_tables.proofs.OfficeTables.There.{all_found, some_missed}
 use Rattle.role_tables.proofs.content_checks.find_metas.Goals as goal
 

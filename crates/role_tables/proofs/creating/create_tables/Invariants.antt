@@ -1,7 +1,7 @@
 use Rattle.std.proofs.Common.{◌≡◌, take}
 use Rattle.sqlite.specs.State.{HasCleanDisk, KeepsCommit, Survives}
 use Rattle.sqlite.specs.Held.{state}
-use Rattle.role_tables.specs.Creation.{StageAfter}
+use Rattle.role_tables.specs.private.CreationSteps.{StageAfter}
 use Rattle.role_tables.proofs.creating.create_tables.Given as goal
 
 abbrev pub invariant-tables : goal.invariant-tables

@@ -4,7 +4,7 @@ use Rattle.sqlite.specs.Held.{state}
 use Rattle.admin_mgr.specs.StateNames.{AreNamed}
 use Rattle.admin_mgr.specs.RbacState.{empty_state}
 use Rattle.admin_mgr.proofs.StateAfter.NamedLaws.{empty_named}
-use Rattle.role_tables.specs.Creation.{IsStage, no_table, no_rows}
+use Rattle.role_tables.specs.private.CreationSteps.{IsStage, no_table, no_rows}
 use Rattle.role_tables.specs.SchemaTests.{may_create}
 use Rattle.role_tables.specs.Durability.{LeavesBeforeOr, IsDurable}
 use Rattle.role_tables.proofs.OfficeTables.Looking.{first_stage}

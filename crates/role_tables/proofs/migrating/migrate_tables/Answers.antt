@@ -3,7 +3,7 @@ use Rattle.sqlite.specs.State.{HasCleanDisk, KeepsCommit}
 use Rattle.sqlite.specs.Held.{state}
 use Rattle.admin_mgr.specs.OfficeRun.{migrated_to_version_2}
 use Rattle.role_tables.specs.StoredState.{HoldsState}
-use Rattle.role_tables.specs.Durability.{Transacts}
+use Rattle.role_tables.specs.private.Transactions.{Transacts}
 use Rattle.role_tables.proofs.Meanings.Surviving.{survives_both, keeps_both}
 use Rattle.role_tables.proofs.StoredRows.Migration.{migrated}
 use Rattle.role_tables.proofs.StoredRows.Transactions.{transaction_ended}

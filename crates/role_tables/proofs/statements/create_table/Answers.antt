@@ -1,7 +1,7 @@
 use Rattle.std.proofs.Common.{◌∷◌, [], sym, subst}
 use Rattle.sqlite.specs.Held.{state}
 use Rattle.sqlite.specs.State.{KeepsCommit}
-use Rattle.role_tables.specs.Creation.{StageAfter}
+use Rattle.role_tables.specs.private.CreationSteps.{StageAfter}
 use Rattle.role_tables.specs.private.Texts.{create_text}
 use Rattle.role_tables.proofs.OfficeTables.Staging.{stage_created}
 use Rattle.role_tables.proofs.StoredRows.Texts.{made_inside, kept_inside, keeps_itself}

@@ -3,7 +3,7 @@ use Rattle.sqlite.specs.Held.{state}
 use Rattle.sqlite.specs.State.{KeepsCommit}
 use Rattle.role_tables.specs.OfficeTables.{Meta, meta_row, cells}
 use Rattle.role_tables.specs.private.Texts.{delete_text}
-use Rattle.role_tables.specs.Migration.{DeletesVersion}
+use Rattle.role_tables.specs.private.Transactions.{DeletesVersion}
 use Rattle.role_tables.proofs.StoredRows.Migration.{version_taken}
 use Rattle.role_tables.proofs.StoredRows.Texts.{made_inside, kept_inside, keeps_itself}
 use Rattle.role_tables.proofs.statements.delete_version.Goals as goal

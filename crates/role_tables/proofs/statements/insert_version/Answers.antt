@@ -3,7 +3,7 @@ use Rattle.sqlite.specs.Held.{state}
 use Rattle.sqlite.specs.State.{KeepsCommit}
 use Rattle.role_tables.specs.OfficeTables.{Meta, meta_row, cells}
 use Rattle.role_tables.specs.private.Texts.{insert_text}
-use Rattle.role_tables.specs.Creation.{InsertsVersion}
+use Rattle.role_tables.specs.private.CreationSteps.{InsertsVersion}
 use Rattle.role_tables.proofs.OfficeTables.EmptyOffice.{version_put}
 use Rattle.role_tables.proofs.StoredRows.Texts.{made_inside, kept_inside, keeps_itself}
 use Rattle.role_tables.proofs.statements.insert_version.Goals as goal

@@ -2,7 +2,7 @@ use Rattle.std.proofs.Common.{◌≡◌, rules, arith, subst}
 use Rattle.sqlite.specs.State.{HasCleanDisk}
 use Rattle.sqlite.specs.Held.{state}
 use Rattle.role_tables.specs.StoredState.{HoldsState}
-use Rattle.role_tables.specs.Durability.{Transacts}
+use Rattle.role_tables.specs.private.Transactions.{Transacts}
 use Rattle.role_tables.proofs.StoredRows.Transactions.{state_after, transaction_ended}
 use Rattle.role_tables.proofs.writing.write_changes.Goals as goal
 

@@ -4,7 +4,7 @@ use Rattle.role_json.specs.Answer.{text_of}
 use Rattle.role_json.specs.RequestContent.{requested}
 use Rattle.role_json.specs.declared.answer.Verdict.TheVariants.{Done}
 use Rattle.role_wire.specs.Continuation.{ReachesState}
-use Rattle.role_wire.specs.LineAnswer.{FailsRequest}
+use Rattle.role_wire.specs.private.RequestAnswer.{FailsRequest}
 use Rattle.role_wire.specs.declared.lines.Unanswered.TheVariants.{Memory}
 use Rattle.role_wire.specs.Outcome.{outcome_of, state_after, outcome_text}
 use Rattle.role_wire.proofs.Judged.{judged_refusal, performed_unanswered}

@@ -17,7 +17,7 @@ pub returns-clause-ok : goal.returns-clause-ok
 returns-clause-ok c S are =
     let before = among (take c.loop-row.row-index c.args.rows.now) in
     c.count_rows.ensures.keeps (rows_of S)
-    (keeps_fitted c.forget_all_barred.new.self (rows_of S) c.fit.new.self c.fit.ensures
+    (keeps_fitted c.forget_all_barred.new.self (rows_of S) c.fit.new.self c.fit-2.new.self c.fit-3.new.self c.fit.ensures c.fit-2.ensures c.fit-3.ensures
     (keeps_same c.forget_all_barred.new.self (record before { barred = (rows_of S).barred; barred_by = (rows_of S).barred_by }) (rows_of S)
     (λ row. are.rows_are row ∙ ap (λ l. is_among l row) (sym (take_all c.loop-row.row-index c.args.rows.now (omega arith)))) (λ role. refl) (λ set role. refl)
     (c.forget_all_barred.ensures before (rows_of S).barred (rows_of S).barred_by c.loop-row.invariant)))

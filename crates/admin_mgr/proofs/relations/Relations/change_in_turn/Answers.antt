@@ -1,5 +1,6 @@
 use Rattle.std.proofs.Common.{◌≡◌, ◌∷◌, drop, rules, sym, ap, subst, ◌∙◌}
-use Rattle.admin_mgr.specs.RowUpdates.{after_changes, AreFree, HasRoom}
+use Rattle.admin_mgr.specs.RowUpdates.{HasRoom}
+use Rattle.admin_mgr.specs.private.OneRow.{after_changes, AreFree}
 use Rattle.std.proofs.lemmas.List.{nil_from_length}
 use Rattle.admin_mgr.proofs.PlanRows.RoomLaws.{room_first, room_left}
 use Rattle.admin_mgr.proofs.PlanRows.RemovedTogether.{made_first, room_behind}

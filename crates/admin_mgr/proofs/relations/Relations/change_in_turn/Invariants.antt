@@ -1,5 +1,6 @@
 use Rattle.std.proofs.Common.{◌≡◌, length}
-use Rattle.admin_mgr.specs.RowUpdates.{after_changes, AreFree, HasRoom}
+use Rattle.admin_mgr.specs.RowUpdates.{HasRoom}
+use Rattle.admin_mgr.specs.private.OneRow.{after_changes, AreFree}
 use Rattle.admin_mgr.specs.PlanEffect.{order_of}
 use Rattle.admin_mgr.proofs.relations.Relations.change_in_turn.Given as goal
 

@@ -4,7 +4,7 @@ use Rattle.rbac_sets.specs.SortedSet.{set_of}
 use Rattle.rbac_sets.specs.declared.row.Row.TheVariants.{LockedRow}
 use Rattle.admin_mgr.specs.declared.relations.Relations.TheInside.{Inside}
 use Rattle.admin_mgr.specs.View.{view_of}
-use Rattle.admin_mgr.specs.RowUpdates.{after_changes}
+use Rattle.admin_mgr.specs.private.OneRow.{after_changes}
 use Rattle.admin_mgr.specs.declared.relations.bulk_removal.BulkRemoval.{BulkRemoval}
 use Rattle.admin_mgr.specs.private.BulkRemoval.{with_sets}
 use Rattle.admin_mgr.proofs.PlanRows.RemovedTogether.{room_kept}

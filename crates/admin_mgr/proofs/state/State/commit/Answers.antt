@@ -1,6 +1,6 @@
 use Rattle.std.proofs.Common.{◌≡◌, sym, subst, ◌∙◌}
 use Rattle.admin_mgr.specs.StateWithRoom.{StateWithRoom}
-use Rattle.admin_mgr.specs.RowUpdates.{after_changes}
+use Rattle.admin_mgr.specs.private.OneRow.{after_changes}
 use Rattle.admin_mgr.specs.Good.{IsGood}
 use Rattle.admin_mgr.specs.StateNames.{AreNamed}
 use Rattle.admin_mgr.proofs.PlanRows.CommitLaws.{free, leads, leads_edges}

@@ -3,7 +3,7 @@ use Rattle.std.specs.List.Sorted.{IsStrictlySortedBy}
 use Rattle.std.proofs.lemmas.Bool.{true≢false}
 use Rattle.std.proofs.lemmas.List.{drop-drop}
 use Rattle.rbac_sets.specs.Sets.{from_list}
-use Rattle.rbac_sets.specs.SetRemoval.{IsFirst}
+use Rattle.rbac_sets.specs.private.Gaps.{IsFirst}
 use Rattle.rbac_sets.proofs.InOrder.{all_take}
 use Rattle.rbac_sets.proofs.Runs.{take_whole}
 use Rattle.rbac_sets.proofs.Gaps.{taken_first, taken_none}

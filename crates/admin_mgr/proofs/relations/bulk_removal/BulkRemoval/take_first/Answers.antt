@@ -1,5 +1,5 @@
 use Rattle.std.proofs.Common.{◌<◌, length, rules, arith, refl, sym, ◌∙◌, ap}
-use Rattle.admin_mgr.specs.RowUpdates.{without_row, after_changes}
+use Rattle.admin_mgr.specs.private.OneRow.{without_row, after_changes}
 use Rattle.admin_mgr.specs.private.BulkRemoval.{with_sets}
 use Rattle.admin_mgr.proofs.PlanRows.RemovedTogether.{taken_more}
 use Rattle.admin_mgr.proofs.relations.bulk_removal.BulkRemoval.take_first.Goals as goal

@@ -1,6 +1,6 @@
 use Rattle.std.proofs.Common.{◌≡◌, ◌-◌, ◌≤◌, length, take}
 use Rattle.admin_mgr.specs.RbacState.{RbacState}
-use Rattle.admin_mgr.specs.RowUpdates.{after_changes}
+use Rattle.admin_mgr.specs.private.OneRow.{after_changes}
 use Rattle.admin_mgr.specs.private.BulkRemoval.{with_sets, HaveRoomOf}
 use Rattle.admin_mgr.proofs.relations.bulk_removal.BulkRemoval.take_first.Given as goal
 

@@ -1,5 +1,6 @@
 use Rattle.std.proofs.Common.{◌≡◌, subst, rules}
-use Rattle.admin_mgr.specs.StoredSets.{StoredSets, has_key}
+use Rattle.admin_mgr.specs.StoredSets.{StoredSets}
+use Rattle.admin_mgr.specs.private.OneRow.{has_key}
 use Rattle.admin_mgr.proofs.relations.gathered.StoredSets.has_key.Goals as goal
 
 pub returns-in-PairRow-eq3-default-default : goal.returns-in-PairRow-eq3-default-default

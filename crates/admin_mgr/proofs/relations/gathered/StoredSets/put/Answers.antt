@@ -3,8 +3,7 @@ use Rattle.rbac_sets.specs.Sets.{contains}
 use Rattle.rbac_sets.specs.declared.row.Row.TheVariants.{SetRow}
 use Rattle.rbac_sets.specs.declared.row.TheConstants.Row.{STATIC_CARDINALITY, DYNAMIC_CARDINALITY}
 use Rattle.admin_mgr.specs.declared.relations.gathered.StoredSets.TheInside.{Inside}
-use Rattle.admin_mgr.specs.RowUpdates.{with_row}
-use Rattle.admin_mgr.specs.StoredSets.{has_key}
+use Rattle.admin_mgr.specs.private.OneRow.{with_row, has_key}
 use Rattle.admin_mgr.specs.StoredSetsView.{stored_sets_of}
 use Rattle.admin_mgr.proofs.StoredRows.KeyLaws.{no_static_key, no_dynamic_key}
 use Rattle.admin_mgr.proofs.relations.gathered.StoredSets.put.Goals as goal

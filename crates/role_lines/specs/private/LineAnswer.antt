@@ -7,7 +7,6 @@ use Rattle.admin_mgr.specs.RbacState.{RbacState}
 use Rattle.role_json.specs.RequestContent.{RequestContent}
 use Rattle.role_json.specs.declared.answer.Verdict.{Verdict}
 use Rattle.role_json.specs.declared.answer.Verdict.TheVariants.{Refused}
-use Rattle.role_lines.specs.OfficeInMemory.{OfficeInMemory, after, without_answer}
 use Rattle.role_lines.specs.Outcome.{outcome_of, state_after, outcome_text, answer_to, after_line}
 use Rattle.role_lines.specs.Revision.{revision_after, revision_after_line}
 
@@ -42,10 +41,6 @@ module _ (S : RbacState) (n : ℕ) where
     pub cause : refusal ≡ Memory
     pub state : T ≡ S
     pub revision : m ≡ n
-
--- an allocation failed: what the line asks for was done, or nothing was. In both cases the office keeps no answer.
-abbrev pub StopsAt : OfficeInMemory → List ℕ → OfficeInMemory → Type 0
-StopsAt old line new = (new ≡ without_answer old) ⊎ (new ≡ without_answer (after old line))
 
 -- the verdict on what was refused, unless an allocation failed
 abbrev pub verdict_of_refusal : Refusal → Result Verdict Refusal

@@ -1,0 +1,31 @@
+use Rattle.std.proofs.Common.{◌≡◌, ◌≢◌, Some, inl, inr, string_bytes, sym, ◌∙◌, ap, subst}
+use Rattle.std.specs.HashMap.{get_by_text}
+use Rattle.std.specs.Map.{update}
+use Rattle.std.specs.Str.{bytes_eq}
+use Rattle.std.proofs.lemmas.Map.Text.{hash_map_updates_text}
+use Rattle.rbac_sets.specs.Sets.{Bytes}
+use Rattle.bit_tables.proofs.ByName.{some_none, updated_here, updated_other}
+use Rattle.bit_tables.proofs.number_table.NumberTable.put.Goals as goal
+
+pub returns-clause-put : goal.returns-clause-put
+returns-clause-put c =
+    subst (λ text. (other : Bytes) → get_by_text c.insert.new.self other ≡ update bytes_eq (get_by_text c.args.self.now.numbers) text (Some c.args.number) other) (c.in_ok-key.ensures.ok ∙ c.as_str.ensures.text)
+    (hash_map_updates_text (string_bytes c.in_ok-key.key) c.args.self.now.numbers c.insert.new.self (Some c.args.number) c.in_ok-insert.ensures.updates)
+
+pub invariant_of-self-2 : goal.invariant_of-self-2
+invariant_of-self-2 c = record {
+  named = λ n other is.
+      let old = get_by_text c.args.self.now.numbers in
+      let new = get_by_text c.insert.new.self in
+      let name = c.args.name.now in
+      let changed : (text : Bytes) → new text ≡ update bytes_eq old name (Some c.args.number) text =
+      subst (λ text. (other : Bytes) → new other ≡ update bytes_eq old text (Some c.args.number) other) (c.in_ok-key.ensures.ok ∙ c.as_str.ensures.text)
+      (hash_map_updates_text (string_bytes c.in_ok-key.key) c.args.self.now.numbers c.insert.new.self (Some c.args.number) c.in_ok-insert.ensures.updates) in
+      elim (c.set_name.ensures n other is) [
+        | inl here ↦ ap new (here.1 ∙ c.in_ok-copy.ensures.ok) ∙ updated_here old new name (Some c.args.number) changed ∙ ap Some (sym here.0)
+        | inr before ↦
+            let had = c.args.self.now.named n other (c.reach_name.ensures.same n other before) in
+            let differ : other ≢ name = λ same. some_none n (sym had ∙ ap old same ∙ c.requires.absent) in
+            updated_other old new name (Some c.args.number) changed other differ ∙ had
+      ];
+}
