@@ -45,6 +45,8 @@ def check_refused(bench):
     for what, words, says in [
         ("neither an office nor etcd", serve, "give --office FILE"),
         ("an office and etcd", [*one, "--etcd", "http://127.0.0.1:1"], "give --office FILE"),
+        ("the name of a node", [*one, "--name", "a"], "--name is for an office on several machines"),
+        ("snapshots of a node", [*one, "--every", "10"], "--every is for an office on several machines"),
         ("a word more", [*one, "word"], "usage"),
         ("an address that others can reach", [*one, "--listen", "0.0.0.0:0"], "needs --tls-cert and --callers"),
         ("one with TLS alone", [*one, "--listen", "0.0.0.0:0", *tls], "needs --tls-cert and --callers"),
@@ -208,7 +210,7 @@ def check_starting(bench):
         until(is_done_again, "/healthz says what is done")
         asked, (status, text) = seen
         said = json.loads(text)
-        why = f"^starting: command [0-9]+00 of {AGAIN + 3} since the last copy of the office is done again$"
+        why = f"^starting: command (0|[0-9]+00) of {AGAIN + 3} since the last copy of the office is done again$"
         bench.same("health", (status, said["ready"], bool(re.match(why, said["why"]))), (503, False, True))
         bench.same("a question", asked, (503, '{"code":60,"error":"Unavailable"}'))
         until(front.is_listening, "the front listens")

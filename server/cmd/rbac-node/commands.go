@@ -123,7 +123,24 @@ func prepareServe(flags *flag.FlagSet) func([]string) error {
 	hangups := make(chan os.Signal, 1)
 	signal.Notify(hangups, syscall.SIGHUP)
 	s.front.Hangups = hangups
-	return withArguments(0, func([]string) error { return serve(s) })
+	return withArguments(0, func([]string) error {
+		if given := clusterFlag(flags); given != "" && s.office != "" && !s.cluster.isChosen() {
+			return fmt.Errorf("--%s is for an office on several machines, over --etcd", given)
+		}
+		return serve(s)
+	})
+}
+
+// clusterFlag returns the name of a flag that was given, and that is for a node of several machines alone.
+func clusterFlag(flags *flag.FlagSet) string {
+	all, given := flag.NewFlagSet("", flag.ContinueOnError), ""
+	new(clusterSettings).define(all)
+	flags.Visit(func(f *flag.Flag) {
+		if all.Lookup(f.Name) != nil {
+			given = f.Name
+		}
+	})
+	return given
 }
 
 func prepareAdopt(flags *flag.FlagSet) func([]string) error {

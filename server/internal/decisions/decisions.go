@@ -138,7 +138,7 @@ func (l *Log) judge() {
 const glance = time.Second
 
 // errShort says why nothing is written to a disk that still has some room.
-var errShort = errors.New("the disk is full, but for what a start of the office needs")
+var errShort = errors.New("the disk has only the room that a start of the office needs")
 
 // A reopened file is opened again once another program has moved it away, as logrotate does.
 type reopened struct {
