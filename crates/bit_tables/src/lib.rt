@@ -1,4 +1,4 @@
-//! Rows of bits by names, found by a keyed hash.
+//! Rows of bits and numbers by name, found by a keyed hash. A row of few numbers takes little memory.
 //!
 //! The hash is SipHash with a secret, so that nobody who chooses names can make them collide.
 //!

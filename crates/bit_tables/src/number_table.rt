@@ -1,5 +1,5 @@
 //! Numbers by name.
-ghost use Rattle.std.specs.Prelude.{◌≡◌, ◌≢◌, ◌⊎◌, ◌<◌, ℕ, None, Some, IsTrue, OnOk, IfErr, vec_len};
+ghost use Rattle.std.specs.Prelude.{◌≡◌, ◌≢◌, ◌⊎◌, ◌<◌, ℕ, None, Some, IsTrue, OnOk, OnErr, IfErr, vec_len};
 ghost use Rattle.std.specs.HashMap.{get_by_text};
 ghost use Rattle.std.specs.Str.{bytes_eq};
 ghost use Rattle.std.specs.Map.{update};
@@ -52,11 +52,12 @@ impl NumberTable {
     ///
     /// # Errors
     ///
-    /// `Memory` if an allocation failed. The name may have the number then.
+    /// `Memory` if an allocation failed. Each name has the number that it had, if it had one.
     pub fn put(&mut self, alloc: Global, name: &Name, number: usize) -> Result<(), Refusal>
         requires absent { get_by_text self.old.numbers name.now ≡ None }
         requires number { number < WIDTH }
         ensures put { OnOk result ((other : Bytes) → get_by_text self.new.numbers other ≡ update bytes_eq (get_by_text self.old.numbers) name.now (Some number) other) }
+        ensures same { OnErr result ((other : Bytes) → get_by_text self.new.numbers other ≡ get_by_text self.old.numbers other) }
         ensures cause { IfErr result (λ refusal. refusal ≡ Refusal.Memory) }
     {
         let key = String::from_str(alloc, name.as_str())?;
@@ -110,7 +111,7 @@ fn set_name(names: &mut Vec<Option<Name>>, number: usize, name: Name)
     names[number] = Some(name);
 }
 
-// Takes away the name of the number.
+// Removes the name of the number.
 fn clear_name(names: &mut Vec<Option<Name>>, number: usize)
     ensures { (n : ℕ) (name : Bytes) → slice_get names.new.items n ≡ Some (Some name) → (n ≢ number) × (slice_get names.old.items n ≡ Some (Some name)) }
 {

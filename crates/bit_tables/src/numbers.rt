@@ -42,7 +42,8 @@ impl Numbers {
 
     /// Whether the set is empty. It doesn't allocate.
     pub fn is_empty(&self) -> bool
-        ensures { IsTrue result → (n : ℕ) → holds self.now n ≡ false }
+        ensures empty { IsTrue result → (n : ℕ) → holds self.now n ≡ false }
+        ensures some { result ≡ false → (n : ℕ) × IsTrue (holds self.now n) }
     {
         self.row().is_empty()
     }

@@ -1,5 +1,5 @@
-//! The functions that C calls. library/rbac.h says in words what each does. What stands in a buffer after that which a call
-//! writes stays, and so does all of it if the call is refused.
+//! The functions that C calls. library/rbac.h says in words what each does. A call changes nothing of a buffer behind what it
+//! writes, and nothing at all of one if it is refused.
 ghost use base.Fml.{Lft, Share};
 ghost use types.Logic.{sem};
 ghost use Rattle.std.specs.Prelude.{◌≡◌, ◌⊎◌, ◌<◌, Some, None, IfOk, IfErr, length, take};

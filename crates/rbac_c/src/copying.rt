@@ -70,7 +70,7 @@ pub(crate) fn copy_rows(
     count
 }
 
-// The row so many places after this one.
+// The row at the place that is `count` places after `index`.
 fn row_after<'a>(rows: Rows<'a>, index: usize, count: usize) -> Option<RowParts<'a>>
     ensures there { IfSome result (λ row. row_of rows.entry (index + count) (Some (parts_of row))) }
     ensures past { IfNone result (IsPast (row_of rows.entry) (index + count)) }

@@ -27,7 +27,7 @@ returns-clause-others c other n differ =
       | in-Some+else-not-is_empty w ↦
           ap (λ t. has_at t other n) w.self-is
           ∙ read_others (λ o. is_held o n) old mid name other rest
-          (λ same. ap (λ o. is_held o n) gone ∙ sym (w.if-not-is_empty.ensures refl n) ∙ w.without-numbers.ensures.others n (differ same) ∙ ap (λ o. is_held o n) w.in-Some.ensures.value)
+          (λ same. ap (λ o. is_held o n) gone ∙ sym (w.if-not-is_empty.ensures.empty refl n) ∙ w.without-numbers.ensures.others n (differ same) ∙ ap (λ o. is_held o n) w.in-Some.ensures.value)
       | in_default w ↦
           ap (λ t. has_at t other n) w.self-is
           ∙ read_others (λ o. is_held o n) old mid name other rest (λ same. ap (λ o. is_held o n) (gone ∙ w.in_default.ensures.value))
