@@ -11,6 +11,7 @@ from machine.commands import COMMANDS
 from machine.drawing import draw_script
 from machine.questions import QUESTIONS
 
+from .bench import SECONDS
 from .heads import ANN, CURL, LENGTH
 from .importing import RECORDS, SEPARATED
 from .offices import STORE, Office, small_office
@@ -252,7 +253,8 @@ def check_refused_body(bench):
 
 def is_closed(client):
     """Whether the server has closed the connection, and not only its own side of it: then what is sent is refused."""
-    for _ in range(20):
+    deadline = time.monotonic() + SECONDS
+    while time.monotonic() < deadline:
         try:
             client.send(b"x")
         except OSError:
