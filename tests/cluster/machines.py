@@ -15,7 +15,7 @@ from program.bench import PROGRAM
 from .networks import MACHINES, network
 
 PREFIX = "rbac"
-SECONDS = 60
+SECONDS = 180
 
 # How long after its end a process that ended by itself is started again.
 RESTART = 0.2

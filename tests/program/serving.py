@@ -24,9 +24,9 @@ MOST_CONNECTIONS = 1_000_000
 DONE = b'{"ok":true}'
 ADD_ANN = b'{"fn":"addUser","user":"ann"}'
 
-# How long a client may send nothing, and how far from that its connection may be closed.
+# How long a client may send nothing, and how far from that its connection may be closed: on a busy machine much later.
 PATIENCE = 5
-LEAST, MOST = PATIENCE - 1, PATIENCE + 10
+LEAST, MOST = PATIENCE - 1, PATIENCE + SECONDS
 
 # How many bytes a piece of a long request has.
 PIECE = 250_000
