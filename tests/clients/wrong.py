@@ -92,7 +92,7 @@ def check_kept_connections(bench, name):
         bench.same("connections for three questions", len(fake.threads), 2)
         bench.same("a question when the connection is closed", driver.check(), "allowed")
         bench.same("two answers to one question", driver.check() in ("allowed", "unexpected"), True)
-        fake.wait()
+        time.sleep(0.1)
         bench.same("the next question", driver.check(), "denied")
         bench.same("an answer, and another one later", driver.check(), "allowed")
         fake.wait()

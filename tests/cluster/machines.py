@@ -159,7 +159,7 @@ class Cluster:
 
     def get(self, machine, path, port=8080):
         """The status and the body of what a node answers to GET, None and nothing if it doesn't."""
-        connection = http.client.HTTPConnection(self.network.address(machine, port), timeout=5)
+        connection = http.client.HTTPConnection(self.network.address(machine, port), timeout=30)
         try:
             connection.request("GET", path)
             reply = connection.getresponse()
