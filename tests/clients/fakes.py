@@ -40,7 +40,7 @@ class Fake:
         self.answers, self.opens = list(answers), opens
         self.behind, self.context = behind, context
         self.lock = threading.Lock()
-        self.requests = []
+        self.requests, self.sending = [], 0
         self.listener = socket.create_server((HOST, 0))
         self.port = self.listener.getsockname()[1]
         self.address = f"{'https' if context else 'http'}://{HOST}:{self.port}"
@@ -106,12 +106,24 @@ class Fake:
                 server.sendall(request)
                 reply_of_server = read_all(server)
             answer = reply_of_server if answer == PASSED_ON else b""
-        for piece in [answer] if isinstance(answer, bytes) else getattr(answer, "pieces", answer):
-            if isinstance(piece, bytes):
-                client.sendall(piece)
-            elif self.ending.wait(piece):
-                return False
+        with self.lock:
+            self.sending += 1
+        try:
+            for piece in [answer] if isinstance(answer, bytes) else getattr(answer, "pieces", answer):
+                if isinstance(piece, bytes):
+                    client.sendall(piece)
+                elif self.ending.wait(piece):
+                    return False
+        finally:
+            with self.lock:
+                self.sending -= 1
         return isinstance(answer, Kept)
+
+    def wait(self):
+        """Waits until each answer that was begun has been sent."""
+        deadline = time.monotonic() + SECONDS
+        while self.sending and time.monotonic() < deadline:
+            time.sleep(0.01)
 
 
 def read_request(client, ending):

@@ -22,7 +22,7 @@ from .running import build
 CLIENTS = 9
 
 # How often a cluster is judged, after how many faults, and the seconds between them; with `--gate`, and with `--long`.
-SHORT, GATE, LONG = (1, 40, 0.4), (1, 80, 0.4), (10, 100, 0.6)
+SHORT, GATE, LONG = (1, 20, 0.4), (1, 80, 0.4), (10, 100, 0.6)
 
 # The commands from one snapshot to the next. What came after the last snapshot but one is kept, so the recorder, which may have to
 # wait for a member that is paused, has the time of as many commands to read an entry. The second trim deletes the first entries.

@@ -15,7 +15,7 @@ from program.bench import PROGRAM
 from .networks import MACHINES, network
 
 PREFIX = "rbac"
-SECONDS = 60
+SECONDS = 180
 
 # How long after its end a process that ended by itself is started again.
 RESTART = 0.2
@@ -159,7 +159,7 @@ class Cluster:
 
     def get(self, machine, path, port=8080):
         """The status and the body of what a node answers to GET, None and nothing if it doesn't."""
-        connection = http.client.HTTPConnection(self.network.address(machine, port), timeout=5)
+        connection = http.client.HTTPConnection(self.network.address(machine, port), timeout=30)
         try:
             connection.request("GET", path)
             reply = connection.getresponse()

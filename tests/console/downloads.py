@@ -10,6 +10,8 @@ import socket
 import subprocess
 import time
 
+import pytest
+
 from front.identities import bearer, rules, secured, tokens
 from front.program import HOST, Front, until
 from program.bench import PROGRAM as RBAC
@@ -163,6 +165,7 @@ def head_of(front, ticket):
     return reply.headers
 
 
+@pytest.mark.slow
 def check_time(bench):
     """A ticket is of no use after 60 seconds."""
     with Front(bench, "--no-record") as front:

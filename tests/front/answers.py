@@ -18,7 +18,7 @@ from .program import Front
 FUNCTIONS = sorted({*COMMANDS, *QUESTIONS})
 
 # How many scripts of random lines there are, and lines in each.
-SCRIPTS, LINES = 6, 1_000
+SCRIPTS, SCRIPTS_OF_GATE, LINES = 3, 6, 1_000
 
 # Texts that JSON readers understand differently, and values of other types.
 ODD = [
@@ -123,7 +123,7 @@ def check_random(bench):
     print(f"the seed of the random requests is {seed}", flush=True)
     draws = random.Random(seed)
     requests = []
-    for script in range(SCRIPTS):
+    for script in range(SCRIPTS_OF_GATE if bench.is_gate or bench.is_long else SCRIPTS):
         for _, line, _ in draw_script(seed + script, LINES):
             if not (found := request_of(line)):
                 continue

@@ -24,7 +24,7 @@ from .sessions import digest_of
 from .watching import Watch, request_of, snapshot
 
 # How many random offices there are, how many with --gate and with --long, and how many random lines each gets before its lists are compared.
-OFFICES, OFFICES_OF_GATE, MORE_OFFICES, LINES = 10, 20, 200, 150
+OFFICES, OFFICES_OF_GATE, MORE_OFFICES, LINES = 6, 20, 200, 150
 
 # The query of each list of names.
 QUERIES = {

@@ -204,8 +204,9 @@ def check_starting(bench):
         seen = []
 
         def is_done_again():
+            """Whether the question was answered, so that the front listened then, and commands were done again even later."""
             seen[:] = at_start(front, "POST", "/v1/assignedRoles", '{"user":"u1"}'), at_start(front, "GET", "/healthz")
-            return "is done again" in seen[1][1]
+            return seen[0][0] and "is done again" in seen[1][1]
 
         until(is_done_again, "/healthz says what is done")
         asked, (status, text) = seen

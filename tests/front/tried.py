@@ -376,6 +376,7 @@ def check_reviews_killed(bench):
             for thread in threads:
                 thread.start()
             time.sleep(random.uniform(0.3, 0.8))
+            until(lambda least=4 * number + 4: len(acknowledged) >= least, "some are acknowledged")
             os.kill(random.choice([front.process.pid, *front.replays()]), signal.SIGKILL)
             time.sleep(0.1)
             if front.process.poll() is None:

@@ -92,7 +92,7 @@ def check_say_nothing(bench, count):
     with Server(bench, office.path, count + 1) as server:
         silent = [connect(server.port) for _ in range(count)]
         start = time.monotonic()
-        serve_next(bench, server, office, f"{count} silent ones", start, count * LEAST, count * PATIENCE + 10)
+        serve_next(bench, server, office, f"{count} silent ones", start, count * LEAST, count * PATIENCE + SECONDS)
         for client in silent:
             bench.same("a silent client", read_all(client), b"")
             client.close()
@@ -135,7 +135,7 @@ def check_read_nothing(bench):
         start = time.monotonic()
         refused = reply(409, b'{"code":32,"error":"TooMany","kind":"user"}')
         bench.same("the client after one that doesn't read", server.ask(CURL), refused)
-        waited_for(bench, "the client after one that doesn't read waited", start, LEAST, WRITES * PATIENCE + 10)
+        waited_for(bench, "the client after one that doesn't read waited", start, LEAST, WRITES * PATIENCE + SECONDS)
         found = read_all(silent)
         is_part = wanted.startswith(found) and 0 < len(found) < len(wanted)
         bench.same(f"what it could have read: {len(found):,} bytes of {len(wanted):,}", is_part, True)

@@ -119,6 +119,7 @@ def check_python(bench):
     bench.same("Python", run_python(ERRORS), ("", "", 0))
 
 
+@pytest.mark.slow
 @pytest.mark.needs("python-headers")
 def check_forks(bench):
     """A process forks while other threads change the office, and each child has it whole."""

@@ -7,7 +7,7 @@ import json
 
 import pytest
 
-from front.running import FORM, SERVER, TAGS, build, go
+from front.running import AS_USUAL, FORM, SERVER, TAGS, build, go
 from program.bench import PROGRAM
 
 # The load program of the benchmarks, which is built with the libraries of the server.
@@ -26,7 +26,7 @@ def go_test(*words):
     """What `go test` says of all packages: its events, what isn't one, and its status. But for races, which need another form, it compiles as
     bin/node does. check_form has `go vet` look at all."""
     form = ["-race", f"-tags={TAGS}"] if "-race" in words else [*FORM, "-vet=off", "-ldflags=-s -w"]
-    said, status = go("go", "test", "-count=1", "-json", *form, "./...", RBAC_PROGRAM=PROGRAM)
+    said, status = go("go", "test", "-count=1", "-json", *form, *AS_USUAL, "./...", RBAC_PROGRAM=PROGRAM)
     lines = said.splitlines()
     return (
         [json.loads(line) for line in lines if line.startswith("{")],

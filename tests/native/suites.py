@@ -15,7 +15,7 @@ import pytest
 
 from clients.building import maven
 from clients.driving import FRONT
-from front.running import FORM, build
+from front.running import AS_USUAL, FORM, LESS_OFTEN, build
 from needs import lacking
 from program.bench import PROGRAM, TESTS
 
@@ -35,7 +35,8 @@ def run(words, cwd, **more):
 
 def go_test(bench, folder, flags, **more):
     """Counts the tests of a folder, each of which passes; one that is skipped has failed."""
-    status, said = run(["go", "test", "-count=1", "-json", *flags], folder, RBAC_PROGRAM=PROGRAM, CGO_ENABLED="1", **more)
+    settings = {"RBAC_PROGRAM": PROGRAM, "CGO_ENABLED": "1", **LESS_OFTEN, **more}
+    status, said = run(["go", "test", "-count=1", "-json", *AS_USUAL, *flags], folder, **settings)
     lines = [json.loads(line) for line in said.splitlines() if line.startswith("{")]
     text = "".join(line.get("Output", "") for line in lines) or said
     tests = [line for line in lines if "Test" in line and "/" not in line["Test"]]

@@ -1,4 +1,4 @@
-"""Makes the package of the commands known, and builds the front once."""
+"""Makes the package of the commands known, and builds the front once for the checks that need it."""
 
 import os
 import sys
@@ -17,9 +17,10 @@ PACKAGE = TESTS.parent / "clients/python"
 sys.path.insert(0, str(PACKAGE))
 
 
-@pytest.fixture(scope="session", autouse=True)
-def programs(built):
-    """The program and the front that the checks use."""
+@pytest.fixture(autouse=True)
+def programs(request, built):
+    """The program that the checks use, and the front for those that need it: the others don't wait for it."""
     os.environ["RBAC_PROGRAM"] = PROGRAM
-    if not lacking(OF_FRONT):
+    needed = {name for mark in request.node.iter_markers("needs") for name in mark.args}
+    if needed.issuperset(OF_FRONT) and not lacking(OF_FRONT):
         os.environ[FRONT] = str(built("front", build_front) / "rbac-node")

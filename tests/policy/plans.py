@@ -8,6 +8,7 @@ import time
 import pytest
 
 from machine.state import State
+from program.bench import SECONDS
 
 from . import drawing, judging_plans
 from .commands import BIN, PYTHON, command, ends, people, policy
@@ -236,9 +237,8 @@ def check_killed(bench):
             time.sleep(0.002)
         child.send_signal(signal.SIGKILL)
     # The program that it had started ends when its input does.
-    for _ in range(100):
-        if bench.run(["check", "office"]).status == 0:
-            break
+    deadline = time.monotonic() + SECONDS
+    while bench.run(["check", "office"]).status != 0 and time.monotonic() < deadline:
         time.sleep(0.05)
     done = rows_of(bench.path("office"))["name_row"]
     bench.same("some commands are done and some are left", 0 < len(done) < 3001, True)

@@ -11,7 +11,8 @@ from needs import reason_of
 
 TESTS = Path(__file__).resolve().parent.parent
 PROGRAM = os.path.abspath(os.environ.get("RBAC_PROGRAM", TESTS / "../release/rbac"))
-SECONDS = 60
+# How long a check waits at most for what comes soon, on a machine that is busy with much else.
+SECONDS = 300
 
 # Checks use files in memory if possible, except those of modules with ON_DISK: a sync takes long on a disk.
 IN_MEMORY = "/dev/shm"

@@ -20,8 +20,8 @@ PORTS = (20_000, 32_000)
 # Ports that many systems reserve for root.
 LOW_PORTS = (1, 1_024)
 
-# The number of a listening socket in the system's tables.
-LISTENS = "0A"
+# The numbers of a listening socket, and of one with a connection, in the system's tables.
+LISTENS, CONNECTED = "0A", "01"
 
 PHRASES = {
     200: "OK",
@@ -134,6 +134,14 @@ def listening(pid):
                 is_old = table == "tcp"
                 found.append((socket.inet_ntoa(struct.pack("=I", int(host, 16))) if is_old else host, int(port, 16)))
     return found
+
+
+def has_unread(pid, port):
+    """Whether bytes have come to a port that nobody has read yet, also by a connection that isn't accepted, in the network of a process."""
+    rows = [line.split() for line in Path(f"/proc/{pid}/net/tcp").read_text(encoding="ascii").splitlines()[1:]]
+    return any(
+        int(row[1].partition(":")[2], 16) == port and row[3] == CONNECTED and int(row[4].partition(":")[2], 16) for row in rows
+    )
 
 
 class Server:

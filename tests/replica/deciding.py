@@ -129,11 +129,12 @@ def check_silence(bench, language):
         ready(bench, driver)
         proxy.passes.clear()
         before = proxy.count
-        start, last = time.monotonic(), 0.0
+        start, age, last = time.monotonic(), driver.do("status")["age"], 0.0
         while (found := driver.check(*asked))["reason"] == "allowed" and time.monotonic() < start + 60:
             last = max(last, found["age"])
             time.sleep(0.01)
-        bench.same("it decided until the copy was too old", (last <= 3.0, time.monotonic() - start > 1), (True, True))
+        # The copy may have been old at the start already, on a busy machine.
+        bench.same("it decided until the copy was too old", (last <= 3.0, time.monotonic() - start > 3.0 - age), (True, True))
         bench.same("why it doesn't", found["reason"] in ("unavailable", "unanswered"), True)
         until(lambda: proxy.count > before, "it has connected again")
         bench.same("its age", driver.do("status")["age"] > 3.0, True)

@@ -231,7 +231,8 @@ def check_ages(bench, language):
         driver.open(fake.address, oldest=1.0, silence=600)
         until(lambda: driver.reason(*ASKED) == "allowed", "it decides")
         until(lambda: len(fake.asked) > 3 or driver.reason(*ASKED) != "allowed", "it asks again, or the copy is too old")
-        bench.same("its age is never more", driver.check(*ASKED)["age"] <= 1.0 or driver.reason(*ASKED) != "allowed", True)
+        found = driver.check(*ASKED)
+        bench.same("its age is never more", found["age"] <= 1.0 or found["reason"] != "allowed", True)
     # On several machines refused commands have numbers too.
     gaps = WATCH + newest(7) + event(9, USER) + newest(11)
     with Fake(good, gaps) as fake, Driven(bench, language) as driver:
