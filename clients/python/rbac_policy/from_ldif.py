@@ -19,6 +19,16 @@ _MEMBERS = ("member", "uniquemember", "memberuid", "memberurl", "roleoccupant")
 _LOCKS = ("pwdaccountlockedtime", "nsaccountlock")
 _FOR_EVER = "000001010000Z"
 
+# The same in words of other servers, the state of an account that isn't locked, and flags of Samba without D (disabled) and L (locked).
+_OTHER_LOCKS = ("logindisabled", "ds-pwp-account-disabled")
+_ACTIVE, _NO_LOCK = "active", re.compile(r"\[[A-CE-KM-Z ]*\]")
+
+# What says when an account begins or ends: as a time, or as a number of so many seconds since 1970, which may mean never.
+_TIMES = {"pwdstarttime": "begins"} | dict.fromkeys(
+    ("pwdendtime", "krbprincipalexpiration", "loginexpirationtime", "ds-pwp-account-expiration-time"), "ends"
+)
+_NUMBERS = {"shadowexpire": (86_400, "-1"), "sambakickofftime": (1, "0")}
+
 # What a server keeps about entries beside what they are given: an export has all of it or nothing.
 _OF_SERVER = ("entryuuid", "nsuniqueid", "createtimestamp", *_LOCKS)
 
@@ -74,31 +84,42 @@ def from_ldif(path: str) -> Imported:
 
 def _is_locked(found: Imported, entry: Entry, user: str) -> bool:
     """Whether a user can't log in now. What may change by itself is left."""
-    locks = [value for key in _LOCKS for value in entry.get(key, []) if value and value.lower() != "false"]
+    locks = [value for key in _LOCKS + _OTHER_LOCKS for value in entry.get(key, []) if value and value.lower() != "false"]
     if locks:
         if _FOR_EVER not in locks and "true" not in map(str.lower, locks):
             found.leave(
                 f"whether {shown(user)} is still locked", f"the directory has locked it at {locks[0]}, perhaps for a time"
             )
         return True
-    return _is_out_of_time(found, entry, user)
+    flags = [value for value in entry.get("sambaacctflags", []) if not _NO_LOCK.fullmatch(value)]
+    if flags and "D" not in flags[0]:
+        found.leave(f"whether {shown(user)} is still locked", f"Samba's flags are {shown(flags[0])}")
+    is_inactive = any(value.lower() != _ACTIVE for value in entry.get("inetuserstatus", []))
+    return _is_out_of_time(found, entry, user) or is_inactive or bool(flags)
 
 
 def _is_out_of_time(found: Imported, entry: Entry, user: str) -> bool:
     """Whether the account of a user hasn't begun or has ended. What may change by itself is left."""
     now, is_out = datetime.now(timezone.utc), False
-    for key, what in (("pwdstarttime", "begins"), ("pwdendtime", "ends")):
+    for key, what in _TIMES.items():
         for text in entry.get(key, []):
             time = _time_of(text)
-            if time is None or time > now:
-                found.leave(f"that the account of {shown(user)} {what} at {text}", "an office knows no time")
-            is_out = is_out or time is None or (time > now) == (what == "begins")
-    for day in entry.get("shadowexpire", []):
-        if re.fullmatch(r"\d+", day) and int(day) * 86_400 <= now.timestamp():
-            is_out = True
-        elif day != "-1":
-            found.leave(f"that the account of {shown(user)} ends at day {day} of POSIX", "an office knows no time")
+            if time is None or what == "ends" or time > now:
+                is_now = time is None or (time > now) == (what == "begins")
+                _leave_time(found, user, f"{what} at {shown(text)}", is_now)
+                is_out = is_out or is_now
+    for key, (seconds, never) in _NUMBERS.items():
+        for text in entry.get(key, []):
+            if text != never:
+                is_now = not re.fullmatch(r"\d{1,20}", text) or int(text) * seconds <= now.timestamp()
+                _leave_time(found, user, f"ends at {shown(text)} of {key}", is_now)
+                is_out = is_out or is_now
     return is_out
+
+
+def _leave_time(found: Imported, user: str, what: str, is_now: bool) -> None:
+    """Notes a time of an account, and whether the user is locked now because of it."""
+    found.leave(f"that the account of {shown(user)} {what}", f"an office knows no time{'; the user is locked' * is_now}")
 
 
 def _time_of(text: str) -> datetime | None:
