@@ -158,7 +158,9 @@ def check_denials(bench):
             )
             bench.same(f"the view ({out})", "the view a.v: " in left, True)
             bench.same(f"the membership ({out})", "that asks is a member of holder: " in left, out == "later")
-            times = re.findall(r"^that the password of (\w+) is valid until .*: an office knows no time(; the user is locked)?$", left, re.M)
+            times = re.findall(
+                r"^that the password of (\w+) is valid until .*: an office knows no time(; the user is locked)?$", left, re.M
+            )
             bench.same(f"the times ({out})", sorted(times), [("asks", ""), ("over", "; the user is locked")])
             rows = (bench.folder / out / "people.csv").read_text(encoding="utf-8").splitlines()
             bench.same(f"who is locked ({out})", [row for row in rows if row.endswith(",yes")], ["over,over;public,yes"])

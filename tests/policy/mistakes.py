@@ -261,5 +261,11 @@ def check_token_in_the_clear(bench):
         done = policy(bench, "plan", "p.toml", "--front", f"http://{host}:{port}", "--token-file", "token")
         ends(bench, host, done, 2, err=err)
     words = ("plan", "p.toml", "--front", f"http://0.0.0.0:{port}", "--token-file", "token")
-    ends(bench, "an address of no machine", policy(bench, *words), 2, err="or --token-over-http if the network encrypts by itself")
+    ends(
+        bench,
+        "an address of no machine",
+        policy(bench, *words),
+        2,
+        err="or --token-over-http if the network encrypts by itself",
+    )
     ends(bench, "over http, as asked for", policy(bench, *words, "--token-over-http"), 2, err="the front does not answer")

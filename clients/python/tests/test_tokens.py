@@ -43,7 +43,10 @@ def test_refused(server, made, token, caplog):
 def test_other_machines(made, kind, address):
     """A token goes to other machines over TLS alone, unless the application says otherwise."""
     made(address)
-    for addresses, token in (["https://localhost", address], "abc-secret"), ([address, "unix:/run/office"], lambda: "abc-secret"):
+    for addresses, token in (["https://localhost", address], "abc-secret"), (
+        [address, "unix:/run/office"],
+        lambda: "abc-secret",
+    ):
         if kind == "sent":
             made(addresses, token=token)
         else:
