@@ -161,18 +161,21 @@ def check_all_at_once(bench):
 
 
 def check_limits(bench):
-    """More than a limit allows is one mistake for each kind, with the limit."""
-    roles = "".join(f"[roles.r{number}]\n" for number in range(1025))
-    objects = "".join(f"o{number} = []\n" for number in range(2001))
+    """More than a limit allows is one mistake for each kind, with the limit, whatever uses what is beyond it."""
+    roles = "".join(f"[roles.r{number}]\n" for number in range(1024)) + '[roles.r1024]\ngrants = { o2000 = ["open"] }\n'
+    objects = "".join(f"o{number} = []\n" for number in range(2000)) + 'o2000 = ["open"]\n'
     sets = "".join(f'[dynamic.s{number}]\nroles = ["r1", "r2"]\ncardinality = 2\n' for number in range(65))
     some = ", ".join(f'"r{number}"' for number in range(33))
     bench.write("p.toml", f"[objects]\n{objects}{roles}{sets}[static.all]\nroles = [{some}]\ncardinality = 2\n".encode())
+    with open(bench.path("p.toml"), "a", encoding="ascii") as file:
+        file.write('[users]\nann = ["r1024", "nobody"]\n')
     done = policy(bench, "validate", "p.toml")
     wanted = {
         "p.toml:2003: roles: an office has at most 1,024 roles, and these are 1,025",
         "p.toml:1: objects: an office has at most 2,000 objects, and these are 2,001",
-        "p.toml:3028: dynamic: an office has at most 64 dynamic sets, and these are 65",
-        "p.toml:3224: static.all.roles: a set has at most 32 roles, and this one has 33",
+        "p.toml:3029: dynamic: an office has at most 64 dynamic sets, and these are 65",
+        "p.toml:3228: users.ann[1]: there is no role nobody",
+        "p.toml:3225: static.all.roles: a set has at most 32 roles, and this one has 33",
     }
     said = {line for line in done.err.decode().splitlines() if not line.startswith("answers of the program: ")}
     bench.same("what is printed", (done.status, said), (1, wanted))

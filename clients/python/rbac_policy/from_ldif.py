@@ -29,6 +29,9 @@ _TIMES = {"pwdstarttime": "begins"} | dict.fromkeys(
 )
 _NUMBERS = {"shadowexpire": (86_400, "-1"), "sambakickofftime": (1, "0")}
 
+# A value of these that can't be read is kept as it is written: it locks.
+_JUDGED = {*_LOCKS, *_OTHER_LOCKS, "sambaacctflags", "inetuserstatus", *_TIMES, *_NUMBERS}
+
 # What a server keeps about entries beside what they are given: an export has all of it or nothing.
 _OF_SERVER = ("entryuuid", "nsuniqueid", "createtimestamp", *_LOCKS)
 
@@ -42,7 +45,10 @@ def from_ldif(path: str) -> Imported:
     """Reads an export of a directory. A group that is a member of another one inherits from it, since its members are members."""
     found = Imported()
     entries = list(_entries(path, found))
-    by_dn = {_plain(entry["dn"][0]): entry for entry in entries}
+    by_dn: dict[Name, Entry] = {}
+    for entry in entries:
+        if by_dn.setdefault(_plain(entry["dn"][0]), entry) is not entry:
+            raise Stop(f"{path}: the entry {shown(entry['dn'][0])} is in it twice")
     roles: dict[Name, str] = {}
     users: dict[Name, str] = {}
     for dn, entry in by_dn.items():
@@ -169,7 +175,7 @@ def _name(dn: Name, entry: Entry, key: str) -> str:
     values = entry.get(key, [])
     if not values:
         raise Stop(f"the entry {shown(entry['dn'][0])} has no {key}")
-    first = dict(dn[0]).get(key)
+    first = dict(dn[0]).get(key) if dn else None
     return next((value for value in values if _folded(value) == first), values[0])
 
 
@@ -202,11 +208,13 @@ def _folded(value: str) -> str:
 def _entries(path: str, found: Imported) -> Iterator[Entry]:
     """The entries of a file: their values by their keys in small letters."""
     try:
-        text = Path(path).read_text(encoding="utf-8")
+        text = Path(path).read_text(encoding="utf-8-sig")
     except OSError as error:
         raise Stop(f"{path}: {error.strerror}") from None
     except UnicodeDecodeError:
         raise Stop(f"{path}: it is not UTF-8") from None
+    if text and not text.endswith("\n"):
+        raise Stop(f"{path}: its last line doesn't end, so the file may be truncated")
     unfolded = re.sub(r"\r?\n ", "", text)
     for block in re.split(r"(?:\r?\n){2,}", unfolded.strip("\r\n")):
         entry: Entry = {}
@@ -216,18 +224,26 @@ def _entries(path: str, found: Imported) -> Iterator[Entry]:
             parts = re.fullmatch(r"([A-Za-z0-9.-]+)(?:;[A-Za-z0-9;-]+)?:([:<]?) *(.*)", line)
             if parts is None:
                 raise Stop(f"{path}: this is no line of LDIF: {shown(line[:60])}")
-            key, kind, value = parts[1].lower(), parts[2], parts[3]
-            if kind == "<":
-                found.leave(f"a value of {key}", "it is in another file")
-                continue
+            key, value = parts[1].lower(), _value(path, found, parts[1].lower(), parts[2], parts[3])
             if key == "changetype":
                 raise Stop(f"{path}: it has changes and not entries")
-            try:
-                entry.setdefault(key, []).append(base64.b64decode(value).decode() if kind else value)
-            except ValueError:
-                if key == "dn":
-                    raise Stop(f"{path}: the name of an entry is no text: {shown(value[:60])}") from None
-                if key not in ("userpassword", "jpegphoto"):
-                    found.leave(f"a value of {key}", "it is no text")
+            if value is not None:
+                entry.setdefault(key, []).append(value)
         if "dn" in entry:
             yield entry
+
+
+def _value(path: str, found: Imported, key: str, kind: str, text: str) -> str | None:
+    """The value of a line, or None if it can't be read. `kind` is what is between its key and its text."""
+    fault = "it is in another file" if kind == "<" else "it is no text"
+    try:
+        if not kind:
+            return text
+        if kind == ":":
+            return base64.b64decode(text.strip(), validate=True).decode()
+    except ValueError:
+        if key == "dn":
+            raise Stop(f"{path}: the name of an entry is no text: {shown(text[:60])}") from None
+    if key not in ("userpassword", "jpegphoto"):
+        found.leave(f"a value of {key}", fault)
+    return text if key in _JUDGED else None
