@@ -7,7 +7,7 @@ import subprocess
 
 import pytest
 
-from .commands import ends, people, policy
+from .commands import BIN, PYTHON, ends, people, policy
 
 MODEL = """[request_definition]
 r = sub, obj, act
@@ -292,6 +292,51 @@ def check_ldif_of_disabled_accounts(bench):
     bench.same("who is locked", "".join(row[0] for row in rows if row.endswith(",yes")), "acefhijlmn")
     left = (bench.folder / "out/left.txt").read_text(encoding="utf-8")
     bench.same("who may be free again", "".join(re.findall(r"^whether (\w) is still locked: ", left, re.M)), "him")
+
+
+def check_malformed_ldif(bench):
+    """What is truncated or there twice is refused in one line. Locks that can't be read lock, and other values are left out."""
+    ann = b"dn: uid=ann,dc=example\nuid: ann\n"
+    for number, (text, said) in enumerate(
+        (
+            (ann + b"nsAccountLock: TR", "its last line doesn't end, so the file may be truncated"),
+            (ann + b"\n" + ann.replace(b"ann", b"ANN"), 'the entry "uid=ANN,dc=example" is in it twice'),
+            (ann.decode().encode("utf-16"), "it is not UTF-8"),
+        )
+    ):
+        path = bench.write(f"{number}.ldif", text)
+        done = policy(bench, "from", "ldif", path, "--out", "out")
+        ends(bench, said, done, 2, err=f"rbac-policy: {path}: {said}\n")
+    for number, (text, row) in enumerate(
+        (
+            (b"\xef\xbb\xbf" + ann, "ann,,no"),
+            (b"dn:\nuid: ann\n", "ann,,no"),
+            (ann + b"uid:: Ym9i!\n", "ann,,no"),
+            (ann + b"nsAccountLock:: /w==\n", "ann,,yes"),
+            (ann + b"pwdEndTime:< file:///end\n", "ann,,yes"),
+        )
+    ):
+        path = bench.write(f"read {number}.ldif", text)
+        ends(bench, row, policy(bench, "from", "ldif", path, "--out", f"out {number}"), 0)
+        rows = (bench.folder / f"out {number}/people.csv").read_text(encoding="utf-8").splitlines()[1:]
+        bench.same(f"the people of {text}", rows, [row])
+
+
+def check_malformed_realms(bench):
+    """What is no realm of Keycloak is refused in one line, and so is a folder that can't be written, of which nothing is left."""
+    for text in (b'{"clients": 5}', b'{"clients": [5]}', b'{"users": [5]}', b"[" * 100_000):
+        bench.write("realm.json", text)
+        done = policy(bench, "from", "keycloak", "realm.json", "--out", "out")
+        ends(bench, text[:20], done, 2, err="rbac-policy: realm.json: this is no realm that Keycloak has exported\n")
+    users = [{"username": f"user {number}", "enabled": True} for number in range(100)]
+    path, out = bench.write("realm.json", json.dumps({"users": users}).encode()), bench.path("full")
+    limit = (
+        f"import os, resource, sys; resource.setrlimit(resource.RLIMIT_FSIZE, (500, 500)); os.execv({PYTHON!r}, sys.argv[1:])"
+    )
+    command = [PYTHON, "-c", limit, PYTHON, "-B", str(BIN / "rbac-policy"), "from", "keycloak", path, "--out", out]
+    done = subprocess.run(command, capture_output=True, text=True, check=False)
+    bench.same("a file that is too large", (done.returncode, done.stderr), (2, f"rbac-policy: {out}: File too large\n"))
+    bench.same("the folder", (bench.folder / "full").exists(), False)
 
 
 def check_ldif_of_one_name(bench):

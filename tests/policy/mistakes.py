@@ -148,6 +148,9 @@ def check_all_at_once(bench):
     bench.write(
         "b.toml", b'[roles.clerk]\n[roles.boss]\ninherits = ["boss", "clark"]\n[static.one]\nroles = []\ncardinality = 2\n'
     )
+    bench.write("c.toml", b"objects = " + b"9" * 5_000)
+    done = policy(bench, "validate", "c.toml")
+    ends(bench, "a number that is too long", done, 1, err="c.toml: Exceeds the limit")
     done = policy(bench, "validate", "a.toml", "b.toml")
     wanted = [
         "a.toml:4: roles.clerk.grants.safe[0]: the object safe has no operation shut",

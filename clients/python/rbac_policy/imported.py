@@ -2,6 +2,7 @@
 
 import csv
 import io
+import shutil
 from dataclasses import dataclass, field
 from pathlib import Path
 
@@ -95,7 +96,7 @@ class Imported:
         return text.getvalue()
 
     def write(self, folder: str) -> None:
-        """Writes policy.toml, people.csv and left.txt into a new folder."""
+        """Writes policy.toml, people.csv and left.txt into a new folder, or nothing."""
         odd = {role for _, role in self.assignments if ";" in role or role != role.strip()}
         odd |= {user for user in self.users if user != user.strip()}
         for name in sorted(odd):
@@ -106,9 +107,13 @@ class Imported:
         texts["left.txt"] = "".join(f"{line}\n" for line in self.left)
         try:
             Path(folder).mkdir()
+        except OSError as error:
+            raise Stop(f"{folder}: {error.strerror}") from None
+        try:
             for name, text in texts.items():
                 (Path(folder) / name).write_text(text, encoding="utf-8")
         except OSError as error:
+            shutil.rmtree(folder, ignore_errors=True)
             raise Stop(f"{folder}: {error.strerror}") from None
 
 
