@@ -182,6 +182,7 @@ def check_sums(bench, release):
         ("a line twice", [*lines, lines[0]], "names a file twice"),
         ("a name in another folder", [*lines, f"{'0' * 64}  ../x\n"], "a line that is not a sum and a name"),
         ("an empty list", [], "doesn't list manifest"),
+        ("a last line without its end", [*lines[:-1], lines[-1].rstrip("\n")], "its last line has no end"),
     ):
         folder = release.copy(what)
         replace(folder / "SHA256SUMS", "".join(changed).encode())

@@ -198,6 +198,51 @@ def check_links(bench):
     bench.same("the office", run([PROGRAM, "check", office.path]).out, b"good\n")
 
 
+# Whoever owns the record puts a link in the place of its file, or of its folder, just when SQLite opens it, and takes it away again.
+SWAPPING = """import os, sqlite3
+old = sqlite3.connect
+def connect(path, *given, **named):
+    if not str(path).startswith('file:'):
+        return old(path, *given, **named)
+    os.rename({place!r}, 'kept')
+    os.symlink({secret!r}, {place!r})
+    opened = old(path, *given, **named)
+    opened.execute('SELECT count(*) FROM part').fetchone()
+    os.remove({place!r})
+    os.rename('kept', {place!r})
+    return opened
+sqlite3.connect = connect
+"""
+
+
+@pytest.mark.parametrize("journal", ["DELETE", "WAL"])
+def check_swapped_record(bench, journal):
+    """A link that is in the place of a record for a moment only leads to nothing that gets into a backup."""
+    small_office(bench)
+    folder_for(bench)
+    for folder in ("office.record", "secret"):
+        (bench.folder / folder).mkdir()
+        with closing(sqlite3.connect(bench.folder / folder / "record.db")) as file:
+            file.execute(f"PRAGMA journal_mode = {journal}")
+            file.execute("CREATE TABLE part (office)")
+    for place, secret in (("office.record/record.db", "secret/record.db"), ("office.record", "secret")):
+        text = SWAPPING.format(place=bench.path(place), secret=bench.path(secret)).replace("'kept'", repr(bench.path("kept")))
+        done = backup(bench, env=patched(bench, text))
+        refused(bench, f"a link at {place}", done, "what is there has changed while it was opened")
+    bench.same("without a link", backup(bench).status, 0)
+
+
+def check_links_of_office(bench):
+    """A link or a pipe in place of the log of an office is refused. Nobody waits for it, or copies what it leads to."""
+    small_office(bench)
+    folder_for(bench)
+    log = bench.folder / "office-wal"
+    for what, make in (("a link", lambda: log.symlink_to("/dev/zero")), ("a pipe", lambda: os.mkfifo(log))):
+        make()
+        refused(bench, what, backup(bench), "office-wal: it is a link, or no file")
+        log.unlink()
+
+
 @contextmanager
 def copying(bench, server, text, *words):
     """A script that is caught while it copies, with the server paused."""

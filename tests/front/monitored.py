@@ -44,6 +44,9 @@ ALERTS = {
         {'rbac_node_decisions_total{decision="denied"}': "0+6x1400 8400+600x60"},
         {'rbac_node_decisions_total{decision="denied"}': "0+600x1460", 'rbac_node_decisions_total{decision="allowed"}': "0+6x1400 8400+600x60"},
     ),
+    "DecisionsUnlogged": (
+        {"rbac_node_decisions_unlogged_total": "0x50 3x60"}, {"rbac_node_decisions_unlogged_total": f"3{HOUR}"}
+    ),
     "Unanswered": (
         {'rbac_node_answers_total{kind="command",status="503"}': "0+30x60"},
         {'rbac_node_answers_total{kind="command",status="200"}': "0+900x60", 'rbac_node_answers_total{kind="command",status="503"}': f"7{HOUR}"},
@@ -114,7 +117,7 @@ def check_rules(bench):
 
 def used_front(bench):
     """A front that has answered something of each sort."""
-    front = secured(bench)
+    front = secured(bench, "--log-decisions", "1")
     with front:
         front.ask("addUser", {"user": "ann"}, **ADMIN)
         front.ask("checkAccess", {"session": "s", "operation": "o", "object": "x"}, **ADMIN)

@@ -160,11 +160,18 @@ def check_demo(bench):
     bench.same("files that have the token", [path for path in Path(demo.folder).iterdir() if path.is_file() and token.encode() in path.read_bytes()], [])
     status, said = demo.run()
     bench.same("a second demo", (status, f"{demo.folder} exists" in said), (1, True))
+    other = Demo(bench, demo.front.port)
+    other.folder = bench.path("other")
+    status, said = other.run()
+    bench.same("a demo at the same port", (status, "bind: address already in use" in said), (1, True))
+    bench.same("removed", (other.run("--remove")[0], os.path.exists(other.folder)), (0, False))
     process.send_signal(signal.SIGTERM)
     bench.same("the end", process.wait(SECONDS), 0)
     bench.same("removed", (demo.run("--remove")[0], os.path.exists(demo.folder)), (0, False))
     os.mkdir(demo.folder)
     bench.same("a folder of somebody else", (demo.run("--remove")[0], os.path.exists(demo.folder)), (1, True))
+    Path(demo.folder, "bank.conf").touch()
+    bench.same("a folder of settings", (demo.run("--remove")[0], os.listdir(demo.folder)), (1, ["bank.conf"]))
 
 
 @pytest.mark.parametrize("missing", ["go", "python3"])

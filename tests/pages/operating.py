@@ -60,6 +60,19 @@ def block_with(words):
     return block
 
 
+def check_newest_backup(bench):
+    """The commands that restore take the newest backup, whatever else is in its folder."""
+    name, find = block_with("rbac-node restore").splitlines()[:2]
+    names = ["20260102-030405-000006", "20260102-030405-000007", "19990101-000000-000000"]
+    others = ["20260102-030405-000007.old", "21", "2x y\nz", "30000101-000000-000000", ".making-a", "20270101-000000-00000", "latest"]
+    for one in names + others:
+        (bench.folder / "office" / one).mkdir(parents=True)
+    script = "\n".join([name, find.replace("/var/backups/rbac/", ""), 'printf %s "$BACKUP"'])
+    for shell in ("sh", "bash"):
+        done = subprocess.run([shell, "-c", script], cwd=bench.folder, capture_output=True, text=True, check=False)
+        bench.same(f"the newest, by {shell}", (done.stdout, done.stderr), (f"office/{names[1]}", ""))
+
+
 @contextmanager
 def reader_of(bench):
     """A shell beside the folder deploy/, whose scripts use the program of the shell."""

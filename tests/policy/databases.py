@@ -1,6 +1,7 @@
 """Roles of a database of PostgreSQL: what the office decides is what the database says of its tables, or less, and the list says so."""
 
 import random
+import re
 import shutil
 import subprocess
 import tempfile
@@ -115,11 +116,12 @@ def check_postgresql(bench, seed):
 # for the table of the system since version 16, in which each membership says whether it inherits.
 DENYING = """
 CREATE ROLE holder; CREATE ROLE another;
-CREATE ROLE free LOGIN; CREATE ROLE asks LOGIN; CREATE ROLE kept LOGIN; CREATE ROLE shut LOGIN CONNECTION LIMIT 0;
-GRANT holder TO free, asks;
+CREATE ROLE free LOGIN VALID UNTIL 'infinity'; CREATE ROLE asks LOGIN VALID UNTIL '2999-01-01';
+CREATE ROLE kept LOGIN; CREATE ROLE shut LOGIN CONNECTION LIMIT 0; CREATE ROLE over LOGIN VALID UNTIL '2020-01-01';
+GRANT holder TO free, asks, over;
 GRANT another TO kept, shut;
 REVOKE CONNECT ON DATABASE denying FROM PUBLIC;
-GRANT CONNECT ON DATABASE denying TO free, asks, shut;
+GRANT CONNECT ON DATABASE denying TO free, asks, shut, over;
 CREATE SCHEMA a; GRANT USAGE ON SCHEMA a TO PUBLIC;
 CREATE TABLE a.t (x int); CREATE TABLE a.own (x int); CREATE VIEW a.v WITH (security_invoker) AS SELECT x FROM a.own;
 GRANT SELECT ON a.t, a.v TO holder;
@@ -132,7 +134,10 @@ CREATE VIEW later.pg_auth_members AS SELECT roleid, member, pg_get_userbyid(memb
 
 @pytest.mark.needs("root", "postgresql")
 def check_denials(bench):
-    """What somebody can't do who may not connect, or inherits nothing from a membership, the office allows nobody by the same grant."""
+    """What somebody can't do who may not connect, or inherits nothing from a membership, the office allows nobody by the same grant.
+
+    Whose password is no longer valid is locked, and the list has the times of passwords.
+    """
     users = ("free", "asks", "kept", "shut")
     permissions = [("a.t", "SELECT"), ("a.t", "UPDATE"), ("a.t", "INSERT"), ("a.v", "SELECT")]
     inserts = {(user, "a.t", "INSERT") for user in ("free", "asks")}
@@ -153,6 +158,12 @@ def check_denials(bench):
             )
             bench.same(f"the view ({out})", "the view a.v: " in left, True)
             bench.same(f"the membership ({out})", "that asks is a member of holder: " in left, out == "later")
+            times = re.findall(
+                r"^that the password of (\w+) is valid until .*: an office knows no time(; the user is locked)?$", left, re.M
+            )
+            bench.same(f"the times ({out})", sorted(times), [("asks", ""), ("over", "; the user is locked")])
+            rows = (bench.folder / out / "people.csv").read_text(encoding="utf-8").splitlines()
+            bench.same(f"who is locked ({out})", [row for row in rows if row.endswith(",yes")], ["over,over;public,yes"])
 
 
 def is_said(triple, left):

@@ -2,11 +2,12 @@
 
 import json
 import random
+import re
 import subprocess
 
 import pytest
 
-from .commands import ends, people, policy
+from .commands import BIN, PYTHON, ends, people, policy
 
 MODEL = """[request_definition]
 r = sub, obj, act
@@ -256,19 +257,86 @@ def check_ldif_of_names_that_are_no_text(bench):
 
 
 def check_ldif_of_ended_accounts(bench):
-    """An account that has ended, or hasn't begun, is locked, however its time is written. Of one whose time comes the list says so."""
+    """An account that has ended, or hasn't begun, is locked, however its time is written. The list has all ends, and the beginnings to come."""
     times = {
         "a": "pwdEndTime: 2026010112Z", "b": "pwdEndTime: 20260101120000.5Z", "c": "pwdEndTime: 202601011200+0100",
         "d": "pwdStartTime: 29990101000000Z", "e": "pwdStartTime: 2026010112Z", "f": "pwdEndTime: 2999010112Z", "g": "pwdEndTime: soon",
         "h": "shadowExpire: 20000", "i": "shadowExpire: 0", "j": "shadowExpire: 99999", "k": "shadowExpire: -1",
+        "l": "krbPrincipalExpiration: 20200101000000Z", "m": "krbPrincipalExpiration: 29990101000000Z",
+        "n": "sambaKickoffTime: 1577836800", "o": "sambaKickoffTime: 0", "p": "sambaKickoffTime: 9223372036854775807",
+        "q": "loginExpirationTime: 20200101000000Z", "r": "ds-pwp-account-expiration-time: 20200101000000Z", "s": "shadowExpire: never",
     }  # fmt: skip
     text = "".join(f"dn: uid={user},dc=example\nuid: {user}\nentryUUID: {user}\n{time}\n\n" for user, time in times.items())
     bench.write("all.ldif", text.encode())
     ends(bench, "import", policy(bench, "from", "ldif", "all.ldif", "--out", "out"), 0)
     rows = (bench.folder / "out/people.csv").read_text(encoding="utf-8").splitlines()[1:]
-    bench.same("who is locked", "".join(row[0] for row in rows if row.endswith(",yes")), "abcdghi")
+    bench.same("who is locked", "".join(row[0] for row in rows if row.endswith(",yes")), "abcdghilnqrs")
     left = (bench.folder / "out/left.txt").read_text(encoding="utf-8")
-    bench.same("whose time comes", "".join(user for user in times if f"that the account of {user} " in left), "dfgj")
+    named = dict(re.findall(r"^that the account of (\w) .*: an office knows no time(; the user is locked)?$", left, re.M))
+    bench.same("whose time the list has", "".join(sorted(named)), "abcdfghijlmnpqrs")
+    bench.same("who is locked by the list", "".join(user for user in sorted(named) if named[user]), "abcdghilnqrs")
+
+
+def check_ldif_of_disabled_accounts(bench):
+    """Who may not log in is locked, whichever attribute says so. Of a lock that may be for a time the list says so."""
+    states = {
+        "a": "nsAccountLock: TRUE", "b": "nsAccountLock: false", "c": "inetUserStatus: inactive", "d": "inetUserStatus: Active",
+        "e": "inetUserStatus: deleted", "f": "sambaAcctFlags: [UD         ]", "g": "sambaAcctFlags: [UX         ]",
+        "h": "sambaAcctFlags: [UL         ]", "i": "sambaAcctFlags: 512", "j": "loginDisabled: TRUE", "k": "loginDisabled: FALSE",
+        "l": "ds-pwp-account-disabled: true", "m": "pwdAccountLockedTime: 20200101000000Z", "n": "pwdAccountLockedTime: 000001010000Z",
+    }  # fmt: skip
+    text = "".join(f"dn: uid={user},dc=example\nuid: {user}\nentryUUID: {user}\n{state}\n\n" for user, state in states.items())
+    bench.write("all.ldif", text.encode())
+    ends(bench, "import", policy(bench, "from", "ldif", "all.ldif", "--out", "out"), 0)
+    rows = (bench.folder / "out/people.csv").read_text(encoding="utf-8").splitlines()[1:]
+    bench.same("who is locked", "".join(row[0] for row in rows if row.endswith(",yes")), "acefhijlmn")
+    left = (bench.folder / "out/left.txt").read_text(encoding="utf-8")
+    bench.same("who may be free again", "".join(re.findall(r"^whether (\w) is still locked: ", left, re.M)), "him")
+
+
+def check_malformed_ldif(bench):
+    """What is truncated or there twice is refused in one line. Locks that can't be read lock, and other values are left out."""
+    ann = b"dn: uid=ann,dc=example\nuid: ann\n"
+    for number, (text, said) in enumerate(
+        (
+            (ann + b"nsAccountLock: TR", "its last line doesn't end, so the file may be truncated"),
+            (ann + b"\n" + ann.replace(b"ann", b"ANN"), 'the entry "uid=ANN,dc=example" is in it twice'),
+            (ann.decode().encode("utf-16"), "it is not UTF-8"),
+        )
+    ):
+        path = bench.write(f"{number}.ldif", text)
+        done = policy(bench, "from", "ldif", path, "--out", "out")
+        ends(bench, said, done, 2, err=f"rbac-policy: {path}: {said}\n")
+    for number, (text, row) in enumerate(
+        (
+            (b"\xef\xbb\xbf" + ann, "ann,,no"),
+            (b"dn:\nuid: ann\n", "ann,,no"),
+            (ann + b"uid:: Ym9i!\n", "ann,,no"),
+            (ann + b"nsAccountLock:: /w==\n", "ann,,yes"),
+            (ann + b"pwdEndTime:< file:///end\n", "ann,,yes"),
+        )
+    ):
+        path = bench.write(f"read {number}.ldif", text)
+        ends(bench, row, policy(bench, "from", "ldif", path, "--out", f"out {number}"), 0)
+        rows = (bench.folder / f"out {number}/people.csv").read_text(encoding="utf-8").splitlines()[1:]
+        bench.same(f"the people of {text}", rows, [row])
+
+
+def check_malformed_realms(bench):
+    """What is no realm of Keycloak is refused in one line, and so is a folder that can't be written, of which nothing is left."""
+    for text in (b'{"clients": 5}', b'{"clients": [5]}', b'{"users": [5]}', b"[" * 100_000):
+        bench.write("realm.json", text)
+        done = policy(bench, "from", "keycloak", "realm.json", "--out", "out")
+        ends(bench, text[:20], done, 2, err="rbac-policy: realm.json: this is no realm that Keycloak has exported\n")
+    users = [{"username": f"user {number}", "enabled": True} for number in range(100)]
+    path, out = bench.write("realm.json", json.dumps({"users": users}).encode()), bench.path("full")
+    limit = (
+        f"import os, resource, sys; resource.setrlimit(resource.RLIMIT_FSIZE, (500, 500)); os.execv({PYTHON!r}, sys.argv[1:])"
+    )
+    command = [PYTHON, "-c", limit, PYTHON, "-B", str(BIN / "rbac-policy"), "from", "keycloak", path, "--out", out]
+    done = subprocess.run(command, capture_output=True, text=True, check=False)
+    bench.same("a file that is too large", (done.returncode, done.stderr), (2, f"rbac-policy: {out}: File too large\n"))
+    bench.same("the folder", (bench.folder / "full").exists(), False)
 
 
 def check_ldif_of_one_name(bench):

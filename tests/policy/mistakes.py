@@ -148,6 +148,9 @@ def check_all_at_once(bench):
     bench.write(
         "b.toml", b'[roles.clerk]\n[roles.boss]\ninherits = ["boss", "clark"]\n[static.one]\nroles = []\ncardinality = 2\n'
     )
+    bench.write("c.toml", b"objects = " + b"9" * 5_000)
+    done = policy(bench, "validate", "c.toml")
+    ends(bench, "a number that is too long", done, 1, err="c.toml: Exceeds the limit")
     done = policy(bench, "validate", "a.toml", "b.toml")
     wanted = [
         "a.toml:4: roles.clerk.grants.safe[0]: the object safe has no operation shut",
@@ -161,18 +164,21 @@ def check_all_at_once(bench):
 
 
 def check_limits(bench):
-    """More than a limit allows is one mistake for each kind, with the limit."""
-    roles = "".join(f"[roles.r{number}]\n" for number in range(1025))
-    objects = "".join(f"o{number} = []\n" for number in range(2001))
+    """More than a limit allows is one mistake for each kind, with the limit, whatever uses what is beyond it."""
+    roles = "".join(f"[roles.r{number}]\n" for number in range(1024)) + '[roles.r1024]\ngrants = { o2000 = ["open"] }\n'
+    objects = "".join(f"o{number} = []\n" for number in range(2000)) + 'o2000 = ["open"]\n'
     sets = "".join(f'[dynamic.s{number}]\nroles = ["r1", "r2"]\ncardinality = 2\n' for number in range(65))
     some = ", ".join(f'"r{number}"' for number in range(33))
     bench.write("p.toml", f"[objects]\n{objects}{roles}{sets}[static.all]\nroles = [{some}]\ncardinality = 2\n".encode())
+    with open(bench.path("p.toml"), "a", encoding="ascii") as file:
+        file.write('[users]\nann = ["r1024", "nobody"]\n')
     done = policy(bench, "validate", "p.toml")
     wanted = {
         "p.toml:2003: roles: an office has at most 1,024 roles, and these are 1,025",
         "p.toml:1: objects: an office has at most 2,000 objects, and these are 2,001",
-        "p.toml:3028: dynamic: an office has at most 64 dynamic sets, and these are 65",
-        "p.toml:3224: static.all.roles: a set has at most 32 roles, and this one has 33",
+        "p.toml:3029: dynamic: an office has at most 64 dynamic sets, and these are 65",
+        "p.toml:3228: users.ann[1]: there is no role nobody",
+        "p.toml:3225: static.all.roles: a set has at most 32 roles, and this one has 33",
     }
     said = {line for line in done.err.decode().splitlines() if not line.startswith("answers of the program: ")}
     bench.same("what is printed", (done.status, said), (1, wanted))
@@ -260,3 +266,12 @@ def check_token_in_the_clear(bench):
     ):
         done = policy(bench, "plan", "p.toml", "--front", f"http://{host}:{port}", "--token-file", "token")
         ends(bench, host, done, 2, err=err)
+    words = ("plan", "p.toml", "--front", f"http://0.0.0.0:{port}", "--token-file", "token")
+    ends(
+        bench,
+        "an address of no machine",
+        policy(bench, *words),
+        2,
+        err="or --token-over-http if the network encrypts by itself",
+    )
+    ends(bench, "over http, as asked for", policy(bench, *words, "--token-over-http"), 2, err="the front does not answer")

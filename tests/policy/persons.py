@@ -114,6 +114,26 @@ def check_leavers(bench):
     bench.same("the users that are left", pulled.count('"user '), 89)
 
 
+def check_no_roles(bench):
+    """A column roles without a role in it takes their roles from many only if their number is confirmed, with that of the leavers."""
+    good_office(bench)
+    names = [f"user {number}" for number in range(40)]
+    bench.write("people.csv", "\n".join(["user,roles", *(f"{name},employee" for name in names)]).encode())
+    ends(bench, "all", people(bench, "apply", "people.csv", "--file", "office", "--yes"), 0)
+    before = policy(bench, "pull", "--users", "--file", "office").out
+    bench.write("people.csv", "\n".join(["user,roles", *(f"{name}," for name in names[1:])]).encode())
+    words = ["apply", "people.csv", "--file", "office", "--yes"]
+    ends(bench, "none", people(bench, *words), 2, err='39 of 41 users would lose all roles ("user 1", "user 2"')
+    done = people(bench, *words, "--leavers", "delete")
+    ends(bench, "two ways", done, 2, err='41 of 41 users would be deleted or lose all roles (ann, "user 0", "user 1"')
+    bench.same("the office", policy(bench, "pull", "--users", "--file", "office").out, before)
+    two = ["user,roles", "user 1,", *(f"{name},auditor" for name in names[2:]), "new,"]
+    bench.write("people.csv", "\n".join(two).encode())
+    ends(bench, "one of 41, and others for other roles", people(bench, *words), 0, "Done: 78 changes. Refused: 0.\n")
+    bench.write("people.csv", "\n".join(["user,roles", *(f"{name}," for name in names[2:6])]).encode())
+    ends(bench, "confirmed", people(bench, *words, "--confirm", "4"), 0, "Done: 4 changes. Refused: 0.\n")
+
+
 def check_sessions(bench):
     """A plan names the sessions that end by their digests alone, and after apply these have ended and no others have."""
     good_office(bench)

@@ -23,6 +23,8 @@ type Config struct {
 	// Token shows who asks, and TokenFunc returns the present one. At most one of them is given. The end of a line after it is ignored.
 	Token     string
 	TokenFunc func() string
+	// TokenOverHTTP says that the token is sent to other machines without TLS too, over a network that encrypts by itself.
+	TokenOverHTTP bool
 	// Timeout limits a call as a whole, with all of its attempts. The default is 10 seconds.
 	Timeout time.Duration
 	// TLS has the authorities that are trusted and the client's own certificate. The default trusts those of the system.
@@ -83,6 +85,9 @@ func New(config Config) (*Client, error) {
 		if err != nil {
 			return nil, err
 		}
+		if token != nil && !read.hides && !config.TokenOverHTTP {
+			return nil, errNoTLS
+		}
 		c.addresses = append(c.addresses, read)
 	}
 	if c.timeout <= 0 {
@@ -97,8 +102,12 @@ func New(config Config) (*Client, error) {
 	return c, nil
 }
 
-// errToken is why a token can't be sent. It doesn't show it.
-var errToken = errors.New("rbacclient: a token is a text of visible ASCII characters without spaces")
+// errToken and errNoTLS are why a token can't be sent, or isn't. They don't show it.
+var (
+	errToken = errors.New("rbacclient: a token is a text of visible ASCII characters without spaces")
+	errNoTLS = errors.New("rbacclient: a token is sent over TLS alone, or to this machine: give an address that begins with https://, " +
+		"or TokenOverHTTP if the network encrypts by itself")
+)
 
 // tokenOf returns what returns the present token, or nil if there is none.
 func tokenOf(config Config) (func() (string, error), error) {

@@ -68,6 +68,32 @@ func refusesLater(t *testing.T, s *server, token string) {
 	}
 }
 
+// TestTokensOverHTTP sends tokens to other machines over TLS alone, or if the configuration says so: clients/conformance/addresses.json.
+func TestTokensOverHTTP(t *testing.T) {
+	var data map[string][]string
+	shared(t, "addresses.json", &data)
+	for kind, addresses := range data {
+		want := map[string]error{"sent": nil, "refused": errNoTLS}[kind]
+		for _, address := range addresses {
+			if _, err := New(Config{Addresses: []string{address}}); err != nil {
+				t.Errorf("%s without a token: %v", address, err)
+			}
+			for _, config := range []Config{
+				{Addresses: []string{"https://localhost", address}, Token: "abc"},
+				{Addresses: []string{address, "unix:/run/rbac/office.sock"}, TokenFunc: func() string { return "abc" }},
+			} {
+				if _, err := New(config); err != want {
+					t.Errorf("a token to %s: %v", address, err)
+				}
+				config.TokenOverHTTP = true
+				if _, err := New(config); err != nil {
+					t.Errorf("a token to %s, as the configuration wants: %v", address, err)
+				}
+			}
+		}
+	}
+}
+
 // TestShown prints what has a token or the name of a session.
 func TestShown(t *testing.T) {
 	config := Config{Addresses: []string{"http://localhost"}, Token: "abc-secret"}

@@ -30,6 +30,7 @@ type address struct {
 	network, place string      // what is dialed
 	host           string      // the value of the field Host
 	tls            *tls.Config // nil without TLS
+	hides          bool        // whether nobody on the way can read what is sent: over TLS, or on this machine
 
 	mu   sync.Mutex
 	idle []*conn
@@ -58,7 +59,7 @@ var past = time.Unix(1, 0)
 // readAddress reads an address.
 func readAddress(text string, config *tls.Config) (*address, error) {
 	if path := strings.TrimPrefix(text, "unix:"); path != text && path != "" {
-		return &address{network: "unix", place: path, host: "localhost"}, nil
+		return &address{network: "unix", place: path, host: "localhost", hides: true}, nil
 	}
 	parsed, err := url.Parse(text)
 	if err != nil || parsed.Scheme != "http" && parsed.Scheme != "https" || parsed.Hostname() == "" ||
@@ -66,7 +67,9 @@ func readAddress(text string, config *tls.Config) (*address, error) {
 		// The text isn't shown: it may have a password.
 		return nil, errors.New("rbacclient: this is no address such as https://localhost:8080 or unix:/run/rbac/office.sock")
 	}
-	made := &address{network: "tcp", host: parsed.Host}
+	ip := net.ParseIP(parsed.Hostname())
+	isHere := strings.EqualFold(parsed.Hostname(), "localhost") || ip != nil && ip.IsLoopback()
+	made := &address{network: "tcp", host: parsed.Host, hides: parsed.Scheme == "https" || isHere}
 	port := parsed.Port()
 	if parsed.Scheme == "https" {
 		made.tls = &tls.Config{MinVersion: tls.VersionTLS12}

@@ -15,6 +15,7 @@ import { Address } from "./transport.js";
  * @property {string | readonly string[]} addresses one or more of `http://HOST:PORT`, `https://HOST:PORT` and `unix:PATH`
  * @property {string | (() => string)} [token] shows who asks; a text, or a function that returns the present one. The end of a line
  *   after it is ignored
+ * @property {boolean} [tokenOverHttp] whether the token is sent to other machines without TLS too, over a network that encrypts by itself
  * @property {number} [timeout] how many milliseconds a call may take as a whole, with all of its attempts; 10,000 if absent
  * @property {string | Uint8Array} [ca] the certificates of the authorities that are trusted instead of those of Node
  * @property {string | Uint8Array} [certificate] the client's own certificate
@@ -47,7 +48,7 @@ export class Client extends Functions {
   /** @param {Options} options */
   constructor(options) {
     super();
-    const { ca, certificate: cert, key, token, timeout = 10_000, pause = 100, repeats = true } = options;
+    const { ca, certificate: cert, key, token, timeout = 10_000, pause = 100, repeats = true, tokenOverHttp = false } = options;
     const given = typeof options.addresses === "string" ? [options.addresses] : options.addresses;
     // Whom to trust isn't left to the variable NODE_TLS_REJECT_UNAUTHORIZED.
     const tls = { minVersion: "TLSv1.2", rejectUnauthorized: true, ca, cert, key };
@@ -59,6 +60,9 @@ export class Client extends Functions {
     const own = typeof token === "function" || token === undefined ? undefined : judged(token);
     if (own === null) {
       throw new TypeError(WRONG_TOKEN);
+    }
+    if (token !== undefined && !tokenOverHttp && !addresses.every((one) => one.hides)) {
+      throw new TypeError(NO_TLS);
     }
     this.#token = typeof token === "function" ? () => judged(token()) : () => own;
     this.#log = options.log ?? ((line) => console.warn(line));
@@ -213,6 +217,9 @@ export class Client extends Functions {
 }
 
 const WRONG_TOKEN = "a token is a text of visible ASCII characters without spaces";
+const NO_TLS =
+  "a token is sent over TLS alone, or to this machine: give an address that begins with https://, " +
+  "or tokenOverHttp if the network encrypts by itself";
 
 /**
  * A token without the end of the line that it may have, or null if it can't be sent.

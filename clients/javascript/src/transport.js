@@ -32,6 +32,8 @@ export class Address {
   constructor(text, tls) {
     const url = text.startsWith("unix:") && text.length > 5 ? undefined : urlOf(text);
     this.isTls = url?.protocol === "https:";
+    // Whether nobody on the way can read what is sent: over TLS, or on this machine.
+    this.hides = this.isTls || url === undefined || HERE.test(url.hostname);
     this.library = this.isTls ? https : http;
     const place = url
       ? { hostname: url.hostname.replace(/^\[|\]$/g, ""), port: Number(url.port) || (this.isTls ? 443 : 80) }
@@ -92,6 +94,9 @@ function closesAtData(socket) {
 
 /** @type {WeakMap<http.Socket, () => void>} */
 const ON_DATA = new WeakMap();
+
+// This machine. In the host of a URL letters are small, and an address has its usual form.
+const HERE = /^(localhost|127\.\d+\.\d+\.\d+|\[::1\])$/;
 
 // The text isn't shown: it may have a password.
 const NO_ADDRESS = "this is no address such as https://localhost:8080 or unix:/run/rbac/office.sock";

@@ -1,4 +1,5 @@
-// Tokens are judged when the client is made, or when a function returns one, and are never shown: clients/conformance/tokens.json.
+// Tokens are judged when the client is made, or when a function returns one, and are never shown: clients/conformance/tokens.json. They
+// go to other machines over TLS alone: addresses.json beside it.
 
 import assert from "node:assert/strict";
 import { after, before, test } from "node:test";
@@ -37,6 +38,26 @@ for (const token of ["", ...DATA.refused, 7, null]) {
     assert.deepEqual(server.requests, []);
     office.close();
   });
+}
+
+for (const [kind, addresses] of Object.entries(shared("addresses.json"))) {
+  for (const address of addresses) {
+    test(`a token to ${address} is ${kind}`, () => {
+      new Client({ addresses: address }).close();
+      for (const options of [
+        { addresses: ["https://localhost", address], token: "abc-secret" },
+        { addresses: [address, "unix:/run/rbac/office.sock"], token: () => "abc-secret" },
+      ]) {
+        if (kind === "sent") {
+          new Client(options).close();
+        } else {
+          const isRight = (error) => error instanceof TypeError && /https:/.test(error) && !/abc-secret/.test(inspect(error));
+          assert.throws(() => new Client(options), isRight);
+        }
+        new Client({ ...options, tokenOverHttp: true }).close();
+      }
+    });
+  }
 }
 
 test("what a function of the application throws isn't shown", async () => {

@@ -5,6 +5,7 @@
  * @property {string | readonly string[]} addresses one or more of `http://HOST:PORT`, `https://HOST:PORT` and `unix:PATH`
  * @property {string | (() => string)} [token] shows who asks; a text, or a function that returns the present one. The end of a line
  *   after it is ignored
+ * @property {boolean} [tokenOverHttp] whether the token is sent to other machines without TLS too, over a network that encrypts by itself
  * @property {number} [timeout] how many milliseconds a call may take as a whole, with all of its attempts; 10,000 if absent
  * @property {string | Uint8Array} [ca] the certificates of the authorities that are trusted instead of those of Node
  * @property {string | Uint8Array} [certificate] the client's own certificate
@@ -110,6 +111,10 @@ export type Options = {
      * after it is ignored
      */
     token?: string | (() => string) | undefined;
+    /**
+     * whether the token is sent to other machines without TLS too, over a network that encrypts by itself
+     */
+    tokenOverHttp?: boolean | undefined;
     /**
      * how many milliseconds a call may take as a whole, with all of its attempts; 10,000 if absent
      */

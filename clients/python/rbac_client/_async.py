@@ -81,10 +81,11 @@ class AsyncClient(AsyncOffice):
         key: Optional[str] = None,
         pause: float = 0.1,
         repeats: bool = True,
+        token_over_http: bool = False,
     ) -> None:
         """The parameters are those of `Client`."""
         super().__init__()
-        self._settings = Settings.of(addresses, timeout, token, ca, certificate, key, pause, repeats)
+        self._settings = Settings.of(addresses, timeout, token, ca, certificate, key, pause, repeats, token_over_http)
         self._idle: List[Tuple[Address, _Connection]] = []
 
     async def __aenter__(self) -> "AsyncClient":

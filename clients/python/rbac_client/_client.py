@@ -86,6 +86,7 @@ class Client(Office):
         key: Optional[str] = None,
         pause: float = 0.1,
         repeats: bool = True,
+        token_over_http: bool = False,
     ) -> None:
         """`addresses`: one or more of `http://HOST:PORT`, `https://HOST:PORT` and `unix:PATH`; one answers for all.
 
@@ -95,9 +96,10 @@ class Client(Office):
         `certificate`, `key`: the files of the client's own certificate and key.
         `pause`: how many seconds pass before a command is sent again. Each further pause is twice as long.
         `repeats`: whether a command whose answer was lost is sent again, if docs/howto/integrate.md, section 3, says that it may be.
+        `token_over_http`: whether the token is sent to other machines without TLS too, over a network that encrypts by itself.
         """
         super().__init__()
-        self._settings = Settings.of(addresses, timeout, token, ca, certificate, key, pause, repeats)
+        self._settings = Settings.of(addresses, timeout, token, ca, certificate, key, pause, repeats, token_over_http)
         self._idle: List[Tuple[Address, socket.socket]] = []
         self._lock, self._owner = threading.Lock(), os.getpid()
 

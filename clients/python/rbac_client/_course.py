@@ -8,7 +8,7 @@ from typing import List, Optional, Sequence, Union
 
 from ._decision import Error, Reason, Refused, Unanswered, Unreachable
 from ._answers import AGAIN, KINDS
-from ._http import Address, Token, judged
+from ._http import NO_TLS, Address, Token, judged
 
 # How often a command is sent at most, and for what a question is asked at the next address.
 MOST_ATTEMPTS = 4
@@ -46,6 +46,7 @@ class Settings:
         key: Optional[str],
         pause: float,
         repeats: bool,
+        token_over_http: bool,
     ) -> "Settings":
         """Reads the arguments of a client."""
         read = [Address.read(one) for one in ([addresses] if isinstance(addresses, str) else addresses)]
@@ -53,6 +54,8 @@ class Settings:
             raise ValueError("there is no address")
         if token is not None and not callable(token):
             token = judged(token)
+        if token is not None and not token_over_http and not all(one.hides for one in read):
+            raise ValueError(f"{NO_TLS}, or token_over_http if the network encrypts by itself")
         context = None
         if any(one.is_tls for one in read):
             context = ssl.create_default_context(cafile=ca)

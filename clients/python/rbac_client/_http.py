@@ -1,5 +1,6 @@
 """HTTP/1.1 as far as `rbac` and its front use it: requests as bytes, and answers that are read from bytes as they arrive."""
 
+import ipaddress
 import re
 from dataclasses import dataclass
 from typing import Callable, Optional, Union
@@ -17,6 +18,9 @@ _LENGTH = re.compile(rb"(?i)\ncontent-length[ \t]*:[ \t]*([^\r\n]*)\r")
 _OTHERS = re.compile(rb"(?i)\n(?:(transfer-encoding)|connection:[^\r\n]*(close))")
 
 _NUMBERS = {name: re.compile(rb"(?i)\n%s:[ \t]*([^\r\n]*)\r" % name) for name in (b"Office-Number", b"Policy-Revision")}
+
+# Why a token isn't sent.
+NO_TLS = "a token is sent over TLS alone, or to this machine: give an address that begins with https://"
 
 # A token, or what returns the present one.
 Token = Union[str, Callable[[], str]]
@@ -42,6 +46,16 @@ class Address:
             raise ValueError("this is no address such as https://localhost:8080 or unix:/run/rbac/office.sock")
         is_tls = parts[1] == "https"
         return cls(parts[2].strip("[]"), int(parts[3] or (443 if is_tls else 80)), is_tls)
+
+    @property
+    def hides(self) -> bool:
+        """Whether nobody on the way can read what is sent: over TLS, or on this machine."""
+        if self.is_tls or self.path or self.host.lower() == "localhost":
+            return True
+        try:
+            return ipaddress.ip_address(self.host).is_loopback
+        except ValueError:
+            return False
 
     @property
     def field(self) -> str:

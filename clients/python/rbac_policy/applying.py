@@ -100,7 +100,7 @@ def check_saved(path: str, plan: Plan) -> None:
         found, wanted = value["found"], value["wanted"]
     except OSError as error:
         raise Stop(f"{path}: {error.strerror}") from None
-    except (ValueError, KeyError, TypeError):
+    except (ValueError, KeyError, TypeError, RecursionError):
         raise Stop(f"{path}: this is no plan that rbac-policy has saved") from None
     if found != plan.found.digest():
         raise Stop(f"{path}: the plan was made for another state of the office: nothing was done")

@@ -22,6 +22,8 @@ def add_target(parser: argparse.ArgumentParser) -> None:
     which.add_argument("--file", metavar="OFFICE", help="the file of an office that no program has open")
     group.add_argument("--copy", metavar="FILE", help="a copy of the office of --server")
     group.add_argument("--token-file", metavar="FILE", help="a file with the token of the caller")
+    words = "send the token to other machines without TLS too, over a network that encrypts by itself"
+    group.add_argument("--token-over-http", action="store_true", help=words)
     group.add_argument("--ca", metavar="FILE", help="the authorities that may have issued the server's certificate")
     group.add_argument("--certificate", metavar="FILE", help="the caller's own certificate")
     group.add_argument("--key", metavar="FILE", help="the key of that certificate")
@@ -35,7 +37,9 @@ def target_of(arguments: argparse.Namespace) -> tuple[Target, bool]:
     if arguments.file is not None:
         return InFile(arguments.file), True
     address = arguments.front or arguments.server
-    access = Access(address, arguments.token_file, arguments.ca, arguments.certificate, arguments.key)
+    access = Access(
+        address, arguments.token_file, arguments.ca, arguments.certificate, arguments.key, arguments.token_over_http
+    )
     if arguments.server is not None:
         return Server(access, arguments.copy), True
     return Front(access, arguments.reason), False

@@ -26,15 +26,11 @@ def from_keycloak(path: str) -> Imported:
         _read_roles(found, realm.get("roles", {}))
         _read_groups(found, realm.get("groups", []), "")
         _read_users(found, realm.get("users", []))
+        _leave_clients(found, realm.get("clients", []))
     except OSError as error:
         raise Stop(f"{path}: {error.strerror}") from None
     except (ValueError, TypeError, AttributeError, KeyError, RecursionError):
         raise Stop(f"{path}: this is no realm that Keycloak has exported") from None
-    for client in realm.get("clients", []):
-        if client.get("authorizationSettings"):
-            found.leave(f"the permissions of the client {shown(str(client.get('clientId')))}", "grant them to roles by hand")
-        if client.get("serviceAccountsEnabled"):
-            found.leave(f"the service account of the client {shown(str(client.get('clientId')))}", "it is no user of the file")
     for key in _OTHERS:
         if realm.get(key):
             found.leave(f"{key} of the realm", "an office has no such thing")
@@ -89,6 +85,14 @@ def _read_users(found: Imported, users: list[dict[str, Any]]) -> None:
         found.users[name] = user.get("enabled") is not True
         found.assignments |= {(name, role) for role in _mapped(user, "realmRoles", "clientRoles")}
         found.assignments |= {(name, f"group {path}") for path in user.get("groups") or []}
+
+
+def _leave_clients(found: Imported, clients: list[dict[str, Any]]) -> None:
+    for client in clients:
+        if client.get("authorizationSettings"):
+            found.leave(f"the permissions of the client {shown(str(client.get('clientId')))}", "grant them to roles by hand")
+        if client.get("serviceAccountsEnabled"):
+            found.leave(f"the service account of the client {shown(str(client.get('clientId')))}", "it is no user of the file")
 
 
 def _leave_unknown(found: Imported) -> None:

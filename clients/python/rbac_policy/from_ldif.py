@@ -19,6 +19,19 @@ _MEMBERS = ("member", "uniquemember", "memberuid", "memberurl", "roleoccupant")
 _LOCKS = ("pwdaccountlockedtime", "nsaccountlock")
 _FOR_EVER = "000001010000Z"
 
+# The same in words of other servers, the state of an account that isn't locked, and flags of Samba without D (disabled) and L (locked).
+_OTHER_LOCKS = ("logindisabled", "ds-pwp-account-disabled")
+_ACTIVE, _NO_LOCK = "active", re.compile(r"\[[A-CE-KM-Z ]*\]")
+
+# What says when an account begins or ends: as a time, or as a number of so many seconds since 1970, which may mean never.
+_TIMES = {"pwdstarttime": "begins"} | dict.fromkeys(
+    ("pwdendtime", "krbprincipalexpiration", "loginexpirationtime", "ds-pwp-account-expiration-time"), "ends"
+)
+_NUMBERS = {"shadowexpire": (86_400, "-1"), "sambakickofftime": (1, "0")}
+
+# A value of these that can't be read is kept as it is written: it locks.
+_JUDGED = {*_LOCKS, *_OTHER_LOCKS, "sambaacctflags", "inetuserstatus", *_TIMES, *_NUMBERS}
+
 # What a server keeps about entries beside what they are given: an export has all of it or nothing.
 _OF_SERVER = ("entryuuid", "nsuniqueid", "createtimestamp", *_LOCKS)
 
@@ -32,7 +45,10 @@ def from_ldif(path: str) -> Imported:
     """Reads an export of a directory. A group that is a member of another one inherits from it, since its members are members."""
     found = Imported()
     entries = list(_entries(path, found))
-    by_dn = {_plain(entry["dn"][0]): entry for entry in entries}
+    by_dn: dict[Name, Entry] = {}
+    for entry in entries:
+        if by_dn.setdefault(_plain(entry["dn"][0]), entry) is not entry:
+            raise Stop(f"{path}: the entry {shown(entry['dn'][0])} is in it twice")
     roles: dict[Name, str] = {}
     users: dict[Name, str] = {}
     for dn, entry in by_dn.items():
@@ -74,31 +90,42 @@ def from_ldif(path: str) -> Imported:
 
 def _is_locked(found: Imported, entry: Entry, user: str) -> bool:
     """Whether a user can't log in now. What may change by itself is left."""
-    locks = [value for key in _LOCKS for value in entry.get(key, []) if value and value.lower() != "false"]
+    locks = [value for key in _LOCKS + _OTHER_LOCKS for value in entry.get(key, []) if value and value.lower() != "false"]
     if locks:
         if _FOR_EVER not in locks and "true" not in map(str.lower, locks):
             found.leave(
                 f"whether {shown(user)} is still locked", f"the directory has locked it at {locks[0]}, perhaps for a time"
             )
         return True
-    return _is_out_of_time(found, entry, user)
+    flags = [value for value in entry.get("sambaacctflags", []) if not _NO_LOCK.fullmatch(value)]
+    if flags and "D" not in flags[0]:
+        found.leave(f"whether {shown(user)} is still locked", f"Samba's flags are {shown(flags[0])}")
+    is_inactive = any(value.lower() != _ACTIVE for value in entry.get("inetuserstatus", []))
+    return _is_out_of_time(found, entry, user) or is_inactive or bool(flags)
 
 
 def _is_out_of_time(found: Imported, entry: Entry, user: str) -> bool:
     """Whether the account of a user hasn't begun or has ended. What may change by itself is left."""
     now, is_out = datetime.now(timezone.utc), False
-    for key, what in (("pwdstarttime", "begins"), ("pwdendtime", "ends")):
+    for key, what in _TIMES.items():
         for text in entry.get(key, []):
             time = _time_of(text)
-            if time is None or time > now:
-                found.leave(f"that the account of {shown(user)} {what} at {text}", "an office knows no time")
-            is_out = is_out or time is None or (time > now) == (what == "begins")
-    for day in entry.get("shadowexpire", []):
-        if re.fullmatch(r"\d+", day) and int(day) * 86_400 <= now.timestamp():
-            is_out = True
-        elif day != "-1":
-            found.leave(f"that the account of {shown(user)} ends at day {day} of POSIX", "an office knows no time")
+            if time is None or what == "ends" or time > now:
+                is_now = time is None or (time > now) == (what == "begins")
+                _leave_time(found, user, f"{what} at {shown(text)}", is_now)
+                is_out = is_out or is_now
+    for key, (seconds, never) in _NUMBERS.items():
+        for text in entry.get(key, []):
+            if text != never:
+                is_now = not re.fullmatch(r"\d{1,20}", text) or int(text) * seconds <= now.timestamp()
+                _leave_time(found, user, f"ends at {shown(text)} of {key}", is_now)
+                is_out = is_out or is_now
     return is_out
+
+
+def _leave_time(found: Imported, user: str, what: str, is_now: bool) -> None:
+    """Notes a time of an account, and whether the user is locked now because of it."""
+    found.leave(f"that the account of {shown(user)} {what}", f"an office knows no time{'; the user is locked' * is_now}")
 
 
 def _time_of(text: str) -> datetime | None:
@@ -148,7 +175,7 @@ def _name(dn: Name, entry: Entry, key: str) -> str:
     values = entry.get(key, [])
     if not values:
         raise Stop(f"the entry {shown(entry['dn'][0])} has no {key}")
-    first = dict(dn[0]).get(key)
+    first = dict(dn[0]).get(key) if dn else None
     return next((value for value in values if _folded(value) == first), values[0])
 
 
@@ -181,11 +208,13 @@ def _folded(value: str) -> str:
 def _entries(path: str, found: Imported) -> Iterator[Entry]:
     """The entries of a file: their values by their keys in small letters."""
     try:
-        text = Path(path).read_text(encoding="utf-8")
+        text = Path(path).read_text(encoding="utf-8-sig")
     except OSError as error:
         raise Stop(f"{path}: {error.strerror}") from None
     except UnicodeDecodeError:
         raise Stop(f"{path}: it is not UTF-8") from None
+    if text and not text.endswith("\n"):
+        raise Stop(f"{path}: its last line doesn't end, so the file may be truncated")
     unfolded = re.sub(r"\r?\n ", "", text)
     for block in re.split(r"(?:\r?\n){2,}", unfolded.strip("\r\n")):
         entry: Entry = {}
@@ -195,18 +224,26 @@ def _entries(path: str, found: Imported) -> Iterator[Entry]:
             parts = re.fullmatch(r"([A-Za-z0-9.-]+)(?:;[A-Za-z0-9;-]+)?:([:<]?) *(.*)", line)
             if parts is None:
                 raise Stop(f"{path}: this is no line of LDIF: {shown(line[:60])}")
-            key, kind, value = parts[1].lower(), parts[2], parts[3]
-            if kind == "<":
-                found.leave(f"a value of {key}", "it is in another file")
-                continue
+            key, value = parts[1].lower(), _value(path, found, parts[1].lower(), parts[2], parts[3])
             if key == "changetype":
                 raise Stop(f"{path}: it has changes and not entries")
-            try:
-                entry.setdefault(key, []).append(base64.b64decode(value).decode() if kind else value)
-            except ValueError:
-                if key == "dn":
-                    raise Stop(f"{path}: the name of an entry is no text: {shown(value[:60])}") from None
-                if key not in ("userpassword", "jpegphoto"):
-                    found.leave(f"a value of {key}", "it is no text")
+            if value is not None:
+                entry.setdefault(key, []).append(value)
         if "dn" in entry:
             yield entry
+
+
+def _value(path: str, found: Imported, key: str, kind: str, text: str) -> str | None:
+    """The value of a line, or None if it can't be read. `kind` is what is between its key and its text."""
+    fault = "it is in another file" if kind == "<" else "it is no text"
+    try:
+        if not kind:
+            return text
+        if kind == ":":
+            return base64.b64decode(text.strip(), validate=True).decode()
+    except ValueError:
+        if key == "dn":
+            raise Stop(f"{path}: the name of an entry is no text: {shown(text[:60])}") from None
+    if key not in ("userpassword", "jpegphoto"):
+        found.leave(f"a value of {key}", fault)
+    return text if key in _JUDGED else None

@@ -11,7 +11,8 @@ from .model import Stop, shown
 # who can't reach a schema, or not even the database.
 _QUERY = """
 SELECT json_build_object(
-    'roles', (SELECT json_agg(json_build_object('name', rolname, 'login', rolcanlogin, 'super', rolsuper))
+    'roles', (SELECT json_agg(json_build_object('name', rolname, 'login', rolcanlogin, 'super', rolsuper,
+            'until', nullif(rolvaliduntil, 'infinity'), 'over', rolvaliduntil <= now()))
         FROM pg_roles WHERE rolname !~ '^pg_'),
     'members', (SELECT coalesce(json_agg(json_build_array(m.rolname, r.rolname,
             coalesce((to_jsonb(g) ->> 'inherit_option')::bool, m.rolinherit))), '[]')
@@ -41,7 +42,10 @@ def from_postgresql(address: str) -> Imported:
     for role in read["roles"]:
         found.roles.add(role["name"])
         if role["login"]:
-            found.users[role["name"]] = False
+            found.users[role["name"]] = role["over"] is True
+            if role["until"] is not None:
+                words = f"an office knows no time{'; the user is locked' * found.users[role['name']]}"
+                found.leave(f"that the password of {shown(role['name'])} is valid until {role['until']}", words)
             found.assignments |= {(role["name"], role["name"]), (role["name"], _PUBLIC)}
         if role["super"]:
             found.leave(f"that {shown(role['name'])} is a superuser", "an office has none: grant what is needed to a role")

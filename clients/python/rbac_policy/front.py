@@ -1,14 +1,13 @@
 """An office behind a front: it is read by lists, and changed by batches that name the revision of the policy."""
 
 import http.client
-import ipaddress
 import json
 import socket
 import ssl
 from collections.abc import Iterator, Sequence
 from dataclasses import dataclass
 
-from rbac_client._http import Address, judged
+from rbac_client._http import NO_TLS, Address, judged
 
 from .model import Command, DutySet, State, Stop, line_of
 from .target import Broken, Judge, refusal_of
@@ -41,6 +40,7 @@ class Access:
     ca: str | None = None
     certificate: str | None = None
     key: str | None = None
+    token_over_http: bool = False
     timeout: float = 30.0
 
 
@@ -64,8 +64,8 @@ class Connection:
                     self._context.load_cert_chain(access.certificate, access.key)
         except (OSError, ValueError) as error:
             raise Stop(str(error)) from None
-        if self._token is not None and not self._address.is_tls and not _is_here(self._address):
-            raise Stop("a token is sent over TLS alone, or to this machine: give an address that begins with https://")
+        if self._token is not None and not access.token_over_http and not self._address.hides:
+            raise Stop(f"{NO_TLS}, or --token-over-http if the network encrypts by itself")
 
     def ask(
         self, method: str, path: str, body: bytes | None, fields: dict[str, str]
@@ -98,14 +98,6 @@ class Connection:
         if self._context is not None:
             return http.client.HTTPSConnection(address.host, address.port, timeout=timeout, context=self._context)
         return http.client.HTTPConnection(address.host, address.port, timeout=timeout)
-
-
-def _is_here(address: Address) -> bool:
-    """Whether an address is one of this machine."""
-    try:
-        return bool(address.path) or address.host == "localhost" or ipaddress.ip_address(address.host).is_loopback
-    except ValueError:
-        return False
 
 
 class _OverSocket(http.client.HTTPConnection):

@@ -2,6 +2,7 @@
 
 import csv
 import io
+import shutil
 from dataclasses import dataclass, field
 from pathlib import Path
 
@@ -61,12 +62,14 @@ class Imported:
         self.grants = {one for one in self.grants if one[2] in self.roles and not name_fault(one[0]) and not name_fault(one[1])}
         self.assignments = {pair for pair in self.assignments if pair[0] in self.users and pair[1] in self.roles}
         edges, self.edges = sorted(self.edges), set()
+        direct: dict[str, list[str]] = {}
         for asc, desc in edges:
             if asc in self.roles and desc in self.roles:
-                if asc in juniors_of(self.state()).get(desc, ()):
+                if _leads(direct, desc, asc):
                     self.leave(f"that {shown(asc)} inherits from {shown(desc)}", "it closes a cycle")
                 else:
                     self.edges.add((asc, desc))
+                    direct.setdefault(asc, []).append(desc)
 
     def state(self) -> State:
         """The policy without its users."""
@@ -93,7 +96,7 @@ class Imported:
         return text.getvalue()
 
     def write(self, folder: str) -> None:
-        """Writes policy.toml, people.csv and left.txt into a new folder."""
+        """Writes policy.toml, people.csv and left.txt into a new folder, or nothing."""
         odd = {role for _, role in self.assignments if ";" in role or role != role.strip()}
         odd |= {user for user in self.users if user != user.strip()}
         for name in sorted(odd):
@@ -104,7 +107,22 @@ class Imported:
         texts["left.txt"] = "".join(f"{line}\n" for line in self.left)
         try:
             Path(folder).mkdir()
+        except OSError as error:
+            raise Stop(f"{folder}: {error.strerror}") from None
+        try:
             for name, text in texts.items():
                 (Path(folder) / name).write_text(text, encoding="utf-8")
         except OSError as error:
+            shutil.rmtree(folder, ignore_errors=True)
             raise Stop(f"{folder}: {error.strerror}") from None
+
+
+def _leads(direct: dict[str, list[str]], first: str, last: str) -> bool:
+    """Whether a role is another one, or inherits from it. `direct` has what roles inherit from directly."""
+    reached, ahead = {first}, [first]
+    while ahead and last not in reached:
+        for junior in direct.get(ahead.pop(), ()):
+            if junior not in reached:
+                reached.add(junior)
+                ahead.append(junior)
+    return last in reached

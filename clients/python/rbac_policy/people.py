@@ -14,7 +14,7 @@ from .model import Command, State, Stop, shown
 _COLUMNS = ("user", "roles", "locked")
 _YES, _NO = ("yes", "true", "1", "x"), ("no", "false", "0")
 
-# Above how many users who would be locked or deleted their number has to be confirmed: 5 of 100.
+# Above how many users who would be locked or deleted, or lose all roles, their number has to be confirmed: 5 of 100.
 _SHARE = 20
 
 
@@ -103,13 +103,15 @@ def _read_row(found: People, line: int, columns: list[str], row: list[str]) -> N
 class Changes:
     """The commands for the people of a file, each with the line that it is from, or 0 for who isn't in the file.
 
-    `absent` are the users who aren't in the file, and `leavers` those of them who are locked or deleted.
+    `absent` are the users who aren't in the file, and `leavers` those of them who are locked or deleted. `bare` are the users of the
+    file who lose their roles, and get none.
     """
 
     commands: list[Command] = field(default_factory=list)
     lines: list[int] = field(default_factory=list)
     absent: list[str] = field(default_factory=list)
     leavers: list[str] = field(default_factory=list)
+    bare: list[str] = field(default_factory=list)
 
     def add(self, line: int, function: str, **arguments: str) -> None:
         """Adds a command."""
@@ -127,6 +129,7 @@ def changes_of(found: State, people: list[Person], leavers: str) -> Changes:
     for user, role in found.assignments:
         roles.setdefault(user, set()).add(role)
     here = {person.user for person in people}
+    changes.bare = [person.user for person in people if person.roles == () and roles.get(person.user)]
     changes.absent = sorted(user for user in found.users if user not in here)
     if leavers != "keep":
         changes.leavers = [user for user in changes.absent if leavers == "delete" or not found.users[user]]
@@ -164,6 +167,6 @@ def _gives(person: Person, found: State, roles: set[str]) -> Iterator[tuple[int,
 
 
 def needs_confirmation(found: State, changes: Changes) -> int:
-    """How many leavers have to be confirmed: 0 if they are few."""
-    count = len(changes.leavers)
+    """How many users who lose everything have to be confirmed: 0 if they are few."""
+    count = len(changes.leavers) + len(changes.bare)
     return count if count * _SHARE > len(found.users) else 0

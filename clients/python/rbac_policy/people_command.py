@@ -52,7 +52,7 @@ def _parser() -> argparse.ArgumentParser:
         words = "what becomes of users who aren't in the file (keep)"
         command.add_argument("--leavers", choices=("keep", "lock", "delete"), default="keep", help=words)
         if name == "apply":
-            words = "how many users may be locked or deleted, if they are above 5 of 100"
+            words = "how many users may be locked or deleted, or lose all roles, if they are above 5 of 100"
             command.add_argument("--confirm", type=int, metavar="NUMBER", help=words)
             command.add_argument("--yes", action="store_true", help="do it without a question")
         add_target(command)
@@ -116,11 +116,10 @@ def _apply(plan: Plan, target: Target, found: State) -> int:
     arguments, changes = plan.arguments, plan.changes
     count = needs_confirmation(found, changes)
     if count and arguments.confirm != count:
-        verb = {"lock": "locked", "delete": "deleted"}[arguments.leavers]
-        some = ", ".join(map(shown, changes.leavers[:5]))
-        raise Stop(
-            f"{count:,} of {len(found.users):,} users would be {verb} ({some}, ..): nothing was done. Use --confirm {count}"
-        )
+        ways = [f"be {arguments.leavers.removesuffix('e')}ed"] * bool(changes.leavers) + ["lose all roles"] * bool(changes.bare)
+        some = ", ".join(map(shown, (changes.leavers + changes.bare)[:5]))
+        what = f"{count:,} of {len(found.users):,} users would {' or '.join(ways)} ({some}, ..)"
+        raise Stop(f"{what}: nothing was done. Use --confirm {count}")
     _show(plan)
     if not changes.commands:
         return 0

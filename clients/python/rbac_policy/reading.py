@@ -90,7 +90,7 @@ def _read_file(policy: Policy, path: str, read: dict[str, dict[str, Any]]) -> No
     except UnicodeDecodeError:
         policy.mistakes.append(Mistake(path, 0, (), "it is not UTF-8"))
         return
-    except (tomllib.TOMLDecodeError, RecursionError) as error:
+    except (ValueError, RecursionError) as error:
         policy.mistakes.append(Mistake(path, 0, (), str(error) or "it nests too deep"))
         return
     policy.texts[path] = text

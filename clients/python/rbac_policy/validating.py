@@ -28,8 +28,21 @@ def validate(policy: Policy) -> None:
                 beyond.add(refusal["kind"])
                 _note_beyond(policy, refusal["kind"], path)
             continue
+        if beyond and _is_there(policy.state, command, refusal["code"]):
+            continue
         for at, text in reasons(policy.state, command, path, refusal):
             policy.note(at, text)
+
+
+def _is_there(state: State, command: Command, code: object) -> bool:
+    """Whether the policy has what the office says isn't there: a limit alone has kept it out."""
+    roles = {command[key] for key in ("role", "asc", "desc") if key in command} | {*command.get("roles", ())}
+    return (
+        (code == 2 and command["user"] in state.users)
+        or (code == 4 and roles <= state.roles)
+        or (code == 6 and command["object"] in state.objects)
+        or (code == 8 and (command["object"], command["operation"]) in state.permissions)
+    )
 
 
 def _note_beyond(policy: Policy, kind: str, path: Path) -> None:
@@ -40,7 +53,9 @@ def _note_beyond(policy: Policy, kind: str, path: Path) -> None:
 def reasons(state: State, command: Command, path: Path, refusal: dict[str, object]) -> Iterable[tuple[Path, str]]:
     """Why the office refuses a command that is from a path, for a reader of the file: each reason with its path."""
     code, function = refusal["code"], command["fn"]
-    if code == 4 and "roles" in command:
+    if _is_there(state, command, code):
+        yield path, f"the office refuses {function}: {code} {refusal['error']}, since a limit has kept that out"
+    elif code == 4 and "roles" in command:
         for role in command["roles"]:
             if role not in state.roles:
                 yield (*path, "roles"), absent("role", role, state.roles)

@@ -1,4 +1,7 @@
-"""Tokens are judged when the client is made, or when a function returns one, and are never shown: clients/conformance/tokens.json."""
+"""Tokens are judged when the client is made, or when a function returns one, and are never shown: clients/conformance/tokens.json.
+
+They go to other machines over TLS alone: addresses.json beside it.
+"""
 
 import traceback
 
@@ -6,7 +9,7 @@ import pytest
 
 from fake import shared
 
-DATA = shared("tokens.json")
+DATA, ADDRESSES = shared("tokens.json"), shared("addresses.json")
 
 
 @pytest.mark.parametrize("token", DATA["sent"])
@@ -34,6 +37,23 @@ def test_refused(server, made, token, caplog):
             + decision.detail
         )
         assert token.strip() not in shown and ascii(token)[1:-1] not in shown
+
+
+@pytest.mark.parametrize("kind, address", [(kind, address) for kind, some in ADDRESSES.items() for address in some])
+def test_other_machines(made, kind, address):
+    """A token goes to other machines over TLS alone, unless the application says otherwise."""
+    made(address)
+    for addresses, token in (["https://localhost", address], "abc-secret"), (
+        [address, "unix:/run/office"],
+        lambda: "abc-secret",
+    ):
+        if kind == "sent":
+            made(addresses, token=token)
+        else:
+            with pytest.raises(ValueError, match="https://") as raised:
+                made(addresses, token=token)
+            assert "abc-secret" not in "".join(traceback.format_exception(raised.type, raised.value, raised.tb))
+        made(addresses, token=token, token_over_http=True)
 
 
 def test_broken_function(server, made, caplog):

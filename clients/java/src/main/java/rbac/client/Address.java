@@ -39,6 +39,11 @@ final class Address {
         this.context = isTls ? context : null;
     }
 
+    /** Whether nobody on the way can read what is sent: over TLS, or on this machine. */
+    boolean hides() {
+        return context != null || host.equalsIgnoreCase("localhost") || host.matches("127\\.[0-9.]+|[0:]*:0*1");
+    }
+
     /** The text isn't shown: it may have a password. */
     private static final String NO_ADDRESS = "this is no address such as https://localhost:8080";
 

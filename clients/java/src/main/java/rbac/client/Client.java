@@ -22,6 +22,9 @@ public final class Client extends Functions implements AutoCloseable {
 
     private static final Pattern TOKEN = Pattern.compile("([!-~]+)(?:\r?\n)?");
     private static final String WRONG_TOKEN = "a token is a text of visible ASCII characters without spaces";
+    private static final String NO_TLS =
+        "a token is sent over TLS alone, or to this machine: give an address that begins with https://, "
+        + "or tokenOverHttp if the network encrypts by itself";
 
     private final List<Address> addresses = new ArrayList<>();
     private final AtomicInteger first = new AtomicInteger();
@@ -39,6 +42,9 @@ public final class Client extends Functions implements AutoCloseable {
         var context = builder.context == null ? usual() : builder.context;
         builder.addresses.forEach(address -> addresses.add(new Address(address, context)));
         token = builder.token;
+        if (token != null && !builder.tokenOverHttp && !addresses.stream().allMatch(Address::hides)) {
+            throw new IllegalArgumentException(NO_TLS);
+        }
         timeout = builder.timeout;
         pause = builder.pause;
         repeats = builder.repeats;
@@ -62,6 +68,7 @@ public final class Client extends Functions implements AutoCloseable {
     public static final class Builder {
         private final List<String> addresses = new ArrayList<>();
         private Supplier<String> token;
+        private boolean tokenOverHttp;
         private Duration timeout = Duration.ofSeconds(10);
         private Duration pause = Duration.ofMillis(100);
         private boolean repeats = true;
@@ -88,6 +95,12 @@ public final class Client extends Functions implements AutoCloseable {
         /** Shows who asks: the function returns the present token. */
         public Builder token(Supplier<String> given) {
             token = () -> judged(given.get());
+            return this;
+        }
+
+        /** Whether the token is sent to other machines without TLS too, over a network that encrypts by itself. */
+        public Builder tokenOverHttp(boolean given) {
+            tokenOverHttp = given;
             return this;
         }
 

@@ -15,7 +15,7 @@ import org.junit.jupiter.api.DynamicTest;
 import org.junit.jupiter.api.Test;
 import org.junit.jupiter.api.TestFactory;
 
-/** Tokens, lines of the log, and guards: with clients/conformance/tokens.json and log_lines.json. */
+/** Tokens, lines of the log, and guards: with clients/conformance/tokens.json, addresses.json and log_lines.json. */
 class ClientTest {
     private final Map<?, ?> tokens = (Map<?, ?>) Values.shared("tokens.json");
 
@@ -64,6 +64,31 @@ class ClientTest {
             assertFalse(error.mayBeDone());
             assertFalse(token != null && token.length() > 2 && (logged.lines + error.toString() + decision).contains(token));
             assertEquals(List.of(), server.requests);
+        }
+    }
+
+    @TestFactory
+    List<DynamicTest> tokensGoToOtherMachinesOverTls() throws IOException {
+        var tests = new ArrayList<DynamicTest>();
+        ((Map<?, ?>) Values.shared("addresses.json")).forEach((kind, addresses) -> ((List<?>) addresses).forEach(one -> {
+            tests.add(DynamicTest.dynamicTest(kind + ": a token to " + one, () -> goesTo((String) one, kind.equals("sent"))));
+        }));
+        return tests;
+    }
+
+    private static void goesTo(String address, boolean isSent) {
+        Client.of(address).build().close();
+        for (var builder : List.of(
+                 Client.of("https://localhost", address).token("abc-secret"),
+                 Client.of(address, "http://localhost").token(() -> "abc-secret"))) {
+            if (isSent) {
+                builder.build().close();
+            } else {
+                var error = assertThrows(IllegalArgumentException.class, builder::build);
+                assertTrue(error.getMessage().contains("https://"));
+                assertFalse(error.toString().contains("abc-secret"));
+            }
+            builder.tokenOverHttp(true).build().close();
         }
     }
 
