@@ -144,9 +144,7 @@ def check_file_in_use(bench):
     from rbac_policy.target import Broken
 
     good_office(bench)
-    ends(
-        bench, "no office", policy(bench, "plan", "good.toml", "--file", "none"), 2, err="none: the program refuses this office"
-    )
+    ends(bench, "no office", policy(bench, "plan", "good.toml", "--file", "none"), 2, err="none: there is no such file")
     with subprocess.Popen([*server_words(bench)], stdout=subprocess.PIPE) as server:
         server.stdout.readline()
         ends(
@@ -154,7 +152,7 @@ def check_file_in_use(bench):
             "an office in use",
             policy(bench, "plan", "good.toml", "--file", "office"),
             2,
-            err='{"code":41,"error":"Store"}',
+            err='{"code":41,"error":"Store"}; rbac-why says what is wrong, such as that another program has it open',
         )
         server.kill()
     target = InFile(bench.path("office"))

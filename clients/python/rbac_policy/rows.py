@@ -12,13 +12,17 @@ from .model import DutySet, State, Stop
 from .program import run
 
 
-def read_office(path: str) -> State:
-    """What is in an office that no program has open. The program checks it first, and merges its log."""
+def read_office(path: str, name: str | None = None) -> State:
+    """What is in an office that no program has open. The program checks it first, and merges its log. `name` is what its user calls it."""
+    name = name or path
+    if not os.path.exists(path):
+        raise Stop(f"{name}: there is no such file")
     status, said = run(["check", path])
     if status:
-        raise Stop(f"{path}: the program refuses this office: {said.removeprefix('rbac: ')}")
+        more = "; rbac-why says what is wrong, such as that another program has it open" if '"code":41,' in said else ""
+        raise Stop(f"{name}: the program refuses this office: {said.removeprefix('rbac: ')}{more}")
     with closing(sqlite3.connect(f"file:{quote(os.path.abspath(path))}?mode=ro&immutable=1", uri=True)) as rows:
-        return _state(rows, path)
+        return _state(rows, name)
 
 
 def read_copy(path: str) -> State:
@@ -30,7 +34,7 @@ def read_copy(path: str) -> State:
                     shutil.copyfile(name, Path(folder) / f"office{name[len(path):]}")
         except OSError as error:
             raise Stop(f"{path}: {error.strerror}") from None
-        return read_office(str(Path(folder) / "office"))
+        return read_office(str(Path(folder) / "office"), path)
 
 
 def _state(rows: sqlite3.Connection, path: str) -> State:
