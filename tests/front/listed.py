@@ -83,6 +83,6 @@ def metrics_on(*pages):
 
 def check_metrics(bench):
     """The page lists each metric of the front, and no other one."""
-    with secured(bench) as front:
+    with secured(bench, "--log-decisions", "0.5") as front:
         text = front.exchange("GET", "/metrics", Authorization="Bearer another")[1]
     bench.same("metrics of the page", sorted(metrics_on("reference/front.md", "howto/callers.md")), sorted(metrics_of(text)))
