@@ -16,12 +16,12 @@ from machine.drawing import Draws
 from machine.replaying import Replay
 from machine.state import LIMITS, State, reach
 from machine.texts import rows
-from program.cases import shares
+from program.cases import cases
 from program.offices import Office, read_rows, same_rows
 
 from .files import expect_good, expect_migrated, expect_refused, judged, loose, read, statements_of, write
 
-# How many files there are with `--gate`, twice as many as without, and with `--long`; and how many each check has.
+# How many files there are, and with `--long`; and how many each check has.
 FILES, MORE_FILES = 500, 20_000
 EACH = 125
 
@@ -275,7 +275,7 @@ def try_file(bench, statements, seed):
 
 
 @pytest.mark.slow
-@pytest.mark.parametrize("first", shares(10_000, EACH, FILES, MORE_FILES))
+@pytest.mark.parametrize("first", cases(range(10_000, 10_375, EACH), range(10_000 + FILES, 10_000 + MORE_FILES, EACH), [10_375]))
 def check_files(bench, first):
     """Files from this seed on are opened and answered as the model does."""
     statements = statements_of(Office(bench, "new").path)
