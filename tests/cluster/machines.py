@@ -33,9 +33,13 @@ class Process:
         """Starts the program, unless it runs."""
         with self.lock:
             self.wanted = True
-            if self.process is None or self.process.poll() is not None:
-                with open(self.log, "ab") as log:
-                    self.process = subprocess.Popen(self.words, stdin=subprocess.DEVNULL, stdout=log, stderr=log)
+            self.run()
+
+    def run(self):
+        """Starts the program, unless it runs. The caller has the lock."""
+        if self.process is None or self.process.poll() is not None:
+            with open(self.log, "ab") as log:
+                self.process = subprocess.Popen(self.words, stdin=subprocess.DEVNULL, stdout=log, stderr=log)
 
     def send(self, number):
         """Sends a signal, if the program runs."""
@@ -59,13 +63,15 @@ class Process:
             return self.process.wait()
 
     def supervise(self):
-        """Starts the program again if it has ended by itself."""
+        """Starts the program again if it has ended by itself, and is not stopped meanwhile."""
         with self.lock:
             ended = self.wanted and self.process is not None and self.process.poll() is not None
         if ended:
             self.ends += 1
             time.sleep(RESTART)
-            self.start()
+            with self.lock:
+                if self.wanted:
+                    self.run()
 
 
 class Cluster:
