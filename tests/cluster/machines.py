@@ -238,16 +238,25 @@ class Cluster:
             return False
         return True
 
+    def lists(self, i, other=""):
+        """Whether etcd lists a member at a machine that has another number than this, None if it doesn't answer."""
+        try:
+            members = [line.split(", ") for line in self.ctl("member", "list").splitlines()]
+        except subprocess.SubprocessError:
+            return None
+        return any(one[3] == self.url(i, 2380) and one[0] != other for one in members)
+
     # What is done to it.
 
     def lose_member(self, i):
         """A member loses its folder: it is removed from etcd, and another one comes in its place."""
         self.members[i].stop()
         shutil.rmtree(self.data(f"member{i}"))
-        known = {line.split(", ")[2]: line.split(", ")[0] for line in self.ctl("member", "list").splitlines()}
-        # Until the two others agree again etcd refuses to change its members.
-        self.until(lambda: self.does("member", "remove", known[f"m{i}"]), "the member is removed")
-        self.until(lambda: self.does("member", "add", f"m{i}", "--peer-urls", self.url(i, 2380)), "the member is added")
+        numbers = {line.split(", ")[2]: line.split(", ")[0] for line in self.ctl("member", "list").splitlines()}
+        known, added = numbers[f"m{i}"], ("member", "add", f"m{i}", "--peer-urls", self.url(i, 2380))
+        # Until the two others agree again etcd refuses to change its members. It makes a change only once, also if its answer is lost.
+        self.until(lambda: self.does("member", "remove", known) or self.lists(i) is False, "the member is removed")
+        self.until(lambda: self.does(*added) or self.lists(i, known), "the member is added")
         self.members[i] = self.member(i, "existing")
         self.members[i].start()
 
