@@ -33,9 +33,13 @@ class Process:
         """Starts the program, unless it runs."""
         with self.lock:
             self.wanted = True
-            if self.process is None or self.process.poll() is not None:
-                with open(self.log, "ab") as log:
-                    self.process = subprocess.Popen(self.words, stdin=subprocess.DEVNULL, stdout=log, stderr=log)
+            self.run()
+
+    def run(self):
+        """Starts the program, unless it runs. The caller has the lock."""
+        if self.process is None or self.process.poll() is not None:
+            with open(self.log, "ab") as log:
+                self.process = subprocess.Popen(self.words, stdin=subprocess.DEVNULL, stdout=log, stderr=log)
 
     def send(self, number):
         """Sends a signal, if the program runs."""
@@ -59,13 +63,15 @@ class Process:
             return self.process.wait()
 
     def supervise(self):
-        """Starts the program again if it has ended by itself."""
+        """Starts the program again if it has ended by itself, and is not stopped meanwhile."""
         with self.lock:
             ended = self.wanted and self.process is not None and self.process.poll() is not None
         if ended:
             self.ends += 1
             time.sleep(RESTART)
-            self.start()
+            with self.lock:
+                if self.wanted:
+                    self.run()
 
 
 class Cluster:
@@ -232,16 +238,25 @@ class Cluster:
             return False
         return True
 
+    def lists(self, i, other=""):
+        """Whether etcd lists a member at a machine that has another number than this, None if it doesn't answer."""
+        try:
+            members = [line.split(", ") for line in self.ctl("member", "list").splitlines()]
+        except subprocess.SubprocessError:
+            return None
+        return any(one[3] == self.url(i, 2380) and one[0] != other for one in members)
+
     # What is done to it.
 
     def lose_member(self, i):
         """A member loses its folder: it is removed from etcd, and another one comes in its place."""
         self.members[i].stop()
         shutil.rmtree(self.data(f"member{i}"))
-        known = {line.split(", ")[2]: line.split(", ")[0] for line in self.ctl("member", "list").splitlines()}
-        # Until the two others agree again etcd refuses to change its members.
-        self.until(lambda: self.does("member", "remove", known[f"m{i}"]), "the member is removed")
-        self.until(lambda: self.does("member", "add", f"m{i}", "--peer-urls", self.url(i, 2380)), "the member is added")
+        numbers = {line.split(", ")[2]: line.split(", ")[0] for line in self.ctl("member", "list").splitlines()}
+        known, added = numbers[f"m{i}"], ("member", "add", f"m{i}", "--peer-urls", self.url(i, 2380))
+        # Until the two others agree again etcd refuses to change its members. It makes a change only once, also if its answer is lost.
+        self.until(lambda: self.does("member", "remove", known) or self.lists(i) is False, "the member is removed")
+        self.until(lambda: self.does(*added) or self.lists(i, known), "the member is added")
         self.members[i] = self.member(i, "existing")
         self.members[i].start()
 
