@@ -19,11 +19,11 @@ _MEMBERS = ("member", "uniquemember", "memberuid", "memberurl", "roleoccupant")
 _LOCKS = ("pwdaccountlockedtime", "nsaccountlock")
 _FOR_EVER = "000001010000Z"
 
-# The same in words of other servers, the state of an account that isn't locked, and flags of Samba without D (disabled) and L (locked).
+# The same in the words of other servers, the state of an account that isn't locked, and Samba's flags without D (disabled) and L (locked).
 _OTHER_LOCKS = ("logindisabled", "ds-pwp-account-disabled")
 _ACTIVE, _NO_LOCK = "active", re.compile(r"\[[A-CE-KM-Z ]*\]")
 
-# What says when an account begins or ends: as a time, or as a number of so many seconds since 1970, which may mean never.
+# What says when an account begins or ends: as a time, or as a count since 1970. With it: the seconds of its unit, and the value for never.
 _TIMES = {"pwdstarttime": "begins"} | dict.fromkeys(
     ("pwdendtime", "krbprincipalexpiration", "loginexpirationtime", "ds-pwp-account-expiration-time"), "ends"
 )
