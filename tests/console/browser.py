@@ -21,6 +21,9 @@ from selenium.webdriver.common.keys import Keys
 SECONDS = 120
 BANK = TESTS.parent / "examples/bank.jsonl"
 
+# Pages of one site are drawn by one process, which stays, and none is started beforehand: to start one takes longer than to show a page.
+ONE_PROCESS = ("--renderer-process-limit=1", "--disable-features=SpareRendererForSitePerProcess,BackForwardCache")
+
 # Whether the page is as the last action has left it: nothing is being loaded, drawn or asked for.
 SETTLED = """
 const main = document.getElementById("main");
@@ -30,12 +33,34 @@ return document.readyState === "complete" && heading && !heading.hasAttribute("d
     && ![...main.querySelectorAll("p.quiet")].some(p => p.textContent === "…" || p.textContent === "The picture is being drawn.");
 """
 
-# The elements that a user can press, with a name: what a screen reader reads.
+# Waits in the page until a script returns something, for half a second, and returns it: each question to the browser takes as long as a
+# hundred looks at the page.
+UNTIL = """
+const holds = function () {%s}, given = arguments, end = performance.now() + 500;
+return new Promise((resolve, reject) => {
+    const look = () => {
+        try {
+            const found = holds.apply(null, given);
+            if (found || performance.now() > end) resolve(found); else setTimeout(look, 20);
+        } catch (fault) { reject(fault); }
+    };
+    look();
+});
+"""
+
+# What the notice says when no action is under way.
+NOTICE = """
+return !document.querySelector("main button:disabled") && document.querySelector("#notice p")?.innerText;
+"""
+
+# The element that a user can press, with a name, which is what a screen reader reads. It can be brought into the middle.
 PRESSED = """
 const wanted = arguments[0], within = arguments[1] ? document.querySelector(arguments[1]) : document;
 const all = [...within.querySelectorAll("a[href], button, summary")].filter(one => one.checkVisibility());
-return all.find(one => (one.getAttribute("aria-label") ?? one.textContent).trim() === wanted)
+const found = all.find(one => (one.getAttribute("aria-label") ?? one.textContent).trim() === wanted)
     ?? all.find(one => one.textContent.trim() === wanted) ?? null;
+if (arguments[2]) found?.scrollIntoView({block: "center"});
+return found;
 """
 
 # The field with a label in a form.
@@ -48,6 +73,12 @@ for (const form of forms) {
 }
 return null;
 """
+
+# That field, and whether it is one for a text and has one.
+FILLED = """
+const field = (function () {%s}).apply(null, arguments);
+return field && [field, field.tagName === "INPUT" && field.value !== ""];
+""" % FIELD
 
 
 def bank(bench, *more, name="office"):
@@ -94,7 +125,8 @@ class Chromium:
         options = webdriver.ChromeOptions()
         options.binary_location = shutil.which("chromium") or ""
         for word in ("--headless=new", "--no-sandbox", "--disable-gpu", "--disable-dev-shm-usage", "--no-first-run",
-                     "--disable-background-networking", f"--user-data-dir={self.folder / 'profile'}"):  # fmt: skip
+                     "--disable-background-networking", "--disable-extensions", "--disable-component-update", *ONE_PROCESS,
+                     f"--user-data-dir={self.folder / 'profile'}"):  # fmt: skip
             options.add_argument(word)
         options.set_capability("goog:loggingPrefs", {"browser": "ALL"})
         home = {**os.environ, "HOME": str(self.folder)}
@@ -161,13 +193,14 @@ class Browser:
 
     def settle(self):
         """Waits until the page shows what it is to show."""
-        self.until(lambda: self.run(SETTLED), "the page is there")
+        self.until(lambda: self.run(UNTIL % SETTLED), "the page is there")
 
     def open(self, *segments, query=""):
         """Opens the console anew, at a page."""
-        self.driver.get("about:blank")
+        if self.driver.current_url != "about:blank":
+            self.driver.get("about:blank")
         self.driver.get(self.url + self.hash_of(segments) + query)
-        self.until_loaded(lambda: self.run(SETTLED), "the page is there")
+        self.until_loaded(lambda: self.run(UNTIL % SETTLED), "the page is there")
 
     def go(self, *segments, query=""):
         """Shows another page without loading the console again."""
@@ -196,9 +229,7 @@ class Browser:
 
     def notice(self):
         """Waits for a notice, and returns it."""
-        self.until(self.said, "a notice")
-        self.until(lambda: self.run("return !document.querySelector('main button:disabled')"), "the end of an action")
-        return self.said()
+        return self.until(lambda: self.run(UNTIL % NOTICE), "a notice, and the end of an action")
 
     def find(self, name, within=None):
         """What can be pressed and has this name, or None."""
@@ -206,9 +237,8 @@ class Browser:
 
     def click(self, name, within=None):
         """Presses something by the mouse."""
-        element = self.until(lambda: self.find(name, within), f"there is {name}")
+        element = self.until(lambda: self.run(UNTIL % PRESSED, name, within, True), f"there is {name}")
         self.clicks += 1
-        self.run("arguments[0].scrollIntoView({block: 'center'})", element)
         element.click()
 
     def follow(self, name, within=None):
@@ -219,8 +249,9 @@ class Browser:
 
     def fill(self, label, text, form=""):
         """Types a text into the field with a label."""
-        element = self.until(lambda: self.run(FIELD, label, form), f"there is a field {label}")
-        element.clear() if element.tag_name == "input" else None
+        element, is_filled = self.until(lambda: self.run(UNTIL % FILLED, label, form), f"there is a field {label}")
+        if is_filled:
+            element.clear()
         element.send_keys(text)
 
     def submit(self, button, form, **texts):
