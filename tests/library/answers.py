@@ -1,6 +1,7 @@
 """The answers and decisions of each language are those of the plain model and of the program."""
 
 import json
+import pickle
 import random
 import subprocess
 
@@ -140,13 +141,24 @@ def replayed(lines):
     return done.stdout.split(b"\n")[:-1]
 
 
+@pytest.fixture
+def scripts(built, first, count):
+    """The scripts of some random lines, each with its seed. The model answers them once for all languages."""
+    seeds = range(first, first + count)
+
+    def make(folder):
+        (folder / "scripts").write_bytes(pickle.dumps([random_script(seed) for seed in seeds]))
+
+    path = built(f"lines {first}", make) / "scripts"
+    return list(zip(seeds, pickle.loads(path.read_bytes())))
+
+
 @pytest.mark.parametrize("first, count", SEEDS)
 @pytest.mark.parametrize("language", PROGRAMS)
-def check_random_lines(bench, language, first, count):
+def check_random_lines(bench, language, scripts):
     """Random lines, decisions, saving and loading; the program has only the lines."""
     counted = 0
-    for seed in range(first, first + count):
-        script = random_script(seed)
+    for seed, script in scripts:
         counted += len(script.lines)
         if language == "program":
             bench.same(f"the program, seed {seed}", replayed(script.requests), script.answers)
