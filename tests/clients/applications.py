@@ -17,7 +17,7 @@ from program.web import HOST
 import pytest
 
 from .client import PATIENT, office_at, outcome, rbac
-from .driving import FRONT, JAVA, JAVAC, KEYS, NAMES, go_environment
+from .driving import BUILT, FRONT, JAVA, JAVAC, KEYS, NAMES, go_environment
 
 # The example in Go is built on the disk: a file system in memory may forbid running programs.
 ON_DISK = True
@@ -58,16 +58,15 @@ def node_app(folder):
 
 
 def java_app(folder):
-    """Builds the example in Java, with a store of the authority that it trusts."""
-    sources = [*sorted((TESTS.parent / "clients/java/src/main/java/rbac/client").glob("*.java")), WEB / "App.java"]
-    words = [*JAVAC, "-Xlint:all", "-Werror", "--release", "11", "-encoding", "UTF-8", "-d", str(folder / "java")]
-    subprocess.run([*words, *map(str, sources)], check=True, timeout=600)
+    """Builds the example in Java over the client of the driver, with a store of the authority that it trusts."""
+    client, words = f"{os.environ[BUILT]}/java", ["-Xlint:all", "-Werror", "--release", "11", "-encoding", "UTF-8"]
+    subprocess.run([*JAVAC, *words, "-cp", client, "-d", folder / "java", WEB / "App.java"], check=True, timeout=600)
     store = ["-keystore", str(folder / "store"), "-storepass", "changeit", "-file", str(folder / "files/ca.crt")]
     subprocess.run(
         ["keytool", "-importcert", "-noprompt", "-alias", "ca", *store], check=True, capture_output=True, timeout=SECONDS
     )
     trusted = [f"-Djavax.net.ssl.trustStore={folder}/store", "-Djavax.net.ssl.trustStorePassword=changeit"]
-    return [*JAVA, *trusted, "-cp", str(folder / "java"), "App"], {}
+    return [*JAVA, *trusted, "-cp", f"{folder}/java:{client}", "App"], {}
 
 
 APPS = {
