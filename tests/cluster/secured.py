@@ -41,6 +41,7 @@ class Secured:
             "--cert-file", bench.path("etcd.crt"), "--key-file", bench.path("etcd.key"), "--client-cert-auth",
             "--trusted-ca-file", bench.path("ca.crt"), "--peer-cert-file", bench.path("etcd.crt"),
             "--peer-key-file", bench.path("etcd.key"), "--peer-trusted-ca-file", bench.path("ca.crt"), "--peer-client-cert-auth",
+            "--bcrypt-cost", "4",  # A check of a password takes a millisecond, and not a fifteenth of a second.
         ]  # fmt: skip
         self.processes = [Process(words, bench.path("etcd.log"))]
 
