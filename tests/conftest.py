@@ -54,6 +54,9 @@ def pytest_addoption(parser):
 def pytest_configure(config):
     if not os.access(PROGRAM, os.X_OK):
         raise pytest.UsageError(f"there is no program {PROGRAM}")
+    if not (config.getoption("--gate") or config.getoption("--long")):
+        # Debian's packages are compressed as quickly as can be; with --gate, as those of a release.
+        os.environ["DPKG_DEB_COMPRESSOR_LEVEL"] = "1"
     if not hasattr(config, "workerinput"):
         leave_chroot()
         config.pluginmanager.register(Counted(config), "counted")

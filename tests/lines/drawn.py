@@ -115,12 +115,12 @@ def compare(script, faults):
 
 
 def scripts():
-    """The scripts: those of the limits, evenly spread ones, and random ones, each 20 of them one check, half of them for the gate."""
+    """The scripts: those of the limits, evenly spread ones, and random ones, each 20 of them one check, most of them for the gate."""
     for name in limits.SCRIPTS:
         yield pytest.param("limit", [name], id=f"limit {name}", marks=[pytest.mark.gate] if name in LARGE else [])
     yield from (pytest.param("even", [start], id=f"even {start}") for start in (1, 2, 3))
     for first in range(0, SEEDS, EACH):
-        yield pytest.param("seed", range(first, first + EACH), id=f"seed {first}", marks=[pytest.mark.gate] if first >= SEEDS // 2 else [])
+        yield pytest.param("seed", range(first, first + EACH), id=f"seed {first}", marks=[pytest.mark.gate] if first >= SEEDS // 4 else [])
 
 
 @pytest.mark.parametrize("sort, which", scripts())
