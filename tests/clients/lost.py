@@ -17,7 +17,7 @@ from .driving import NAMES, Driven
 from .fakes import LOST, PASSED_ON, Fake, answered, read_request, shared
 from .functions import repetitions
 
-COMMANDS, COMMANDS_OF_GATE, LOGINS, PAUSE = 500, 1_000, 100, 0.001
+COMMANDS, COMMANDS_OF_GATE, LOGINS, PAUSE = 300, 1_000, 100, 0.001
 
 # How often a command is sent to a server that dies, if a busy machine is too slow to send it.
 ATTEMPTS = 10

@@ -23,7 +23,7 @@ from .recorded import Entry, change, digest, entries, link, path_of, tool
 
 # How many random records there are with `--gate`, how many of them one check has with it and without it, and how many questions are
 # asked about each, each at a time of its own.
-RECORDS, EACH, FEWER, QUESTIONS = 200, 25, 12, 4
+RECORDS, EACH, FEWER, QUESTIONS = 200, 25, 6, 4
 
 # How many random lines a record is made of, those that are no commands included.
 LINES = (60, 200)
