@@ -26,25 +26,25 @@ use Rattle.role_cli.specs.declared.store_after.StoreAfter.TheVariants as after
 
 -- ---- a replay in memory
 
--- an open office in memory, whose state is empty and is stored in its tables
-pub record IsNewOffice {g : Ghosts MemoryFile} (office : OfficeModel (FileStore MemoryFile g)) : Type 0 where
+-- an open office, whose state is empty and is stored in its tables
+pub record IsNewOffice {F : Type 0} {g : Ghosts F} (office : OfficeModel (FileStore F g)) : Type 0 where
   pub state_is : office.facts ≡ empty_state 2
   pub is_closed : office.is_closed ≡ false
   pub durable : IsDurable (state over_files office.conn) (empty_state 2)
 
 -- the lines were answered, over an office that was new
-abbrev pub ReplaysInMemory : Ghosts MemoryFile → (remaining now_remaining written now_written : Known) → Type 0
-ReplaysInMemory g remaining now_remaining written now_written = (first last : OfficeModel (FileStore MemoryFile g)) × IsNewOffice first
+abbrev pub ReplaysInMemory : {F : Type 0} → Ghosts F → (remaining now_remaining written now_written : Known) → Type 0
+ReplaysInMemory {F} g remaining now_remaining written now_written = (first last : OfficeModel (FileStore F g)) × IsNewOffice first
     × AnswersInput (state over_files) first remaining now_remaining written now_written last
 
 -- The replay failed: it stopped over an office that was new, after these bytes were read; or none could be created, because an allocation
 -- failed, and nothing was touched.
-abbrev pub FailsInMemory : Ghosts MemoryFile → Failure → (untouched : Type 0) → (remaining now_remaining written now_written : Known) → Type 0
-FailsInMemory g (Stopped stop) untouched remaining now_remaining written now_written =
-    (taken : List ℕ) × (first left : OfficeModel (FileStore MemoryFile g)) × Consumes remaining now_remaining taken × IsNewOffice first
+abbrev pub FailsInMemory : {F : Type 0} → Ghosts F → Failure → (untouched : Type 0) → (remaining now_remaining written now_written : Known) → Type 0
+FailsInMemory {F} g (Stopped stop) untouched remaining now_remaining written now_written =
+    (taken : List ℕ) × (first left : OfficeModel (FileStore F g)) × Consumes remaining now_remaining taken × IsNewOffice first
     × IsHalted (state over_files) first left taken (IsAtEnd now_remaining) written now_written stop.cause stop.answered
-FailsInMemory g (Refused why) untouched remaining now_remaining written now_written = ((why ≡ refusal.Memory) ⊎ (why ≡ refusal.Store)) × untouched
-FailsInMemory g _ untouched remaining now_remaining written now_written = ⊥
+FailsInMemory {F} g (Refused why) untouched remaining now_remaining written now_written = ((why ≡ refusal.Memory) ⊎ (why ≡ refusal.Store)) × untouched
+FailsInMemory {F} g _ untouched remaining now_remaining written now_written = ⊥
 
 -- ---- any subcommand
 

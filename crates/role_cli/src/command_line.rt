@@ -155,40 +155,30 @@ fn bare_program<'a>(alloc: Global) -> Command<'a>
 fn first_three<'a>(alloc: Global) -> Result<Command<'a>, AllocError>
     ensures { IfOk result (λ c. app_of c ≡ first_three) }
 {
-    let init = file_command(alloc, "init", "Create an empty office")?;
-    let replay = replay_command(alloc)?;
-    let serve = serve_command(alloc)?;
-    let rbac = bare_program(alloc);
-    rbac.subcommand(init)?.subcommand(replay)?.subcommand(serve)
+    bare_program(alloc)
+        .subcommand(file_command(alloc, "init", "Create an empty office")?)?
+        .subcommand(replay_command(alloc)?)?
+        .subcommand(serve_command(alloc)?)
 }
 
 // The program with its first six subcommands.
 fn first_six<'a>(alloc: Global) -> Result<Command<'a>, AllocError>
     ensures { IfOk result (λ c. app_of c ≡ first_six) }
 {
-    let import = import_command(alloc)?;
-    let export = file_command(alloc, "export", "Write the assignments as CSV")?;
-    let report = file_command(
-        alloc,
-        "report",
-        "Write how many users and permissions each role has",
-    )?;
-    let rbac = first_three(alloc)?;
-    rbac.subcommand(import)?
-        .subcommand(export)?
-        .subcommand(report)
+    let about_report = "Write how many users and permissions each role has";
+    first_three(alloc)?
+        .subcommand(import_command(alloc)?)?
+        .subcommand(file_command(alloc, "export", "Write the assignments as CSV")?)?
+        .subcommand(file_command(alloc, "report", about_report)?)
 }
 
 /// The program with all its subcommands, one of which is required.
 pub(crate) fn program_command<'a>(alloc: Global) -> Result<Command<'a>, AllocError>
     ensures { IfOk result (λ c. app_of c ≡ program) }
 {
-    let check = file_command(alloc, "check", "Check that the file holds a good office")?;
-    let migrate = file_command(
-        alloc,
-        "migrate",
-        "Migrate an office of version 1 to version 2",
-    )?;
-    let rbac = first_six(alloc)?;
-    rbac.subcommand(check)?.subcommand(migrate)
+    let about_check = "Check that the file holds a good office";
+    let about_migrate = "Migrate an office of version 1 to version 2";
+    first_six(alloc)?
+        .subcommand(file_command(alloc, "check", about_check)?)?
+        .subcommand(file_command(alloc, "migrate", about_migrate)?)
 }

@@ -1,5 +1,5 @@
 //! A replay over an office in memory.
-ghost use Rattle.std.specs.Prelude.{◌≡◌, ◌⊎◌, ◌≤◌, ◌+◌, OnOk, IfOk, IfErr};
+ghost use Rattle.std.specs.Prelude.{◌≡◌, ◌⊎◌, ◌≤◌, ◌+◌, IsTrue, OnOk, IfOk, IfErr};
 ghost use Rattle.rbac_sets.specs.Stream.{HasRisen};
 ghost use Rattle.role_wire.specs.Replay.{IsAtBound, most_reads};
 ghost use Rattle.role_cli.specs.Work.{IsCaused};
@@ -46,22 +46,43 @@ pub(crate) fn replay_memory<R: Source, W: Sink>(
         (HasRisen (R.failed source.old) (R.failed source.new) ⊎ IsAtBound (R.reads source.old) (R.reads source.new))) }
     ensures reads { R.reads source.new ≤ R.reads source.old + most_reads }
 {
-    let mut office = new_office(alloc)?;
+    let log = MemoryFile::new(alloc);
+    let db = MemoryFile::new(alloc);
+    replay_on_files(alloc, Files { log, db }, source, sink)
+}
+
+// Answers the lines over a new office in these files.
+fn replay_on_files<D: Disk, R: Source, W: Sink>(
+    alloc: Global,
+    files: Files<D>,
+    source: &mut R,
+    sink: &mut W,
+) -> Result<(), Failure>
+    requires usable { (file : D) → IsTrue (D.Disk.is_usable file) }
+    requires clean { (file : D) → IsTrue (D.Disk.is_clean file) }
+    ensures done { OnOk result
+        (ReplaysInMemory ⟦<D as Disk>⟧ (R.remaining source.old) (R.remaining source.new) (W.written sink.old) (W.written sink.new)) }
+    ensures stopped { IfErr result (λ failure. FailsInMemory ⟦<D as Disk>⟧ failure ((source.new ≡ source.old) × (sink.new ≡ sink.old))
+        (R.remaining source.old) (R.remaining source.new) (W.written sink.old) (W.written sink.new)) }
+    ensures caused { IfErr result (λ failure. IsCaused failure
+        (HasRisen (W.failed sink.old) (W.failed sink.new) ⊎ HasRisen (W.idle sink.old) (W.idle sink.new))
+        (HasRisen (R.failed source.old) (R.failed source.new) ⊎ IsAtBound (R.reads source.old) (R.reads source.new))) }
+    ensures reads { R.reads source.new ≤ R.reads source.old + most_reads }
+{
+    let mut office = new_office(alloc, files)?;
     match replay(alloc, &mut office, source, sink) {
         Ok(_) => Ok(()),
         Err(stop) => Err(Failure::Stopped(stop)),
     }
 }
 
-// Creates an office over the file store, on two files in memory.
-fn new_office(alloc: Global) -> Result<Office<FileStore<MemoryFile>>, Failure>
+// Creates an office in these files.
+fn new_office<D: Disk>(alloc: Global, files: Files<D>) -> Result<Office<FileStore<D>>, Failure>
+    requires usable { (file : D) → IsTrue (D.Disk.is_usable file) }
+    requires clean { (file : D) → IsTrue (D.Disk.is_clean file) }
     ensures ok { IfOk result IsNewOffice }
     ensures err { IfErr result (λ failure. (failure ≡ Failure.Refused Refusal.Memory) ⊎ (failure ≡ Failure.Refused Refusal.Store)) }
 {
-    let files = Files {
-        log: MemoryFile::new(alloc),
-        db: MemoryFile::new(alloc),
-    };
     let Ok(conn) = Connection::open_files(alloc, files, OPTIONS) else {
         return Err(Failure::Refused(Refusal::Memory));
     };
