@@ -66,7 +66,7 @@ func (c *signCommand) prepare() error {
 	if err != nil {
 		return err
 	}
-	if address := net.ParseIP(front.Hostname()); front.Scheme != "https" && (front.Scheme != "http" || address == nil || !address.IsLoopback()) {
+	if front.Scheme != "https" && (front.Scheme != "http" || !isThisMachine(front.Hostname())) {
 		return fmt.Errorf("%s: it has to begin with https://, or with http:// and an address of this machine", c.URL)
 	}
 	settings, err := c.files.Client(front.Hostname())
@@ -87,4 +87,10 @@ func (c *signCommand) prepare() error {
 		CheckRedirect: func(*http.Request, []*http.Request) error { return http.ErrUseLastResponse },
 	}
 	return nil
+}
+
+// isThisMachine says whether a host's name or address is that of this machine.
+func isThisMachine(host string) bool {
+	address := net.ParseIP(host)
+	return strings.EqualFold(host, "localhost") || address != nil && address.IsLoopback()
 }
