@@ -95,7 +95,7 @@ def check_signed(bench):
         machine.refuses("no file", front, 1, "give --begin")
         machine.signs("the first head", front, "--begin")
         machine.refuses("a first head again", front, 1, "leave out --begin", "--begin")
-        machine.signs("the same head again", front)
+        machine.signs("the same head again, by the name of this machine", front, "--url", f"http://localhost:{front.port}")
         connection = front.connection()
         for number in range(2_300):
             front.ask("addRole", {"role": str(number)}, connection)
