@@ -1,2 +1,3 @@
 pub mod ByName
+pub mod GuessLaws
 pub mod PlaceLaws

@@ -1,10 +1,12 @@
 //! Numbers by name.
-ghost use Rattle.std.specs.Prelude.{◌≡◌, ◌≢◌, ◌⊎◌, ◌<◌, ℕ, None, Some, IsTrue, OnOk, OnErr, IfErr, vec_len};
+ghost use Rattle.std.specs.Prelude.{◌≡◌, ◌≢◌, ◌⊎◌, ◌<◌, ℕ, None, Some, IsTrue, OnOk, OnErr, IfErr, get_or, vec_len};
 ghost use Rattle.std.specs.HashMap.{get_by_text};
 ghost use Rattle.std.specs.Str.{bytes_eq};
 ghost use Rattle.std.specs.Map.{update};
 ghost use Rattle.std.specs.List.{slice_get};
+ghost use Rattle.rbac_sets.specs.Name.{fingerprint};
 ghost use Rattle.rbac_sets.specs.Sets.{Bytes};
+ghost use Rattle.bit_tables.specs.declared.number_table.TheConstants.{NEVER};
 
 use crate::seed::Seed;
 use bit_rows::WIDTH;
@@ -12,15 +14,20 @@ use rbac_sets::{Name, Refusal};
 use std::alloc::Global;
 use std::collections::HashMap;
 
-/// Numbers below `WIDTH` by name. Most names are found without a hash.
+// The guess of a fingerprint that no name of a number ever had. It is no number.
+const NEVER: u16 = u16::MAX;
+
+/// Numbers below `WIDTH` by name. Most names are found without a hash, and most of those without a number are known by their
+/// fingerprint.
 #[derive(Drop)]
 pub struct NumberTable {
     numbers: HashMap<String, usize, Seed>,
     // The name of a number, if it has one.
     names: Vec<Option<Name>>,
-    // By the fingerprint of a name the number of the last name with that fingerprint.
+    // By the fingerprint of a name the number of the last name with that fingerprint, or `NEVER`.
     guesses: Vec<u16>,
     ghost named: { (n : ℕ) (name : Bytes) → slice_get names.items n ≡ Some (Some name) → get_by_text numbers name ≡ Some n },
+    ghost guessed: { (name : Bytes) (n : ℕ) → get_by_text numbers name ≡ Some n → get_or guesses.items (fingerprint name) NEVER ≢ NEVER },
 }
 
 impl NumberTable {
@@ -39,11 +46,13 @@ impl NumberTable {
     pub fn number(&self, name: &Name) -> Option<usize>
         ensures { result ≡ get_by_text self.now.numbers name.now }
     {
-        if let Some(guess) = self.guesses.get(name.fingerprint()) {
-            let number = *guess as usize;
-            if is_at(&self.names, number, name) {
-                return Some(number);
-            }
+        let guess = guess_at(&self.guesses, name.fingerprint());
+        if guess == NEVER {
+            return None;
+        }
+        let number = guess as usize;
+        if is_at(&self.names, number, name) {
+            return Some(number);
         }
         self.numbers.get(name.as_str()).copied()
     }
@@ -66,7 +75,7 @@ impl NumberTable {
         reach_guess(&mut self.guesses, name.fingerprint())?;
         self.numbers.insert(key, number)?;
         set_name(&mut self.names, number, copy);
-        self.guesses[name.fingerprint()] = number as u16;
+        set_guess(&mut self.guesses, name.fingerprint(), number);
         Ok(())
     }
 
@@ -120,13 +129,34 @@ fn clear_name(names: &mut Vec<Option<Name>>, number: usize)
     }
 }
 
-// Appends guesses until there is one at this place.
+// The guess at this place, or `NEVER` if there is none.
+fn guess_at(guesses: &[u16], place: usize) -> u16
+    ensures { result ≡ get_or guesses.now place NEVER }
+{
+    match guesses.get(place) {
+        Some(guess) => *guess,
+        None => NEVER,
+    }
+}
+
+// Appends guesses of no name until there is one at this place.
 fn reach_guess(guesses: &mut Vec<u16>, place: usize) -> Result<(), Refusal>
     ensures within { OnOk result (place < vec_len guesses.new) }
+    ensures same { (n : ℕ) → get_or guesses.new.items n NEVER ≡ get_or guesses.old.items n NEVER }
     ensures cause { IfErr result (λ refusal. refusal ≡ Refusal.Memory) }
 {
     while guesses.len() <= place {
-        guesses.push(0)?;
+        guesses.push(NEVER)?;
     }
     Ok(())
+}
+
+// Makes the number the guess at this place.
+fn set_guess(guesses: &mut Vec<u16>, place: usize, number: usize)
+    requires place { place < vec_len guesses.old }
+    requires number { number < WIDTH }
+    ensures here { get_or guesses.new.items place NEVER ≡ number }
+    ensures others { (n : ℕ) → n ≢ place → get_or guesses.new.items n NEVER ≡ get_or guesses.old.items n NEVER }
+{
+    guesses[place] = number as u16;
 }
