@@ -16,7 +16,6 @@ use bit_tables::Seed;
 use rbac_sets::{BorrowedName, Change, Command, Refusal, Row};
 use std::alloc::Global;
 use std::marker::Model;
-use std::mem::replace;
 
 /// A state with an index, by which decisions are found in a time that doesn't depend on the state's size. If an allocation
 /// fails while the index follows a change, there is none from then on, and decisions are made by the state alone. In
@@ -67,9 +66,9 @@ impl IndexedState {
         ensures ok { IfOk result (λ state. IsStateOf version rows.items state.facts) }
         ensures err { IfErr result (λ refusal. RefusesRows version rows.items refusal) }
     {
-        let index = AccessIndex::of_rows(alloc, seed, &rows).ok();
+        let mut index = AccessIndex::of_rows(alloc, seed, &rows).ok();
         let state = State::of_rows(alloc, version, rows)?;
-        let index = with_barred(alloc, index, &state);
+        find_barred(&mut index, alloc, &state);
         Ok(IndexedState { state, index })
     }
 
@@ -113,10 +112,9 @@ impl IndexedState {
         ensures state { (T : RbacState) → LeadsTo self.old.facts plan T → self.new.facts ≡ T }
         ensures report { result ≡ plan.report }
     {
-        let index = replace(&mut self.index, None);
-        let index = followed(alloc, index, plan.changes());
+        follow(&mut self.index, alloc, plan.changes());
         let report = self.state.commit(plan);
-        self.index = with_barred(alloc, index, &self.state);
+        find_barred(&mut self.index, alloc, &self.state);
         report
     }
 
@@ -207,28 +205,25 @@ impl IndexedState {
     }
 }
 
-// The index with the barred roles of the state, if there is an index.
-fn with_barred(alloc: Global, index: Option<AccessIndex>, state: &State) -> Option<AccessIndex>
-    requires { IfSome index (λ old. Indexes old state.now.facts) }
-    ensures { IfSome result (λ new. Indexes new state.now.facts) }
+// Finds for the index which roles of the state are barred, if there is an index.
+fn find_barred(index: &mut Option<AccessIndex>, alloc: Global, state: &State)
+    requires { IfSome index.old (λ old. Indexes old state.now.facts) }
+    ensures { IfSome index.new (λ new. Indexes new state.now.facts) }
 {
-    let Some(mut index) = index else {
-        return None;
-    };
-    index.find_barred(alloc, state);
-    Some(index)
+    if let Some(known) = index {
+        known.find_barred(alloc, state);
+    }
 }
 
-// The index after the changes, if there is one and no allocation failed.
-fn followed(alloc: Global, index: Option<AccessIndex>, changes: &[Change]) -> Option<AccessIndex>
-    requires { IfSome index (λ old. (S : RbacState) × Indexes old S) }
-    ensures { (S T : RbacState) → IfSome index (λ old. Indexes old S) → Turns S changes.now T → IsGood T → IfSome result (λ new. Indexes new T) }
+// Has the index follow the changes, if there is one. If an allocation fails, there is none from then on.
+fn follow(index: &mut Option<AccessIndex>, alloc: Global, changes: &[Change])
+    requires { IfSome index.old (λ old. (S : RbacState) × Indexes old S) }
+    ensures { (S T : RbacState) → IfSome index.old (λ old. Indexes old S) → Turns S changes.now T → IsGood T → IfSome index.new (λ new. Indexes new T) }
 {
-    let Some(mut index) = index else {
-        return None;
+    let Some(known) = index else {
+        return;
     };
-    match index.follow(alloc, changes) {
-        Ok(()) => Some(index),
-        Err(_) => None,
+    if known.follow(alloc, changes).is_err() {
+        *index = None;
     }
 }
