@@ -104,18 +104,20 @@ impl AccessIndex {
         ensures ok { IfOk result (λ row. AreBarred self.new state.now.facts row) }
         ensures cause { IfErr result (λ refusal. refusal ≡ Refusal.Memory) }
     {
+        let mut levels = Vec::new(alloc);
         let mut barred = BitRow::empty();
         for set in dynamic_sets(state) {
-            let row = self.barred_by(alloc, state, set)?;
+            let row = self.barred_by(alloc, &mut levels, state, set)?;
             barred.put_common(&row, &row);
         }
         Ok(barred)
     }
 
-    // The numbers of the roles that the set bars, which are counted if they aren't known.
+    // The numbers of the roles that the set bars, which are counted in the levels if they aren't known.
     fn barred_by(
         &mut self,
         alloc: Global,
+        levels: &mut Vec<BitRow>,
         state: &State,
         set: &(Name, u32),
     ) -> Result<BitRow, Refusal>
@@ -130,16 +132,17 @@ impl AccessIndex {
         if let Some(row) = self.by_set.get(set.0.as_str()) {
             return Ok(*row);
         }
-        let row = self.with_members(alloc, members_of(state, &set.0), set.1)?;
+        let row = self.with_members(levels, members_of(state, &set.0), set.1)?;
         let key = String::from_str(alloc, set.0.as_str())?;
         self.by_set.insert(key, row)?;
         Ok(row)
     }
 
-    // The numbers of the roles that with their juniors are `count` or more of the members, which are pairs (set, role).
+    // The numbers of the roles that with their juniors are `count` or more of the members, which are pairs (set, role). The
+    // levels may have any rows before.
     fn with_members(
         &self,
-        alloc: Global,
+        levels: &mut Vec<BitRow>,
         members: &[(Name, Name)],
         count: u32,
     ) -> Result<BitRow, Refusal>
@@ -149,21 +152,17 @@ impl AccessIndex {
         ensures cause { IfErr result (λ refusal. refusal ≡ Refusal.Memory) }
     {
         let last = count as usize - 1;
-        let mut levels = Vec::with_capacity(alloc, count as usize)?;
+        levels.clear();
         let mut counted = 0;
         for member in members {
-            reach(&mut levels, counted.min(last))?;
+            reach(levels, counted.min(last))?;
             counted += 1;
             if let Some(number) = self.number(&member.1) {
                 let row = self.own_and_seniors(number);
-                raise(
-                    &mut levels,
-                    last.saturating_sub(members.len() - counted),
-                    &row,
-                );
+                raise(levels, last.saturating_sub(members.len() - counted), &row);
             }
         }
-        Ok(row_at(&levels, last))
+        Ok(row_at(levels, last))
     }
 
     // The number, and those of the role's seniors.
