@@ -77,7 +77,10 @@ fn replay_on_files<D: Disk + Drop, R: Source, W: Sink>(
 }
 
 // Creates an office in these files.
-fn new_office<D: Disk + Drop>(alloc: Global, files: Files<D>) -> Result<Office<FileStore<D>>, Failure>
+fn new_office<D: Disk + Drop>(
+    alloc: Global,
+    files: Files<D>,
+) -> Result<Office<FileStore<D>>, Failure>
     requires usable { (file : D) → IsTrue (D.Disk.is_usable file) }
     requires clean { (file : D) → IsTrue (D.Disk.is_clean file) }
     ensures ok { IfOk result IsNewOffice }
