@@ -34,7 +34,7 @@ ROWS = [
 # of a row: over an office in memory, and over one in a file of those by which it is opened, which are the same for each
 # row, and of those after that; then the same with `--gate`, and with `--long`.
 PARTS = 4
-TRIED = {"subcommand": 120, "memory": 8, "opening": 1, "file": 3}
+TRIED = {"subcommand": 80, "memory": 6, "opening": 1, "file": 2}
 GATE_TRIED = {"subcommand": 240, "memory": 16, "opening": 2, "file": 6}
 MORE_TRIED = {"subcommand": 20_000, "memory": 10_000, "opening": 8, "file": 10_000}
 

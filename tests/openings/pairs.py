@@ -60,8 +60,10 @@ def try_faults(bench, state, faults, words):
     os.remove(path)
 
 
-# A part of the faults in version 1 always, the others with --gate.
-ALONE = [(1, 0), *((2, part) for part in range(PARTS)), *(pytest.param(1, part, marks=pytest.mark.gate) for part in range(1, PARTS))]
+# A part of the faults in version 1 always, and half of those in version 2; the others with --gate.
+ALONE = [(1, 0), *((2, part) for part in range(PARTS // 2))]
+ALONE += [pytest.param(1, part, marks=pytest.mark.gate) for part in range(1, PARTS)]
+ALONE += [pytest.param(2, part, marks=pytest.mark.gate) for part in range(PARTS // 2, PARTS)]
 
 
 @pytest.mark.parametrize("version, part", ALONE)

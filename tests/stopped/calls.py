@@ -58,11 +58,11 @@ WAYS = cases(
 @pytest.mark.parametrize("name", STORIES)
 @pytest.mark.parametrize("calls, like, how", WAYS)
 def check_stop_each(bench, name, calls, like, how):
-    """Runs a story with the first call stopped, then the second, and so on, until there are fewer calls."""
+    """Runs a story with the first call stopped, then the second, and so on, until there are fewer calls. Without `--gate` each second one."""
     counts = Counter()
     content, story = story_named(bench, name, beside(bench, "records.csv"))
     stopper = Stopper(bench)
-    for number in range(1, MOST):
+    for number in range(1, MOST, 1 if bench.is_gate or bench.is_long else 2):
         path = lay(bench, content)
         settings = stopper.settings(number, like, calls, how == "ever")
         done = stopper.run(story.words(path), story.given, **settings)
