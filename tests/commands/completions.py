@@ -30,7 +30,7 @@ def run(words, folder=None, **settings):
 
 
 def known_commands():
-    """The commands of the program, each with its options and the number of its files, as the sources have them."""
+    """The commands of the program, each with its options and the number of its files, as its help says."""
     known = {}
     for form in command_line.forms():
         command, *words = form.split()
@@ -87,7 +87,7 @@ def check_zsh(bench):
     """zsh gets the commands, the options of each, and as many files as it has."""
     path, known = ROOT / "deploy/completions/_rbac", known_commands()
     *listed, last = by_zsh(path, "command", [])
-    bench.same("the commands by zsh", listed, [f"{name}:{use}" for name, use, _ in command_line.commands()])
+    bench.same("the commands by zsh", listed, [f"{name}:{use}" for name, use in command_line.commands().items()])
     bench.same("the last command by zsh", last.partition(":")[0], "help")
     listed = re.findall(r"^(?:\(.*?\))?(-[\w-]+)\[", "\n".join(by_zsh(path, "options", [])), re.M)
     bench.same("the options by zsh", set(listed), HELP | VERSION_OPTIONS)
@@ -109,7 +109,7 @@ def check_fish(bench):
     commands = by_fish(path, "rbac ", folder)
     bench.same("the commands by fish", set(commands), {*known, "help"})
     bench.same("the commands after help by fish", set(by_fish(path, "rbac help ", folder)), {*known, "help"})
-    uses = {name: use for name, use, _ in command_line.commands()}
+    uses = command_line.commands()
     bench.same("the descriptions of the commands by fish", {**commands, **uses}, commands)
     bench.same("the options by fish", set(by_fish(path, "rbac --", folder)), {"--help", "--version"})
     for command, (options, files) in known.items():

@@ -1,74 +1,78 @@
-"""The command line as the sources define it: its commands and what they are for, their arguments, the numbers among these, and
-the version."""
+"""The command line as the program says it: its commands and what they are for, their arguments, the numbers among these, and the
+version."""
 
+import functools
 import re
+import subprocess
 
-from .sources import source
+from program.bench import PROGRAM, SECONDS
 
 # The letters that pages use for the numbers.
 LETTERS = {"port": "P", "limit": "N"}
 
-# The option that `clap` adds to a program with a version.
-VERSION_OPTION = "-V, --version"
+# What the program adds to its commands, and to the options of each.
+HELP_COMMAND, HELP_OPTION, VERSION_OPTION = "help", "-h, --help", "-V, --version"
 
-# How a command of the program is made: its variable, a function, and the name and the use of one with a file alone.
-MADE = r'let (\w+) = (\w+)\(\s*alloc(?:,\s*"(\w+)",\s*"([^"]*)",?\s*)?\)\?;'
-
-# The most that a number of a type can be.
-MOST = {"u16": 2**16 - 1, "u32": 2**32 - 1}
+# A number that is outside each range.
+OUTSIDE = "0"
 
 
-def functions():
-    """The body of each function of the source, by its name."""
-    found = dict(re.findall(r"^(?:pub\(crate\) )?fn (\w+)<'a>(.*?)^\}", source("role_cli/src/command_line.rt"), re.M | re.S))
-    if not found:
-        raise ValueError("the command line has no functions")
-    return found
+@functools.cache
+def run(*words):
+    """Runs the program, and returns its status and what it prints."""
+    done = subprocess.run([PROGRAM, *words], capture_output=True, text=True, timeout=SECONDS, check=False)
+    return done.returncode, done.stdout, done.stderr
 
 
-def argument(body):
-    """How an argument is written in a command line."""
-    (name,) = re.findall(r'Arg::new\(alloc, "(\w+)"\)', body)
-    if f'.long("{name}")' not in body:
-        return name
-    return f"--{name}" if "SetTrue" in body else f"--{name} {LETTERS[name]}"
+def listed(part, *words):
+    """What a part of the help of a command lists, in its order, each with what it is for. A help may lack the part."""
+    _, said, _ = run(*words, "--help")
+    found = re.search(rf"^{part}:\n((?:  .*\n)+)", said, re.M)
+    return dict(re.findall(r"^ +(\S.*?)  +(\S.*)$", found[1], re.M)) if found else {}
 
 
 def commands():
-    """The commands in their order: the name of each, the text of its help, and the body of the function that makes it."""
-    bodies = functions()
-    for caller in ("first_three", "first_six", "program_command"):
-        made = {name: (function, word or name, use) for name, function, word, use in re.findall(MADE, bodies[caller])}
-        for name in re.findall(r"\.subcommand\((\w+)\)", bodies[caller]):
-            function, word, use = made[name]
-            yield word, use or re.findall(r'\.about\("([^"]*)"\)', bodies[function])[0], bodies[function]
+    """The commands in their order, each with the text of its help."""
+    found = listed("Commands")
+    if found.pop(HELP_COMMAND, None) is None:
+        raise ValueError("the program lists no commands")
+    return found
+
+
+def options_of(command):
+    """The options of a command, as they are written in a command line."""
+    found = [re.fullmatch(r"--(\w+)( <\w+>)?", option) for option in listed("Options", command) if option != HELP_OPTION]
+    return [f"--{option[1]} {LETTERS[option[1]]}" if option[2] else option[0] for option in found]
 
 
 def forms():
     """The forms of the command line, in their order: a command with its arguments. A replay has one form for each office."""
-    bodies, lines = functions(), []
-    for word, _, body in commands():
-        words = [argument(bodies[one]) for one in re.findall(r"\.arg\((\w+)\(alloc\)\)", body)]
-        lines += [f"{word} {one}" for one in words] if word == "replay" else [" ".join([word, *words])]
+    lines = []
+    for command in commands():
+        words = [*(word.strip("<>[]") for word in listed("Arguments", command)), *options_of(command)]
+        lines += [f"{command} {one}" for one in words] if command == "replay" else [" ".join([command, *words])]
     return lines
 
 
 def options():
     """The options of the command line, as they are written in it."""
-    found = [argument(body) for name, body in functions().items() if "Arg::new" in body]
-    return [*[option for option in found if option.startswith("--")], *([VERSION_OPTION] if version() else [])]
+    found = [option for command in commands() for option in options_of(command)]
+    return [*found, *([VERSION_OPTION] if VERSION_OPTION in listed("Options") else [])]
 
 
 def version():
-    """The version that the program prints, or an empty text if it prints none."""
-    (text,) = re.findall(r'^const VERSION: &str = "([^"]*)";', source("role_cli/src/command_line.rt"), re.M)
-    return text if ".version(VERSION)" in functions()["bare_program"] else ""
+    """The version that the program prints."""
+    return run("--version")[1].removeprefix("rbac ").strip()
 
 
 def ranges():
-    """The least and the most of each number of the command line."""
-    pattern = r'\.long\("(\w+)"\).*value_parser!\((\w+)\)\.range\((\d+)\.\.(?:=([\d_]+))?\)'
-    found = [match for body in functions().values() for match in re.findall(pattern, body, re.S)]
-    if len(found) != len(LETTERS):
-        raise ValueError(f"the numbers of the command line are {found}")
-    return {name: (int(least), int(most) if most else MOST[sort]) for name, sort, least, most in found}
+    """The least and the most of each number of the command line, as the program says them when it refuses another one."""
+    found = {}
+    for name in LETTERS:
+        given = [word for one in LETTERS for word in (f"--{one}", OUTSIDE if one == name else "1")]
+        status, _, said = run("serve", "office", *given)
+        (least, most), *_ = re.findall(rf"'--{name} <{name}>': {OUTSIDE} is not in (\d+)\.\.=(\d+)$", said, re.M)
+        if status != 2:
+            raise ValueError(f"the status is {status}: {said}")
+        found[name] = int(least), int(most)
+    return found

@@ -118,7 +118,7 @@ def check_macros(bench):
 
 
 def check_commands(bench):
-    """The commands and their arguments are those that the program reads, in their order, and so are the options."""
+    """The commands and their arguments are those that the program lists, in their order, and so are the options."""
     bench.same("the forms of the synopsis", synopsis(), command_line.forms())
     bench.same("the forms of the commands", forms(section("COMMANDS")), [*command_line.forms(), "help"])
     wanted = {*command_line.options(), "-h, --help", "--"}
@@ -164,7 +164,7 @@ def check_signals(bench):
 
 
 def check_numbers(bench):
-    """The port, the number of connections and the number of functions are those of the sources."""
+    """The port and the number of connections are those that the program accepts, the number of functions is that of the sources."""
     text = " ".join(words_of(line) for line in SOURCE.splitlines())
     for name, (least, most) in command_line.ranges().items():
         said = rf"\b{command_line.LETTERS[name]} (?:is )?from {least} to {most:,}"
