@@ -163,11 +163,11 @@ def migrate_amid_kills(bench, path, state, moments):
 
 
 def offices():
-    """The offices of both ways: a few, twice as many for the gate, and those that are tried with `--long` alone."""
+    """The offices of both ways: a few, as many for the gate, and those that are tried with `--long` alone."""
     for way, (most, _, _) in MORE_OFFICES.items():
         for number in range(most):
             few = OFFICES[way][0]
-            marks = [pytest.mark.long] if number >= few else [pytest.mark.gate] if number >= few // 3 else []
+            marks = [pytest.mark.long] if number >= few else [pytest.mark.gate] if number >= few // 2 else []
             yield pytest.param(way, number, marks=marks)
 
 
