@@ -58,7 +58,10 @@ WAYS = cases(
 @pytest.mark.parametrize("name", STORIES)
 @pytest.mark.parametrize("calls, like, how", WAYS)
 def check_stop_each(bench, name, calls, like, how):
-    """Runs a story with the first call stopped, then the second, and so on, until there are fewer calls. Without `--gate` each second one."""
+    """Runs a story with the first call stopped, then the second, and so on, until there are fewer calls.
+
+    Without `--gate` every second call is stopped.
+    """
     counts = Counter()
     content, story = story_named(bench, name, beside(bench, "records.csv"))
     stopper = Stopper(bench)
