@@ -33,10 +33,22 @@ WIDTH, MOST_COLUMNS = "128", 140
 ASKING = {
     "python": """import os
 import rbac_client
+from rbac_client.middleware import needs
 
 office = rbac_client.Client(os.environ["RBAC"])
 decisions: list[rbac_client.Decision] = [office.check(session, "open", "safe") for session in ("s1", "s2")]
-print(*(decision.reason.value for decision in decisions), *office.authorized_roles("ann"))
+
+
+@needs(office, lambda: "s1", "open", "safe")
+def page(number: int) -> str:
+    return str(number)
+
+
+def wrong() -> None:
+    page("one")  # type: ignore[arg-type]
+
+
+print(*(decision.reason.value for decision in decisions), *office.authorized_roles("ann"), *[page(1), wrong][2:])
 """,
     "go": """package main
 

@@ -17,8 +17,8 @@ PATIENT, HASTY = 60, 0.3
 
 
 def office_at(port, timeout=PATIENT):
-    """A client over HTTP."""
-    return rbac.Client(f"http://{HOST}:{port}", timeout=timeout)
+    """A client over HTTP that asks each question once: half of its time is over after a pause."""
+    return rbac.Client(f"http://{HOST}:{port}", timeout=timeout, pause=timeout)
 
 
 def lines_of(office):

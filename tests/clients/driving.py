@@ -6,10 +6,12 @@ Each line of a driver's input is an object with the key `do`, and each line of i
     call     calls the method of `function` with `arguments`: its `value`, or the `reason` why there is none, with `may_be_done`
              and the `refusal`, if there is one
     check    a decision about `session`, `operation` and `object`: `allowed`, its `reason`, and the `code` of a refusal or 0
+    decide   a decision about `user`, `operation` and `object`, as `check`
     login    opens a session of `user` with `roles`, or with all if there are none, which `renews` or doesn't: its name as `value`, or as `call`
     opened   the `roles` of that session, and those that were `left` out: each role with the code of the refusal and its further key
     end      ends the session with a `digest`, as `call`; without one, that session by the digest of its name
     ask      a decision of that session about `operation` and `object`, as `check`, and the session's `name`
+    asks     as many such decisions at once as `times` says: their `reasons`
     logout   closes that session, as `call`
     counts   how many decisions there were, by their reasons
 """

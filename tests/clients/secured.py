@@ -62,7 +62,9 @@ def check_over_tls(bench, name):
     small_office(bench)
     openssl(bench, CERTIFICATES)
     own = {"ca": bench.path("ca.crt")}
-    with secured(bench, *tls_words(bench), rights=RIGHTS) as front, Driven(bench, name, timeout=PATIENT) as driver:
+    with secured(bench, *tls_words(bench), rights=RIGHTS) as front, Driven(
+        bench, name, timeout=PATIENT, pause=PATIENT
+    ) as driver:
         address = f"https://{HOST}:{front.port}"
         driver.open(address, token="another", **own)
         bench.same("a decision", [decided(driver), decided(driver, operation="burn")], ["allowed", "unknown_name"])
@@ -93,7 +95,7 @@ def check_over_a_socket(bench, name):
     path = bench.path("socket")
     bench.write("callers.jsonl", rules(RIGHTS).encode())
     with Front(bench, "--callers", bench.path("callers.jsonl"), listen=f"unix:{path}"):
-        with Driven(bench, name, timeout=PATIENT) as driver:
+        with Driven(bench, name, timeout=PATIENT, pause=PATIENT) as driver:
             driver.open(f"unix:{path}")
             bench.same("decisions", [driver.check() for _ in range(3)], ["allowed"] * 3)
             bench.same("what this user may not do", asked(driver), "forbidden")
@@ -133,7 +135,7 @@ def check_wrong_servers(bench, name):
     """
     wrong = certificates(bench)
     own = {"ca": bench.path("ca.crt"), "token": "secret"}
-    with patch.dict(os.environ, TRUSTING), Driven(bench, name, timeout=PATIENT) as driver:
+    with patch.dict(os.environ, TRUSTING), Driven(bench, name, timeout=PATIENT, pause=PATIENT) as driver:
         for what, who in {"that is right": "server", **wrong}.items():
             context = ssl.SSLContext(ssl.PROTOCOL_TLS_SERVER)
             context.load_cert_chain(bench.path(f"{who}.crt"), bench.path(f"{who}.key"))
@@ -161,8 +163,35 @@ def check_wrong_servers(bench, name):
         bench.same("the token in the log", "secret" in driver.said(), False)
 
 
+@pytest.mark.parametrize("name", NAMES)
+def check_names_of_servers(bench, name):
+    """All clients take the same names of a server: one that is written out among the other names of its certificate."""
+    openssl(bench, CERTIFICATES)
+    script = """
+    openssl req -newkey ec -pkeyopt ec_paramgen_curve:P-256 -nodes -keyout named.key -out named.csr -subj "/CN=$1"
+    printf "$2" > ext && openssl x509 -req -in named.csr -CA ca.crt -CAkey ca.key -out named.crt -days 2 -extfile ext
+    """
+    with Driven(bench, name, timeout=PATIENT, pause=PATIENT, ca=bench.path("ca.crt")) as driver:
+        for subject, others, wanted in [
+            ("rbac", "subjectAltName=DNS:localhost", "allowed"),
+            ("localhost", "", "untrusted"),
+            ("localhost", "subjectAltName=IP:127.0.0.1", "untrusted"),
+            ("localhost", "subjectAltName=DNS:elsewhere.example", "untrusted"),
+            ("rbac", "subjectAltName=DNS:*", "untrusted"),
+        ]:
+            subprocess.run(["sh", "-ec", script, "sh", subject, others], cwd=bench.folder, check=True, capture_output=True)
+            context = ssl.SSLContext(ssl.PROTOCOL_TLS_SERVER)
+            context.load_cert_chain(bench.path("named.crt"), bench.path("named.key"))
+            with Fake([RIGHT], context=context) as fake:
+                driver.open(fake.address.replace(HOST, "localhost"))
+                bench.same(f"the name {subject} and {others!r}", driver.check(), wanted)
+        with Talking(None) as port:
+            driver.open(f"https://{HOST}:{port}")
+            bench.same("a server that closes the connection amid the handshake", driver.check(), "unreachable")
+
+
 class Talking:
-    """A server that says something to each connection, whatever it gets."""
+    """A server that says something to each connection, whatever it gets, or closes it after its first bytes."""
 
     def __init__(self, said):
         self.said = said
@@ -184,6 +213,10 @@ class Talking:
             try:
                 client, _ = self.listener.accept()
                 self.clients.append(client)
-                client.sendall(self.said)
+                if self.said is None:
+                    client.recv(65_536)
+                    client.close()
+                else:
+                    client.sendall(self.said)
             except OSError:
                 return

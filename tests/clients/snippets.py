@@ -114,17 +114,28 @@ while IFS= read -r body; do
 done
 """
 
-# The time limits of the examples, and longer ones for a busy machine.
+# The time limits of the examples, and longer ones for a busy machine, with pauses after which no question is asked again.
 LIMITS = {
-    "timeout=2": "timeout=60",
-    "2 * time.Second": "60 * time.Second",
-    "timeout: 2_000": "timeout: 60_000",
-    "ofSeconds(2)": "ofSeconds(60)",
+    "timeout=2": "timeout=60, pause=60",
+    "2 * time.Second": "60 * time.Second, Pause: time.Minute",
+    "timeout: 2_000": "timeout: 60_000, pause: 60_000",
+    "ofSeconds(2)": "ofSeconds(60)).pause(Duration.ofSeconds(60)",
     "-m 2 ": "-m 60 ",
 }
 
-# Answers that curl reads as others do, though their lengths are stated in another way than by rbac, or their heads are wrong.
-RIGHT_FOR_CURL = {"pieces", "no length", "a version with the token", "a name of a field with a space"}
+# Answers that curl reads as others do, though their lengths are stated in another way than by rbac, their heads are wrong, or more
+# comes behind them.
+RIGHT_FOR_CURL = {
+    "pieces",
+    "no length",
+    "a version with the token",
+    "a name of a field with a space",
+    "two blanks before the status",
+    "a status without a blank after it",
+    "a field without a name",
+    "a byte behind the answer",
+    "two answers in one piece",
+}
 
 
 def example(language, port):

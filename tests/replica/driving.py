@@ -5,6 +5,9 @@ Each line of its input is an object with the key `do`, and each line of its outp
     open     makes a client and a replica of `addresses`, `token`, `oldest`, `otherwise`, `limit` and `silence`
     ready    whether the copy decides within `seconds`: `ready`
     check    a decision about `session`, `operation` and `object`, by `at_least` a revision: `allowed`, `reason`, `code`, `age`, `number`
+    user     a decision about `user`, `operation` and `object`: `allowed`, `reason`, and the `number` of the copy
+    guarded  the statuses of requests over ASGI, with this replica behind a guard, each for `session`, `operation` and `object` of
+             `asked`; by `user` instead of the session if they are `by_user`. In Python alone
     status   the `number` and the `revision` of the copy, its `age`, the `reason` why it isn't followed, or nothing, and the newest
              revision that the client has `seen`
     call     adds a `user` by the client: the `revision` of the policy that the client has seen then

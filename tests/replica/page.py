@@ -21,6 +21,37 @@ ON_DISK = True
 
 SECTION = markdown.section(markdown.page("howto/integrate.md"), "## 7. A replica in the process")
 BANK = (TESTS.parent / "examples/bank.jsonl").read_bytes().splitlines(keepends=True)
+GO = """package main
+
+import (
+	"context"
+	"fmt"
+	"log"
+	"os"
+	"time"
+
+	"rbac/clients/go/rbacclient"
+	"rbac/clients/go/rbacreplica"
+)
+
+%s
+func main() {
+	ctx := context.Background()
+	office, err := rbacclient.New(rbacclient.Config{Addresses: []string{os.Args[1]}})
+	if err != nil {
+		log.Fatal(err)
+	}
+	session, err := office.OpenSession(ctx, rbacclient.SessionConfig{User: "ann"})
+	if err != nil {
+		log.Fatal(err)
+	}
+	decision, err := decide(ctx, office, session.Name())
+	if err != nil {
+		log.Fatal(err)
+	}
+	fmt.Println(decision.Reason, decision.Age <= 3*time.Second)
+}
+"""
 PRINTED = {"python": "allowed True\n", "go": "allowed true\n"}
 
 
@@ -69,11 +100,11 @@ def check_the_page(bench, language):
         else:
             app = bench.folder.parent / "app"
             app.mkdir()
-            (app / "main.go").write_text(program, encoding="utf-8")
+            (app / "main.go").write_text(GO % program, encoding="utf-8")
             status, said, error = sh("bin/library lib", repository)
             bench.same("bin/library", (status, error), (0, ""))
             go = {name: value for name, value in environment().items() if not name.startswith(("CGO_", "LD_"))}
-            text = f"go mod init app 2> made\n{block('sh', 1)}./app"
+            text = f"go mod init app 2> made\n{block('sh', 1)}./app http://127.0.0.1:{front.port}"
             status, said, error = sh(
                 text, app, RBAC=str(repository), GOPROXY=go["GOPROXY"], GOFLAGS=" ".join(FORM), LD_LIBRARY_PATH=""
             )

@@ -39,8 +39,9 @@ def snapshot(body=None, number=7, revision=None):
 WATCH = b"HTTP/1.1 200 OK\r\nContent-Type: text/event-stream\r\nCache-Control: no-store\r\nConnection: close\r\n\r\n"
 
 
-def newest(number, elapsed=0):
-    return b"event: newest\ndata: %d\nelapsed: %d\n\n" % (number, elapsed)
+def newest(number, elapsed=0, revision=None):
+    more = b"" if revision is None else b"revision: %d\n" % revision
+    return b"event: newest\ndata: %d\n%selapsed: %d\n\n" % (number, more, elapsed)
 
 
 def event(number, line):
@@ -52,12 +53,12 @@ USER = b'{"fn":"addUser","user":"bob"}'
 
 class Fake:
     """A front with one snapshot and one watch, which goes on saying the last number unless it `ends`. With lists of them, each is the
-    answer to one request, and the last one that to all further requests.
+    answer to one request, and the last one that to all further requests. A watch is answered after `delay` seconds.
     """
 
-    def __init__(self, given, watched, ends=False):
+    def __init__(self, given, watched, ends=False, delay=0):
         self.given, self.watched = [one if isinstance(one, list) else [one] for one in (given, watched)]
-        self.ends = ends
+        self.ends, self.delay = ends, delay
         self.asked = []
         self.listener = socket.create_server((HOST, 0))
         self.address = f"http://{HOST}:{self.listener.getsockname()[1]}"
@@ -90,6 +91,8 @@ class Fake:
                 self.asked.append(head.split(b" ")[1].decode())
                 answers = self.watched if b"/watch" in head else self.given
                 is_last = len(answers) == 1
+                if b"/watch" in head:
+                    time.sleep(self.delay)
                 client.sendall(answers[0] if is_last else answers.pop(0))
                 if b"/watch" in head and is_last and not self.ends:
                     client.settimeout(60)
@@ -161,6 +164,9 @@ def check_watches(bench, language):
         "no command": event(8, b""),
         "a newest number that goes back": newest(6),
         "a command up to a number that was said to be complete": newest(9) + event(8, USER),
+        "a command that was left out": event(8, USER) + newest(9, revision=9),
+        "a command about the policy that was left out over several machines": event(9, USER) + newest(12, revision=11),
+        "a revision that goes back": newest(7, revision=6),
     }.items():
         asked = forgets(bench, language, what, good, WATCH + newest(7) + watched)
         bench.same(f"{what}: a new snapshot", asked.count("/snapshot") > 1, True)
@@ -194,6 +200,29 @@ def check_watches(bench, language):
         driver.open(fake.address, oldest=600, silence=600)
         until(lambda: driver.do("status")["reason"] == "unauthenticated", "the watch is refused")
         bench.same("the copy", driver.do("status")["number"] in (0, 7), True)
+
+
+@pytest.mark.parametrize("otherwise", ["ask", "deny"])
+@pytest.mark.parametrize("language", LANGUAGES)
+def check_refused_watches(bench, language, otherwise):
+    """A replica that may not watch never decides, though it gets a snapshot, and asks for the next one only after some time."""
+    good = snapshot(POLICY.replace(b"DIGEST", DIGEST))
+    refused = answer(b'{"code":63,"error":"Forbidden"}', 403)
+    with Fake(good, refused, delay=1) as fake, Driven(bench, language) as driver:
+        driver.open(fake.address, oldest=600, silence=600, otherwise=otherwise)
+        reasons, times = [], []
+
+        def asks():
+            if otherwise == "deny" or driver.do("status")["reason"] == "forbidden":  # Before it is refused it asks the front.
+                reasons.append(driver.reason(*ASKED))
+            times.extend([time.monotonic()] * (fake.asked.count("/snapshot") - len(times)))
+            return len(times) == 3 and driver.do("status")["reason"] == "forbidden"
+
+        until(asks, "the third snapshot")
+        bench.same("what it decided", set(reasons) - {"unavailable", "forbidden"}, set())
+        bench.same("that it has decided", "forbidden" in reasons, True)
+        bench.same("the pauses", [later - sooner > 1.5 for sooner, later in zip(times, times[1:])], [True, True])
+        bench.same("what the front was asked", [one for one in fake.asked if not one.startswith(("/snapshot", "/watch"))], [])
 
 
 def forgets(bench, language, what, given, watched):
@@ -239,6 +268,15 @@ def check_ages(bench, language):
         driver.open(fake.address, oldest=600, silence=600)
         until(lambda: driver.do("status")["number"] == 11, "it has the newest number")
         bench.same("its revision", driver.do("status")["revision"], 8)
+    # There the revision is the number of the last command about the policy, and on one machine how many there were.
+    for what, numbers, wanted in (("several machines", (9, 11), 9), ("one machine", (9, 9), 8)):
+        watched = WATCH + newest(7, revision=7) + event(numbers[0], USER) + newest(numbers[1], revision=wanted)
+        with Fake(good, watched) as fake, Driven(bench, language) as driver:
+            driver.open(fake.address, oldest=600, silence=600)
+            until(lambda: driver.do("status")["number"] == numbers[1], "it has the newest number")
+            bench.same(f"its revision over {what}", driver.do("status")["revision"], wanted)
+            bench.same(f"snapshots over {what}", fake.asked.count("/snapshot"), 1)
+            bench.same(f"a decision by it over {what}", driver.reason(*ASKED, at_least=wanted), "allowed")
 
 
 @pytest.mark.parametrize("language", LANGUAGES)
@@ -255,7 +293,12 @@ def check_restores(bench, language):
     }.items():
         with Fake([before, after], watches) as fake, Driven(bench, language) as driver:
             driver.open(fake.address, oldest=600, silence=600)
-            until(lambda: driver.do("status")["number"] == 1_000, f"{what}: the copy of after the restore")
+
+            def decides():
+                status = driver.do("status")
+                return status["number"] == 1_000 and status["reason"] == ""
+
+            until(decides, f"{what}: the copy of after the restore")
             status = driver.do("status")
             bench.same(f"{what}: the revisions", (status["revision"], status["seen"]), (1_000, 1_000))
             bench.same(f"{what}: a session of before", driver.reason(*ASKED), "ended_session")

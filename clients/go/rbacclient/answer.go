@@ -125,10 +125,10 @@ type sessionText struct {
 	Session string       `json:"session"`
 }
 
-// isRight reports whether the session has a name, and each role one reason to be left out.
+// isRight reports whether the session has a name, and each role that was left out a name and one reason.
 func (s *sessionText) isRight() bool {
 	for _, one := range s.Left {
-		if one.Kind != nil && one.Set != nil {
+		if one.Kind != nil && one.Set != nil || one.Role == "" || one.Error == "" {
 			return false
 		}
 	}

@@ -1,7 +1,8 @@
 // Package rbacclient is a client of the role administration server rbac and of its front.
 //
-// A Client has a method for each of the functions of docs/reference/api.md, Check and May for decisions, OpenSession for sessions, and Guard
-// for handlers of net/http. docs/howto/integrate.md shows how an application uses them. It needs nothing but Go's own library.
+// A Client has a method for each of the functions of docs/reference/api.md, Check, May and DecideByUser for decisions, OpenSession
+// for sessions, and Guard and GuardByUser for handlers of net/http. docs/howto/integrate.md shows how an application uses them. It
+// needs nothing but Go's own library.
 package rbacclient
 
 import (
@@ -25,11 +26,12 @@ type Config struct {
 	TokenFunc func() string
 	// TokenOverHTTP says that the token is sent to other machines without TLS too, over a network that encrypts by itself.
 	TokenOverHTTP bool
-	// Timeout limits a call as a whole, with all of its attempts. The default is 10 seconds.
+	// Timeout limits a call as a whole, with all of its attempts, and a check with the renewal of its session. The default is 10 seconds.
 	Timeout time.Duration
 	// TLS has the authorities that are trusted and the client's own certificate. The default trusts those of the system.
 	TLS *tls.Config
-	// Pause passes before a command is sent again, and each further pause is twice as long. The default is 100 milliseconds.
+	// Pause passes before a command is sent again, or a question at the same addresses, which is done while half of the time is left. Each
+	// further pause is twice as long. The default is 100 milliseconds.
 	Pause time.Duration
 	// NoRepeats says that a command whose answer was lost is never sent again, even if docs/howto/integrate.md, section 3, allows it.
 	NoRepeats bool
@@ -164,7 +166,18 @@ func (c *Client) Close() {
 
 // Check says whether the session may do the operation on the object, and why. Without an answer it denies.
 func (c *Client) Check(ctx context.Context, session, operation, object string) Decision {
-	return c.keep(c.decide(ctx, session, operation, object), operation, object)
+	return c.keep(ctx, c.decide(ctx, session, operation, object), operation, object)
+}
+
+// DecideByUser says whether the user may do the operation on the object in some session, and why: for applications without sessions. The
+// front decides; rbac serve can't. Without an answer it denies.
+func (c *Client) DecideByUser(ctx context.Context, user, operation, object string) Decision {
+	return c.keep(ctx, DecisionOf(c.AskByUser(ctx, user, operation, object)), operation, object)
+}
+
+// AskByUser is DecideByUser as CheckAccess is Check: it returns the answer or an error, and counts nothing.
+func (c *Client) AskByUser(ctx context.Context, user, operation, object string) (bool, error) {
+	return c.access(ctx, byUser, argument{"user", user}, argument{"operation", operation}, argument{"object", object})
 }
 
 // May reports whether to let the session do the operation on the object.
@@ -180,9 +193,11 @@ func (c *Client) decide(ctx context.Context, session, operation, object string) 
 	return DecisionOf(c.CheckAccess(ctx, session, operation, object))
 }
 
-// keep counts a decision, and logs it if the office hasn't made it.
-func (c *Client) keep(decision Decision, operation, object string) Decision {
-	c.tally.Keep(c.log, decision, operation, object)
+// keep counts a decision, and logs it if the office hasn't made it. One that the caller has cancelled says nothing about the office.
+func (c *Client) keep(ctx context.Context, decision Decision, operation, object string) Decision {
+	if decision.IsDecided() || !errors.Is(ctx.Err(), context.Canceled) {
+		c.tally.Keep(c.log, decision, operation, object)
+	}
 	return decision
 }
 
@@ -221,7 +236,10 @@ func (c *Client) imported(ctx context.Context, function string, arguments ...arg
 	return found, err
 }
 
-// access calls checkAccess. It is true only after the one answer that allows.
+// byUser is the question about a user that only the front answers.
+const byUser = "decideByUser"
+
+// access calls a question that decides. It is true only after the one answer that allows.
 func (c *Client) access(ctx context.Context, function string, arguments ...argument) (isAllowed bool, err error) {
 	err = c.call(ctx, function, 0, arguments, func(status int, text []byte) *Error {
 		isAllowed = status == http.StatusOK && string(text) == allowedText

@@ -2,8 +2,10 @@ package rbacclient
 
 import (
 	"bufio"
+	"bytes"
 	"context"
 	"crypto/tls"
+	"crypto/x509"
 	"errors"
 	"fmt"
 	"io"
@@ -104,12 +106,31 @@ func (a *address) dial(ctx context.Context) (*conn, *Error) {
 			}
 			return nil, failed(Unreachable, false, shownError{err})
 		}
+		if err := a.named(secured.ConnectionState().PeerCertificates[0]); err != nil {
+			made.Close()
+			return nil, failed(Untrusted, false, shownError{err})
+		}
 		made = secured
 	}
 	c := &conn{Conn: made}
 	c.limited = &io.LimitedReader{R: c}
-	c.reader = bufio.NewReader(c.limited)
+	c.reader = bufio.NewReaderSize(c.limited, longestHead) // A whole head is looked at before it is read.
 	return c, nil
+}
+
+// named returns an error if a certificate is for the host by the name * alone, which no client in another language takes for localhost.
+func (a *address) named(certificate *x509.Certificate) error {
+	if a.tls.InsecureSkipVerify {
+		return nil
+	}
+	copied := *certificate
+	copied.DNSNames = nil
+	for _, name := range certificate.DNSNames {
+		if name != "*" {
+			copied.DNSNames = append(copied.DNSNames, name)
+		}
+	}
+	return copied.VerifyHostname(a.tls.ServerName)
 }
 
 // kept returns a connection that is open, and on which nothing has come meanwhile, or nil.
@@ -199,8 +220,8 @@ func (c *conn) exchange(ctx context.Context, limit time.Time, request []byte) (*
 	if err != nil {
 		return nil, nil, false, c.lost(ctx, err)
 	}
-	if response.ContentLength < 0 || response.ContentLength > longestAnswer || !isHead(response.Header) {
-		return nil, nil, false, failed(Unexpected, true, fmt.Errorf("a wrong head, or a length of %d", response.ContentLength))
+	if response.ContentLength < 0 || response.ContentLength > longestAnswer {
+		return nil, nil, false, failed(Unexpected, true, fmt.Errorf("the answer has a length of %d", response.ContentLength))
 	}
 	c.limited.N = response.ContentLength + 1
 	answer := make([]byte, response.ContentLength)
@@ -216,26 +237,51 @@ func (c *conn) exchange(ctx context.Context, limit time.Time, request []byte) (*
 // readHead reads the head of an answer. The body is limited by what follows.
 func (c *conn) readHead() (*http.Response, error) {
 	c.limited.N, c.broken = longestHead, nil
-	if start, err := c.reader.Peek(len(httpStart)); !strings.HasPrefix(httpStart, string(start)) {
-		return nil, errNoHTTP
-	} else if err != nil {
+	if err := c.judgeHead(); err != nil {
 		return nil, err
 	}
 	response, err := http.ReadResponse(c.reader, nil)
-	switch {
-	case err != nil && c.limited.N <= 0:
-		return nil, errLongHead
-	case err != nil && c.broken != nil:
-		return nil, c.broken
-	}
 	c.limited.N = math.MaxInt64
 	return response, err
 }
 
-// httpStart is how an answer begins.
-const httpStart = "HTTP/1."
+// httpStart is how an answer begins. Each 0 stands for a digit.
+const httpStart = "HTTP/1.0 000 "
 
-var errNoHTTP, errLongHead = errors.New("no HTTP"), errors.New("the head of the answer is too long")
+var errWrongHead, errLongHead = errors.New("no HTTP"), errors.New("the head of the answer is too long")
+
+// judgeHead waits for a head, and returns an error unless it is as HTTP has it: net/http reads more.
+func (c *conn) judgeHead() error {
+	for {
+		_, err := c.reader.Peek(c.reader.Buffered() + 1)
+		head, _ := c.reader.Peek(c.reader.Buffered())
+		if !isStart(head) {
+			return errWrongHead
+		}
+		if end := bytes.Index(head, []byte("\r\n\r\n")); end >= 0 {
+			return judgeFields(head[:end])
+		}
+		switch {
+		case err != nil && (c.limited.N <= 0 || errors.Is(err, bufio.ErrBufferFull)):
+			return errLongHead
+		case err != nil && c.broken != nil:
+			return c.broken
+		case err != nil:
+			return err
+		}
+	}
+}
+
+// isStart reports whether an answer of HTTP/1.0 or HTTP/1.1 may begin so.
+func isStart(head []byte) bool {
+	for i := 0; i < len(head) && i < len(httpStart); i++ {
+		isDigit := head[i] >= '0' && head[i] <= '9' && httpStart[i] == '0'
+		if head[i] != httpStart[i] && !isDigit || i == len("HTTP/1.") && head[i] > '1' {
+			return false
+		}
+	}
+	return true
+}
 
 // endsWith ends what is read and written when a context does, until the function that it returns is called.
 func (c *conn) endsWith(ctx context.Context) func() {
@@ -273,21 +319,26 @@ func (c *conn) lost(ctx context.Context, err error) *Error {
 	return failed(Unexpected, true, errors.New("no answer of rbac: a wrong head"))
 }
 
-// isHead reports whether all fields of a head are as HTTP has them: net/http reads more.
-func isHead(head http.Header) bool {
-	for name, values := range head {
-		for i := 0; i < len(name); i++ {
-			if name[i] <= ' ' || name[i] > '~' || strings.IndexByte(`"(),/:;<=>?@[\]{}`, name[i]) >= 0 {
-				return false
-			}
+// judgeFields returns an error unless each line of a head but the first is a field with a name.
+func judgeFields(head []byte) error {
+	for i, line := range bytes.Split(head, []byte("\r\n")) {
+		name, value, isField := bytes.Cut(line, []byte{':'})
+		if i == 0 {
+			name, value, isField = []byte("status"), line, true
 		}
-		for _, value := range values {
-			for i := 0; i < len(value); i++ {
-				if value[i] < ' ' && value[i] != '\t' || value[i] == 0x7f {
-					return false
-				}
+		if !isField || len(name) == 0 || bytes.IndexFunc(name, isNoName) >= 0 {
+			return errWrongHead
+		}
+		for _, one := range value {
+			if one < ' ' && one != '\t' || one == 0x7f {
+				return errWrongHead
 			}
 		}
 	}
-	return true
+	return nil
+}
+
+// isNoName reports whether a letter can't be in the name of a field.
+func isNoName(letter rune) bool {
+	return letter <= ' ' || letter > '~' || strings.ContainsRune(`"(),/:;<=>?@[\]{}`, letter)
 }

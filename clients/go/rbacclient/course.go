@@ -18,6 +18,7 @@ type course struct {
 	client     *Client
 	ctx        context.Context
 	deadline   time.Time
+	latest     time.Time // until when a question is asked again at the same addresses
 	isQuestion bool
 	again      int // the code that means that a repeated command was done; 0 if none does
 	left       int // attempts
@@ -30,15 +31,14 @@ type course struct {
 
 // newCourse begins a call. again is the code that means that the command was done, if the function alone doesn't say it.
 func newCourse(ctx context.Context, c *Client, function string, again int) *course {
-	deadline, hasDeadline := ctx.Deadline()
-	if own := time.Now().Add(c.timeout); !hasDeadline || own.Before(deadline) {
-		deadline = own
-	}
+	began := time.Now()
+	deadline := c.deadline(ctx, began)
 	code, isKnown := commands[function]
 	if again != 0 {
 		code, isKnown = again, true
 	}
 	r := &course{client: c, ctx: ctx, deadline: deadline, isQuestion: !isCommand(function), again: code, left: 1}
+	r.latest = began.Add(deadline.Sub(began) / 2)
 	r.unreached, r.at = len(c.addresses)-1, int(c.first.Load())
 	switch {
 	case r.isQuestion:
@@ -47,6 +47,15 @@ func newCourse(ctx context.Context, c *Client, function string, again int) *cour
 		r.left = mostAttempts
 	}
 	return r
+}
+
+// deadline returns when a call that begins now has to have ended.
+func (c *Client) deadline(ctx context.Context, now time.Time) time.Time {
+	own := now.Add(c.timeout)
+	if deadline, hasDeadline := ctx.Deadline(); hasDeadline && deadline.Before(own) {
+		return deadline
+	}
+	return own
 }
 
 // isCommand reports whether a function changes the office, as all do that only the front does.
@@ -94,11 +103,7 @@ func (r *course) after(err *Error) *Error {
 	}
 	r.at++
 	if r.isQuestion {
-		r.left--
-		if r.left == 0 {
-			return err
-		}
-		return nil
+		return r.askedAgain(err)
 	}
 	if isUnsent(err) {
 		if r.unreached > 0 {
@@ -118,6 +123,19 @@ func (r *course) after(err *Error) *Error {
 	return r.pause(err)
 }
 
+// askedAgain returns nil if the next address is asked: at once, or all of them again after a pause, while half of the time is left.
+func (r *course) askedAgain(err *Error) *Error {
+	r.left--
+	if r.left > 0 {
+		return nil
+	}
+	if !isOfTheMoment(err.Reason) || time.Now().Add(r.nextPause()).After(r.latest) {
+		return err
+	}
+	r.left = len(r.client.addresses)
+	return r.pause(err)
+}
+
 // last is what the call returns at its end: a command that was sent is unanswered, though nobody could be reached after that.
 func (r *course) last(err *Error) *Error {
 	if r.isLost && isUnsent(err) {
@@ -131,9 +149,14 @@ func isUnsent(err *Error) bool {
 	return err.Reason == Unreachable || err.Reason == Untrusted
 }
 
-// pause waits, each time longer, and returns the error if the call ends meanwhile.
+// nextPause is that before the next attempt: each time twice as long.
+func (r *course) nextPause() time.Duration {
+	return r.client.pause << r.sent
+}
+
+// pause waits, and returns the error if the call ends meanwhile.
 func (r *course) pause(err *Error) *Error {
-	timer := time.NewTimer(r.client.pause << r.sent)
+	timer := time.NewTimer(r.nextPause())
 	defer timer.Stop()
 	r.sent++
 	select {
@@ -142,6 +165,11 @@ func (r *course) pause(err *Error) *Error {
 	case <-r.ctx.Done():
 		return r.last(err)
 	}
+}
+
+// isOfTheMoment reports whether the same address may have an answer soon: a server that is restarted or too busy.
+func isOfTheMoment(reason Reason) bool {
+	return reason == Unavailable || reason == Unreachable || reason == Unanswered
 }
 
 // isOfOneAddress reports whether another address may have an answer.

@@ -122,11 +122,14 @@ func asError(err error) *Error {
 	return failed(InvalidRequest, false, err)
 }
 
-// undecided is the decision if the question has no answer. No other refusal is an answer to it.
+// undecided is the decision if the question has no answer. No other refusal is an answer to it, but that of a user who isn't known.
 func undecided(err error) Decision {
 	own := asError(err)
 	reason := own.Reason
-	if reason == Refused {
+	switch {
+	case own.Code == noUser:
+		reason = UnknownName
+	case reason == Refused:
 		reason = Unexpected
 	}
 	return Decision{Reason: reason, Code: own.Code, Detail: strings.TrimPrefix(own.Error(), "rbacclient: ")}

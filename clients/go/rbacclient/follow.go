@@ -66,6 +66,9 @@ type Event struct {
 	Line   []byte
 	// Moment is a time before which the newest number was not yet written: the number is that of an office of then or later.
 	Moment time.Time
+	// Revision is that of the policy at the newest number, if HasRevision: an older front doesn't say it.
+	Revision    uint64
+	HasRevision bool
 }
 
 // Watch has the commands that an office accepts after a number, as they come. Only Close may be called by another goroutine.
@@ -160,6 +163,11 @@ func (w *Watch) event(fields map[string][]byte) (Event, error) {
 	if event.Number, isNumber = parseNumber(string(data)); !isNumber {
 		return Event{}, noEvent("its number is none")
 	}
+	if revision, isTold := fields["revision"]; isTold {
+		if event.Revision, event.HasRevision = parseNumber(string(revision)); !event.HasRevision {
+			return Event{}, noEvent("its revision is none")
+		}
+	}
 	if elapsed, isTold := fields["elapsed"]; isTold {
 		milliseconds, isNumber := parseNumber(string(elapsed))
 		if !isNumber {
@@ -212,9 +220,6 @@ func (c *Client) get(ctx context.Context, address *address, path string) (*http.
 	response, err := conn.readHead()
 	if err != nil {
 		return nil, conn.lost(ctx, err)
-	}
-	if !isHead(response.Header) {
-		return nil, failed(Unexpected, true, errors.New("no answer of rbac: a wrong head"))
 	}
 	return response, nil
 }

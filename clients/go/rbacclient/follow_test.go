@@ -35,6 +35,9 @@ func TestWatch(t *testing.T) {
 				if err != nil || len(number) < 18 && string(number) != string(wanted) || string(got.Line) != line || (got.Line != nil) != hasLine {
 					t.Errorf("event %d: %d, %q, %v", i, got.Number, got.Line, err)
 				}
+				if got.HasRevision != (len(event) > 2) || got.HasRevision && event[2] != float64(got.Revision) {
+					t.Errorf("event %d: the revision %d", i, got.Revision)
+				}
 			}
 			want := Unanswered
 			if test.Events == nil {

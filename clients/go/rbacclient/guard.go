@@ -16,7 +16,13 @@ func (c *Client) Guard(next http.Handler, need func(*http.Request) *Need, sessio
 	return NewGuard(c.Check, next, need, session)
 }
 
+// GuardByUser is Guard for applications without sessions: user returns the user whom the application has authenticated, or nothing.
+func (c *Client) GuardByUser(next http.Handler, need func(*http.Request) *Need, user func(*http.Request) string) http.Handler {
+	return NewGuard(c.DecideByUser, next, need, user)
+}
+
 // Check decides whether a session may do an operation on an object: the method of a Client, or of what decides instead of it.
+// DecideByUser is one for users.
 type Check func(ctx context.Context, session, operation, object string) Decision
 
 // NewGuard returns a handler as Client.Guard does, for which check decides.

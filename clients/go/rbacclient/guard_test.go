@@ -5,12 +5,13 @@ import (
 	"net/http"
 	"net/http/httptest"
 	"testing"
+	"time"
 )
 
 // TestGuard passes a request on only after a decision that allows.
 func TestGuard(t *testing.T) {
 	s := serve(t)
-	office, err := New(Config{Addresses: []string{s.address()}})
+	office, err := New(Config{Addresses: []string{s.address()}, Pause: time.Hour})
 	if err != nil {
 		t.Fatal(err)
 	}
@@ -30,6 +31,16 @@ func TestGuard(t *testing.T) {
 		if got := status(office.Guard(passed, need, session)); got != test.status {
 			t.Errorf("the answer %q: status %d, want %d", test.answer, got, test.status)
 		}
+		s.set(test.answer, false)
+		if got := status(office.GuardByUser(passed, need, func(*http.Request) string { return "ann" })); got != test.status {
+			t.Errorf("the answer %q about a user: status %d, want %d", test.answer, got, test.status)
+		}
+		if requests, _ := s.set(test.answer, false); len(requests) != 1 || requests[0].URL.Path != "/v1/decideByUser" {
+			t.Errorf("the requests about a user: %v", requests)
+		}
+	}
+	if got := status(office.GuardByUser(passed, need, func(*http.Request) string { return "" })); got != http.StatusUnauthorized {
+		t.Errorf("no user: status %d", got)
 	}
 	nothing := func(context.Context, string, string, string) Decision { return Decision{} }
 	if got := status(NewGuard(nothing, passed, need, session)); got != http.StatusServiceUnavailable {

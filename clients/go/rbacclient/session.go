@@ -16,9 +16,10 @@ const (
 	endsSession  = "DELETE /sessions/"
 )
 
-// The codes of refusals: there is no session, the name is used, the server has no such path, as rbac serve.
+// The codes of NoUser, NoSession, SessionExists, NotAuthorized and UnknownFunction. rbac serve answers the last one, since it has no
+// /sessions.
 const (
-	noSession, sessionExists, noSuchPath = 26, 27, 35
+	noUser, noSession, sessionExists, notAuthorized, noSuchPath = 2, 26, 27, 29, 35
 )
 
 // creates is for how long a server that opens no sessions isn't asked for one again.
@@ -30,7 +31,7 @@ type SessionConfig struct {
 	// Roles are those to activate, or nil for all that the user is assigned to. The front activates as many of them in their order as
 	// it can, and rbac serve all of them, or it refuses.
 	Roles []string
-	// Renew makes the session again when a decision finds that it has ended, with those of the roles that are left.
+	// Renew makes the session again when a decision finds that it has ended, with those of its roles that are left, and never with others.
 	Renew bool
 	// Check decides instead of the client, such as Decide of a replica.
 	Check Check
@@ -48,11 +49,12 @@ type LeftOut struct {
 type Session struct {
 	client *Client
 
-	mu     sync.Mutex
-	config SessionConfig
-	name   string
-	roles  []string
-	left   []LeftOut
+	mu      sync.Mutex // It is held for moments, never while something is asked.
+	config  SessionConfig
+	name    string
+	roles   []string
+	left    []LeftOut
+	renewal *renewal // what makes the session again at the moment
 }
 
 // NewSessionName returns a new name for a session, which nobody can guess and no other session has.
@@ -117,21 +119,24 @@ func (s *Session) Check(ctx context.Context, operation, object string) Decision 
 	if s.config.Check != nil {
 		return s.check(ctx, s.config.Check, operation, object)
 	}
-	return s.client.keep(s.check(ctx, s.client.decide, operation, object), operation, object)
+	return s.client.keep(ctx, s.check(ctx, s.client.decide, operation, object), operation, object)
 }
 
 // check returns a decision, for which the session is made again if that is wanted.
 func (s *Session) check(ctx context.Context, decide Check, operation, object string) Decision {
-	name := s.Name()
+	began, name := time.Now(), s.Name()
 	decision := decide(ctx, name, operation, object)
-	if decision.Reason == EndedSession {
-		isRenewed, err := s.renew(ctx, name)
-		switch {
-		case err != nil && asError(err).Reason != Refused:
-			decision = undecided(err)
-		case isRenewed:
-			decision = decide(ctx, s.Name(), operation, object)
-		}
+	if decision.Reason != EndedSession {
+		return decision
+	}
+	ctx, cancel := context.WithDeadline(ctx, s.client.deadline(ctx, began))
+	defer cancel()
+	isRenewed, err := s.renew(ctx, name)
+	switch {
+	case err != nil && asError(err).Reason != Refused:
+		return undecided(err)
+	case isRenewed:
+		return decide(ctx, s.Name(), operation, object)
 	}
 	return decision
 }
@@ -145,67 +150,85 @@ func (s *Session) May(ctx context.Context, operation, object string) bool {
 func (s *Session) Close(ctx context.Context) error {
 	s.mu.Lock()
 	s.config.Renew = false
-	user, name := s.config.User, s.name
+	own := s.renewal
 	s.mu.Unlock()
-	err := s.client.doneAgain(ctx, noSession, "deleteSession", argument{"user", user}, argument{"session", name})
+	if own != nil {
+		select {
+		case <-own.over:
+		case <-ctx.Done():
+		}
+	}
+	err := s.client.doneAgain(ctx, noSession, "deleteSession", argument{"user", s.config.User}, argument{"session", s.Name()})
 	// The user may be gone as well.
-	if IsRefused(err, noSession) || IsRefused(err, 2) {
+	if IsRefused(err, noSession) || IsRefused(err, noUser) {
 		return nil
 	}
 	return err
 }
 
-// open makes the session. The caller holds the lock, or nobody else has the session yet.
+// open makes the session.
 func (s *Session) open(ctx context.Context) error {
-	arguments := []argument{{"user", s.config.User}}
-	if s.config.Roles != nil {
-		arguments = append(arguments, argument{"roles", s.config.Roles})
-	}
-	var name string
-	var roles []string
-	var opened sessionText
-	var err error
-	isMissing := time.Now().UnixNano() < s.client.createsUntil.Load()
-	if !isMissing {
-		opened, err = ask[sessionText](ctx, s.client, opensSession, arguments...)
+	if time.Now().UnixNano() >= s.client.createsUntil.Load() {
+		arguments := []argument{{"user", s.config.User}}
+		if wanted := s.wanted(); wanted != nil {
+			arguments = append(arguments, argument{"roles", wanted})
+		}
+		opened, err := ask[sessionText](ctx, s.client, opensSession, arguments...)
 		if err == nil && !opened.isRight() {
 			err = failed(Unexpected, true, errors.New("no answer of rbac: no session"))
 		}
-		name, roles = opened.Session, opened.Roles
-		if isMissing = IsRefused(err, noSuchPath); isMissing {
-			s.client.createsUntil.Store(time.Now().Add(creates).UnixNano())
+		if err == nil {
+			s.became(opened.Session, opened.Roles, opened.left())
 		}
+		if !IsRefused(err, noSuchPath) {
+			return err
+		}
+		s.client.createsUntil.Store(time.Now().Add(creates).UnixNano())
 	}
-	if isMissing {
-		name, roles, err = s.create(ctx)
-	}
-	if err != nil {
-		return err
-	}
-	s.name, s.roles, s.left = name, roles, opened.left()
-	return nil
+	return s.create(ctx)
 }
 
 // create makes the session by createSession. If the answer is lost it is sent again: nobody else has that name.
-func (s *Session) create(ctx context.Context) (name string, roles []string, err error) {
-	if name, err = NewSessionName(); err != nil {
-		return "", nil, err
+func (s *Session) create(ctx context.Context) error {
+	name, err := NewSessionName()
+	if err != nil {
+		return err
 	}
-	if roles, err = s.wanted(ctx); err != nil {
-		return "", nil, err
+	roles, err := s.present(ctx)
+	if err != nil {
+		return err
 	}
 	err = s.client.doneAgain(ctx, sessionExists, "createSession",
 		argument{"user", s.config.User}, argument{"roles", roles}, argument{"session", name})
-	return name, roles, err
+	if err == nil {
+		s.became(name, roles, nil)
+	}
+	return err
 }
 
-// wanted returns the roles for createSession: after the first time those that the user is still authorized for.
-func (s *Session) wanted(ctx context.Context) ([]string, error) {
-	if s.config.Roles == nil {
+// became notes the session that was made. If it is made again it gets no role that it hasn't had.
+func (s *Session) became(name string, roles []string, left []LeftOut) {
+	s.mu.Lock()
+	defer s.mu.Unlock()
+	s.name, s.roles, s.left = name, roles, left
+}
+
+// wanted returns the roles that are asked for: those that it has had if it is made again. It is nil for all of the user.
+func (s *Session) wanted() []string {
+	if s.Name() != "" {
+		return s.Roles()
+	}
+	return s.config.Roles
+}
+
+// present returns the roles for createSession: those that are wanted, and after the first time that the user is still authorized for.
+func (s *Session) present(ctx context.Context) ([]string, error) {
+	wanted := s.wanted()
+	if wanted == nil {
 		return s.client.AssignedRoles(ctx, s.config.User)
 	}
-	if s.name == "" {
-		return append([]string{}, s.config.Roles...), nil
+	if s.Name() == "" {
+		return append([]string{}, wanted...), nil
 	}
 	authorized, err := s.client.AuthorizedRoles(ctx, s.config.User)
 	if err != nil {
@@ -216,21 +239,52 @@ func (s *Session) wanted(ctx context.Context) ([]string, error) {
 		isLeft[role] = true
 	}
 	roles := []string{}
-	for _, role := range s.config.Roles {
+	for _, role := range wanted {
 		if isLeft[role] {
 			roles = append(roles, role)
 		}
 	}
+	if len(roles) == 0 && len(wanted) > 0 {
+		return nil, RefusedError(notAuthorized, refusals[notAuthorized].name) // Without a role there is no session to be made again.
+	}
 	return roles, nil
 }
 
-// renew makes the session again if that is wanted, unless another goroutine has done it. It reports whether there is a new one.
+// A renewal makes a session again. Others wait until it is over, and get its error.
+type renewal struct {
+	over chan struct{}
+	err  error
+}
+
+// renew makes the session again if that is wanted, or waits for the goroutine that does. It reports whether there is a new one.
 func (s *Session) renew(ctx context.Context, name string) (bool, error) {
 	s.mu.Lock()
-	defer s.mu.Unlock()
 	if !s.config.Renew || s.name != name {
+		defer s.mu.Unlock()
 		return s.name != name, nil
 	}
-	err := s.open(ctx)
-	return err == nil, err
+	own := s.renewal
+	if own == nil {
+		own = &renewal{over: make(chan struct{})}
+		s.renewal = own
+		go s.makeAgain(own)
+	}
+	s.mu.Unlock()
+	select {
+	case <-own.over:
+		return own.err == nil, own.err
+	case <-ctx.Done():
+		return false, failed(Unanswered, true, fmt.Errorf("the session wasn't made again in time: %w", ctx.Err()))
+	}
+}
+
+// makeAgain makes the session again for all who wait, whose contexts may end before that of another one.
+func (s *Session) makeAgain(own *renewal) {
+	ctx, cancel := context.WithTimeout(context.Background(), s.client.timeout)
+	defer cancel()
+	own.err = s.open(ctx)
+	s.mu.Lock()
+	s.renewal = nil
+	s.mu.Unlock()
+	close(own.over)
 }

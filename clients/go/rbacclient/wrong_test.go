@@ -37,7 +37,7 @@ func TestWrongAnswers(t *testing.T) {
 	for _, test := range data.Cases {
 		t.Run(test.Name, func(t *testing.T) {
 			var said bytes.Buffer
-			office, err := New(Config{Addresses: []string{s.address()}, Token: data.Token, Log: log.New(&said, "", 0)})
+			office, err := New(Config{Addresses: []string{s.address()}, Token: data.Token, Log: log.New(&said, "", 0), Pause: time.Hour})
 			if err != nil {
 				t.Fatal(err)
 			}
@@ -72,7 +72,7 @@ func TestWrongAnswers(t *testing.T) {
 		})
 	}
 	var said bytes.Buffer
-	office, _ := New(Config{Addresses: []string{s.address()}, Token: data.Token, Log: log.New(&said, "", 0)})
+	office, _ := New(Config{Addresses: []string{s.address()}, Token: data.Token, Log: log.New(&said, "", 0), Pause: time.Hour})
 	s.set(right, false)
 	if decision := office.Check(context.Background(), data.Session, "open", "safe"); !decision.Allowed() || said.Len() > 0 {
 		t.Errorf("the right answer is %s: %s", decision.Reason, said.String())
@@ -91,7 +91,7 @@ func TestConnections(t *testing.T) {
 	s.keep = true
 	s.mu.Unlock()
 	for _, test := range cases {
-		office, err := New(Config{Addresses: []string{s.address()}, Log: log.New(io.Discard, "", 0)})
+		office, err := New(Config{Addresses: []string{s.address()}, Log: log.New(io.Discard, "", 0), Pause: time.Hour})
 		if err != nil {
 			t.Fatal(err)
 		}
@@ -161,7 +161,8 @@ func TestContext(t *testing.T) {
 	s.keep = true
 	s.mu.Unlock()
 	s.set("HTTP/1.1 200 OK\r\n", false)
-	office, err := New(Config{Addresses: []string{s.address()}, Log: log.New(io.Discard, "", 0)})
+	var said bytes.Buffer
+	office, err := New(Config{Addresses: []string{s.address()}, Log: log.New(&said, "", 0)})
 	if err != nil {
 		t.Fatal(err)
 	}
@@ -180,6 +181,9 @@ func TestContext(t *testing.T) {
 	}
 	if err := office.AddUser(ctx, "ann"); asError(err).Reason != Unreachable {
 		t.Errorf("a context that has ended: %v", err)
+	}
+	if office.May(ctx, "s1", "open", "safe") || len(office.Counts()) > 0 || said.Len() > 0 {
+		t.Errorf("a caller's cancel is counted %v, and logged %q", office.Counts(), said.String())
 	}
 	s.set(right, false)
 	if !office.May(context.Background(), "s1", "open", "safe") {

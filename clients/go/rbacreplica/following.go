@@ -17,6 +17,8 @@ const (
 	longestWatch = 10 * time.Minute
 	// firstPause is that before the front is asked again after a second failure. Each further one is twice as long.
 	firstPause, longestPause = 50 * time.Millisecond, time.Second
+	// refusedPause is that after the front has refused to be followed: each attempt costs it a snapshot.
+	refusedPause = 5 * time.Second
 	// young is for how long the roles of a session that began without some may still be on their way; at most mostYoung such sessions
 	// are kept.
 	young, mostYoung = 2 * time.Second, 4_096
@@ -56,14 +58,18 @@ func (r *Replica) run(ctx context.Context) {
 // pause waits after failed attempts, longer after each, and reports whether there is to be another one.
 func (r *Replica) pause(ctx context.Context) bool {
 	r.mu.Lock()
-	failures := r.failures
+	failures, isRefused := r.failures, r.trouble != nil && isNoRight(r.trouble.Reason)
 	r.mu.Unlock()
 	var pause time.Duration
-	if failures >= 2 {
+	switch {
+	case isRefused:
+		pause = refusedPause
+	case failures >= 7:
 		pause = longestPause
-		if failures < 7 {
-			pause = firstPause << (failures - 2)
-		}
+	case failures >= 2:
+		pause = firstPause << (failures - 2)
+	}
+	if pause > 0 {
 		pause = pause/2 + time.Duration(rand.Int63n(int64(pause/2)))
 	}
 	select {
@@ -113,10 +119,11 @@ func (r *Replica) forget() {
 		r.office.Close()
 	}
 	r.office, r.fresh = nil, moment{}
-	r.number, r.revision = 0, 0
+	r.number, r.revision, r.last = 0, 0, 0
 }
 
-// load makes the copy by a snapshot of the front, unless there is one from this address.
+// load makes the copy by a snapshot of the front, unless there is one from this address. It doesn't decide before the front lets it be
+// followed.
 func (r *Replica) load(ctx context.Context, place int) error {
 	r.mu.Lock()
 	isThere := r.office != nil && r.place == place
@@ -138,7 +145,8 @@ func (r *Replica) load(ctx context.Context, place int) error {
 		r.office.Close()
 	}
 	r.office, r.number, r.revision, r.place = office, snapshot.Number, snapshot.Revision, place
-	r.fresh, r.young = momentOf(snapshot.Asked), nil
+	r.last = snapshot.Revision
+	r.asked, r.young = snapshot.Asked, nil
 	for _, line := range snapshot.Lines {
 		r.noteSession(line)
 	}
@@ -153,6 +161,9 @@ func (r *Replica) follow(ctx context.Context, place int) error {
 		return err
 	}
 	defer watch.Close()
+	r.mu.Lock()
+	r.freshens(r.asked)
+	r.mu.Unlock()
 	for {
 		event, err := watch.Next()
 		if err != nil {
@@ -185,7 +196,13 @@ func (r *Replica) newest(event rbacclient.Event) error {
 	switch {
 	case event.Number < r.number:
 		return diverged("the newest number is %d, and the copy has %d", event.Number, r.number)
+	case event.HasRevision && event.Revision != r.revision && event.Revision != r.last:
+		// The front has the same commands: one of them may have been left out.
+		return diverged("the policy has revision %d, and the copy %d", event.Revision, r.revision)
 	default:
+		if event.HasRevision {
+			r.revision = event.Revision
+		}
 		// All commands up to that number were sent. On several machines those that were refused have numbers too.
 		r.number = event.Number
 		r.isFresh(at)
@@ -199,10 +216,15 @@ func (r *Replica) isFresh(at time.Time) {
 		r.isTold = false
 		r.config.Log.Printf("the replica follows the front")
 	}
+	r.trouble, r.failures = nil, 0
+	r.freshens(at)
+}
+
+// freshens notes the same of a copy that isn't known to be followed yet. The caller holds the lock.
+func (r *Replica) freshens(at time.Time) {
 	if r.fresh.isNever() || at.After(r.fresh.at) {
 		r.fresh = momentOf(at)
 	}
-	r.trouble, r.failures = nil, 0
 	r.hasChanged()
 }
 
@@ -220,6 +242,7 @@ func (r *Replica) accepted(event rbacclient.Event) error {
 	r.number = event.Number
 	if !isAboutSession(event.Line) {
 		r.revision++
+		r.last = event.Number
 	}
 	r.noteSession(event.Line)
 	r.hasChanged()

@@ -78,7 +78,9 @@ type Replica struct {
 	office   *rbacoffice.Office // nil if there is no copy
 	number   uint64
 	revision uint64
-	place    int // the address that the copy is from
+	last     uint64    // what the revision is over several machines: the number of the last command that it counts
+	place    int       // the address that the copy is from
+	asked    time.Time // when the front was asked for the copy
 	fresh    moment
 	young    map[string]time.Time // when sessions came that may not have all of their roles yet
 	trouble  *rbacclient.Error
@@ -156,22 +158,46 @@ func (r *Replica) Check(ctx context.Context, session, operation, object string) 
 
 // CheckAt is Check by a copy that has at least this revision of the policy, such as PolicyRevision of a client after a command.
 func (r *Replica) CheckAt(ctx context.Context, revision uint64, session, operation, object string) Decision {
-	name := r.names.of(session)
-	decision, isFinal := r.here(revision, name, operation, object)
+	return r.judge(ctx, &question{revision, false, r.names.of(session), operation, object}, func() rbacclient.Decision {
+		return rbacclient.DecisionOf(r.config.Client.CheckAccess(ctx, session, operation, object))
+	})
+}
+
+// DecideByUser says whether the user may do the operation on the object in some session, for a guard of applications without sessions.
+func (r *Replica) DecideByUser(ctx context.Context, user, operation, object string) rbacclient.Decision {
+	return r.DecideByUserAt(ctx, 0, user, operation, object).Decision
+}
+
+// DecideByUserAt is DecideByUser by a copy that has at least this revision of the policy. It also says by which state.
+func (r *Replica) DecideByUserAt(ctx context.Context, revision uint64, user, operation, object string) Decision {
+	return r.judge(ctx, &question{revision, true, user, operation, object}, func() rbacclient.Decision {
+		return rbacclient.DecisionOf(r.config.Client.AskByUser(ctx, user, operation, object))
+	})
+}
+
+// question is what the copy decides: about a session by its digest, or about a user.
+type question struct {
+	revision                uint64 // that the copy has to have, at least
+	isByUser                bool
+	name, operation, object string
+}
+
+// judge returns the decision of the copy, or what is decided if it may not. ask asks the front.
+func (r *Replica) judge(ctx context.Context, q *question, ask func() rbacclient.Decision) Decision {
+	decision, isFinal := r.decide(q)
 	switch {
 	case isFinal:
-		return decision // It is counted.
 	case r.config.Otherwise == Wait:
-		decision, isFinal = r.later(ctx, revision, name, operation, object)
-		if isFinal {
-			return decision
-		}
+		decision = r.later(ctx, q)
 	case r.config.Otherwise == Ask:
 		asked := time.Now()
-		isAllowed, err := r.config.Client.CheckAccess(ctx, session, operation, object)
-		decision = Decision{Decision: rbacclient.DecisionOf(isAllowed, err), Age: time.Since(asked)}
+		decision = Decision{Decision: ask()}
+		decision.Age = time.Since(asked)
 	}
-	r.tally.Keep(r.config.Log, decision.Decision, operation, object)
+	// What the caller has cancelled says nothing about the office.
+	if decision.IsDecided() || !errors.Is(ctx.Err(), context.Canceled) {
+		r.tally.Keep(r.config.Log, decision.Decision, q.operation, q.object)
+	}
 	return decision
 }
 
@@ -185,30 +211,25 @@ func (r *Replica) May(ctx context.Context, session, operation, object string) bo
 	return r.Check(ctx, session, operation, object).Allowed()
 }
 
-// here returns the decision of the copy, and whether nothing else is to be tried. It is counted and reported then.
-func (r *Replica) here(revision uint64, name, operation, object string) (Decision, bool) {
-	decision, isFinal := r.decide(revision, name, operation, object)
-	if isFinal {
-		r.tally.Keep(r.config.Log, decision.Decision, operation, object)
-	}
-	return decision, isFinal
-}
-
-// decide is here without counting.
-func (r *Replica) decide(revision uint64, name, operation, object string) (Decision, bool) {
+// decide returns the decision of the copy, and whether nothing else is to be tried.
+func (r *Replica) decide(q *question) (Decision, bool) {
 	r.mu.Lock()
 	defer r.mu.Unlock()
 	now := time.Now()
-	if behind := r.behind(now, revision); behind != nil {
+	if behind := r.behind(now, q.revision); behind != nil {
 		return *behind, r.trouble == errClosed || r.trouble != nil && isNoRight(r.trouble.Reason)
 	}
-	isAllowed, err := r.office.Check(name, operation, object)
+	check := r.office.Check
+	if q.isByUser {
+		check = r.office.CheckUser
+	}
+	isAllowed, err := check(q.name, q.operation, q.object)
 	decision := Decision{Decision: decisionOf(isAllowed, err), Age: r.fresh.age(now), Number: r.number}
 	if decision.Reason == rbacclient.EndedSession {
 		return decision, false
 	}
 	// A session that has just come may get its roles only now.
-	if came, isYoung := r.young[name]; isYoung && decision.Reason == rbacclient.Denied && now.Sub(came) < young {
+	if came, isYoung := r.young[q.name]; isYoung && !q.isByUser && decision.Reason == rbacclient.Denied && now.Sub(came) < young {
 		return decision, false
 	}
 	return decision, true
@@ -249,23 +270,23 @@ func (r *Replica) behind(now time.Time, revision uint64) *Decision {
 }
 
 // later returns the decision as soon as the copy may make it, or when the time is over.
-func (r *Replica) later(ctx context.Context, revision uint64, name, operation, object string) (Decision, bool) {
+func (r *Replica) later(ctx context.Context, q *question) Decision {
 	timer := time.NewTimer(r.config.Limit)
 	defer timer.Stop()
 	for {
 		r.mu.Lock()
 		changed := r.nextChange()
 		r.mu.Unlock()
-		decision, isFinal := r.here(revision, name, operation, object)
+		decision, isFinal := r.decide(q)
 		if isFinal {
-			return decision, true
+			return decision
 		}
 		select {
 		case <-changed:
 		case <-timer.C:
-			return decision, false
+			return decision
 		case <-ctx.Done():
-			return decision, false
+			return decision
 		}
 	}
 }

@@ -8,7 +8,7 @@ declare class Buffer extends Uint8Array {
 }
 
 declare const performance: { now(): number };
-declare const console: { warn(text: string): void };
+declare const console: { warn(text: string): void; error(text: string, error: unknown): void };
 declare function setTimeout(call: () => void, milliseconds: number): { unref(): void };
 declare function clearTimeout(timer: { unref(): void } | undefined): void;
 declare class URL {
@@ -74,4 +74,15 @@ declare module "node:https" {
   import { Agent as HttpAgent, ClientRequest } from "node:http";
   export class Agent extends HttpAgent {}
   export function request(options: object): ClientRequest;
+}
+
+declare module "node:net" {
+  export function isIP(text: string): number;
+}
+
+declare module "node:tls" {
+  export interface Certificate {
+    subjectaltname?: string;
+  }
+  export function checkServerIdentity(host: string, certificate: Certificate): Error | undefined;
 }

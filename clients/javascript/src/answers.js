@@ -11,6 +11,9 @@ export const LONGEST_ANSWER = 4 * 1024 * 1024;
 export const OPENS = "POST /sessions";
 export const ENDS = "DELETE /sessions/";
 
+// The question about a user that only the front answers.
+export const BY_USER = "decideByUser";
+
 // What follows the code and the name of a refusal.
 const DETAILS = ["set", "kind", "record", "version"];
 
@@ -22,7 +25,7 @@ const UTF_8 = new TextDecoder("utf-8", { fatal: true, ignoreBOM: true });
  * @param {string} name
  */
 export function kindOf(name) {
-  return name === OPENS ? "session" : name.startsWith(ENDS) ? "done" : VALUES[name] ?? "";
+  return name === OPENS ? "session" : name === BY_USER ? "access" : name.startsWith(ENDS) ? "done" : VALUES[name] ?? "";
 }
 
 /**
@@ -61,11 +64,11 @@ export function bodyOf(name, keys) {
  */
 export function readAnswer(name, status, bytes) {
   const text = decoded(bytes);
-  if (name === "checkAccess" && status === 200 && (text === ALLOWED || text === DENIED)) {
+  const kind = kindOf(name);
+  if (kind === "access" && status === 200 && (text === ALLOWED || text === DENIED)) {
     return text === ALLOWED;
   }
   const answer = readExactly(text);
-  const kind = kindOf(name);
   if (status === 200 && answer.ok === true && Object.keys(answer).join() === (kind === "done" ? "ok" : "ok,value")) {
     if (kind === "done" || (IS_RIGHT[kind] ?? never)(answer.value)) {
       return answer.value;

@@ -1,7 +1,7 @@
 // The client: the functions as methods, decisions, and sessions.
 
-import { ENDS, bodyOf } from "./answers.js";
-import { Course } from "./course.js";
+import { BY_USER, ENDS, bodyOf } from "./answers.js";
+import { Course, now } from "./course.js";
 import { Decision, OfficeError, undecided } from "./decision.js";
 import { Functions } from "./functions.js";
 import { LogLines, shown } from "./log.js";
@@ -16,11 +16,13 @@ import { Address } from "./transport.js";
  * @property {string | (() => string)} [token] shows who asks; a text, or a function that returns the present one. The end of a line
  *   after it is ignored
  * @property {boolean} [tokenOverHttp] whether the token is sent to other machines without TLS too, over a network that encrypts by itself
- * @property {number} [timeout] how many milliseconds a call may take as a whole, with all of its attempts; 10,000 if absent
+ * @property {number} [timeout] how many milliseconds a call may take as a whole, with all of its attempts, and a check with the renewal of
+ *   its session; 10,000 if absent
  * @property {string | Uint8Array} [ca] the certificates of the authorities that are trusted instead of those of Node
  * @property {string | Uint8Array} [certificate] the client's own certificate
  * @property {string | Uint8Array} [key] the key of that certificate
- * @property {number} [pause] how many milliseconds pass before a command is sent again, each time twice as many; 100 if absent
+ * @property {number} [pause] how many milliseconds pass before a command is sent again, or a question at the same addresses, which is done
+ *   while half of the time is left; each time twice as many; 100 if absent
  * @property {boolean} [repeats] whether a command whose answer was lost is sent again, if docs/howto/integrate.md, section 3, says that it
  *   may be; true if absent
  * @property {(line: string) => void} [log] gets lines about decisions that the office hasn't made: one for each change of the reason, and
@@ -105,9 +107,23 @@ export class Client extends Functions {
   }
 
   /**
+   * Whether the user may do the operation on the object in some session, and why: for applications without sessions. The front decides;
+   * `rbac serve` can't. It is never rejected: without an answer it denies.
+   *
+   * @param {string} user
+   * @param {string} operation
+   * @param {string} object
+   * @returns {Promise<Decision>}
+   */
+  async decideByUser(user, operation, object) {
+    return this.keep(await this.#asked(BY_USER, { user, operation, object }), operation, object);
+  }
+
+  /**
    * Makes a session of the user, under a new name that nobody can guess. The front activates as many of the roles in their order, or of
    * all that the user is assigned to, as it can, and `left` of the session has the others. `rbac serve` activates exactly these roles, or
-   * refuses. With `renews` the session is made again when a decision finds that it has ended, with those of the roles that are left.
+   * refuses. With `renews` the session is made again when a decision finds that it has ended, with those of its roles that are left, and
+   * never with others.
    *
    * @param {string} user
    * @param {readonly string[]} [roles]
@@ -140,13 +156,34 @@ export class Client extends Functions {
    * @param {string} session
    * @param {string} operation
    * @param {string} object
+   * @param {number} [limit] when it has to have been made
    */
-  async decide(session, operation, object) {
+  decide(session, operation, object, limit) {
+    return this.#asked("checkAccess", { session, operation, object }, limit);
+  }
+
+  /**
+   * The decision that a question has for its answer.
+   *
+   * @param {string} name
+   * @param {Record<string, string>} keys
+   * @param {number} [limit]
+   */
+  async #asked(name, keys, limit) {
     try {
-      return new Decision((await this.checkAccess(session, operation, object)) === true ? "allowed" : "denied");
+      return new Decision((await this.call(name, keys, undefined, limit)) === true ? "allowed" : "denied");
     } catch (error) {
       return undecided(error);
     }
+  }
+
+  /**
+   * When a call that begins now has to have ended.
+   *
+   * @internal
+   */
+  limit() {
+    return now() + this.#settings.timeout;
   }
 
   /**
@@ -167,17 +204,19 @@ export class Client extends Functions {
   }
 
   /**
-   * Calls a function. `again` is the code that means that the command was done, if its answer was lost before.
+   * Calls a function. `again` is the code that means that the command was done, if its answer was lost before. `limit` is when the call
+   * has to have ended, if it is a part of something that takes longer.
    *
    * @internal
    * @param {string} name
    * @param {Record<string, unknown>} keys
    * @param {number} [again]
+   * @param {number} [limit]
    * @returns {Promise<any>}
    */
-  async call(name, keys, again) {
+  async call(name, keys, again, limit) {
     const body = bodyOf(name, keys);
-    const course = new Course(this.#settings, name, again);
+    const course = new Course(this.#settings, name, again, limit);
     for (;;) {
       try {
         const value = await this.#attempt(course, name, body);

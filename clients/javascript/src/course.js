@@ -7,16 +7,23 @@ import { OfficeError, RefusedError } from "./decision.js";
 const MOST_ATTEMPTS = 4;
 const OF_ONE_ADDRESS = ["unavailable", "unreachable", "untrusted", "unanswered", "unexpected"];
 
+// For what a question is asked again at the same addresses: a server that is restarted or too busy.
+const OF_THE_MOMENT = ["unavailable", "unreachable", "unanswered"];
+
 /** The course of one call. It ends with an answer, or with the error that `after` throws. */
 export class Course {
   /**
    * @param {{ addresses: readonly unknown[], timeout: number, pause: number, repeats: boolean, first: number }} settings
    * @param {string} name
    * @param {number | undefined} again the code that means that the command was done, if the function alone doesn't say it
+   * @param {number} limit when the call has to have ended, if it is a part of something that takes longer
    */
-  constructor(settings, name, again) {
+  constructor(settings, name, again, limit = Infinity) {
     this.settings = settings;
-    this.deadline = now() + settings.timeout;
+    const began = now();
+    this.deadline = Math.min(limit, began + settings.timeout);
+    // The latest time at which a question is asked again at the same addresses.
+    this.latest = began + (this.deadline - began) / 2;
     this.isQuestion = !["done", "import", "session"].includes(kindOf(name));
     this.again = settings.repeats ? again ?? againOf(name) : undefined;
     this.left = this.isQuestion ? settings.addresses.length : this.again === undefined ? 1 : MOST_ATTEMPTS;
@@ -66,14 +73,25 @@ export class Course {
       throw this.last(error);
     }
     this.at += 1;
-    if (this.isQuestion) {
-      this.left -= 1;
-      if (this.left === 0) {
-        throw error;
-      }
+    return this.isQuestion ? this.askedAgain(error) : this.afterCommand(error);
+  }
+
+  /**
+   * The next address at once. After the last one all of them again, after a pause, while half of the time is left.
+   *
+   * @param {OfficeError} error
+   */
+  askedAgain(error) {
+    this.left -= 1;
+    if (this.left > 0) {
       return 0;
     }
-    return this.afterCommand(error);
+    const pause = this.pause();
+    if (!OF_THE_MOMENT.includes(error.reason) || now() + pause > this.latest) {
+      throw error;
+    }
+    this.left = this.settings.addresses.length;
+    return pause;
   }
 
   /**

@@ -100,6 +100,8 @@ const REASONS = {
   64: "unavailable",
 };
 
+const NO_USER = 2;
+
 /**
  * The reasons of answers that aren't those of `rbac`, by their statuses: a proxy sends them.
  *
@@ -124,7 +126,8 @@ export function undecided(error) {
     // What other errors say isn't shown: it may have a name or a token.
     return new Decision("invalid_request", error instanceof Error ? inOneLine(error.name) : typeof error);
   }
-  // No other refusal is an answer to this question.
-  const reason = error.reason === "refused" ? "unexpected" : error.reason;
-  return new Decision(reason, error.message, error instanceof RefusedError ? error.code : 0);
+  const code = error instanceof RefusedError ? error.code : 0;
+  // No other refusal is an answer to this question, but that of a user who isn't known.
+  const reason = code === NO_USER ? "unknown_name" : error.reason === "refused" ? "unexpected" : error.reason;
+  return new Decision(reason, error.message, code);
 }

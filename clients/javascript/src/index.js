@@ -3,7 +3,7 @@
 
 export { Client } from "./client.js";
 export { Decision, OfficeError, RefusedError } from "./decision.js";
-export { guard } from "./guard.js";
+export { guard, guardByUser } from "./guard.js";
 export { Session, sessionDigest, sessionName } from "./session.js";
 
 /** @typedef {import("./client.js").Options} Options */

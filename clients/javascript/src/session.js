@@ -5,6 +5,7 @@ import { createHash, randomBytes } from "node:crypto";
 import { OPENS } from "./answers.js";
 import { now } from "./course.js";
 import { OfficeError, RefusedError, undecided } from "./decision.js";
+import { NAMES } from "./functions.js";
 
 /** A new name for a session, which nobody can guess and no other session has. */
 export function sessionName() {
@@ -26,8 +27,9 @@ export function sessionDigest(name) {
  * @typedef {{ role: string, code: number, error: string, set?: string, kind?: string }} LeftOut
  */
 
-/** What a server answers that opens no sessions, such as `rbac serve`. */
+/** What a server answers that opens no sessions, such as `rbac serve`, and what the front answers if no role is left. */
 const NO_SUCH_PATH = 35;
+const NOT_AUTHORIZED = 29;
 
 /** For how many milliseconds such a server isn't asked to open a session again. */
 const CREATES = 60_000;
@@ -74,12 +76,13 @@ export class Session {
    * Makes the session, under a new name.
    *
    * @internal
+   * @param {number} [limit] when it has to have been made
    */
-  async open() {
+  async open(limit) {
     if (now() >= this.office.createsUntil) {
       try {
         const wanted = this.#wanted === undefined ? {} : { roles: this.#wanted };
-        this.#became(await this.office.call(OPENS, { user: this.user, ...wanted }));
+        this.#became(await this.office.call(OPENS, { user: this.user, ...wanted }, undefined, limit));
         return;
       } catch (error) {
         if (!(error instanceof RefusedError) || error.code !== NO_SUCH_PATH) {
@@ -88,7 +91,7 @@ export class Session {
         this.office.createsUntil = now() + CREATES;
       }
     }
-    this.#became(await this.#created());
+    this.#became(await this.#created(limit));
   }
 
   /** @param {{ session: string, roles: string[], left: LeftOut[] }} opened */
@@ -96,17 +99,27 @@ export class Session {
     this.roles = opened.roles;
     this.left = opened.left;
     this.#name = opened.session;
+    // If it is made again it gets no role that it hasn't had.
+    this.#wanted = [...opened.roles];
   }
 
-  /** Makes the session by createSession. If the answer is lost it is sent again: nobody else has that name. */
-  async #created() {
+  /**
+   * Makes the session by createSession. If the answer is lost it is sent again: nobody else has that name.
+   *
+   * @param {number | undefined} limit
+   */
+  async #created(limit) {
     const session = sessionName();
-    let roles = this.#wanted ?? (await this.office.assignedRoles(this.user));
-    if (this.#wanted && this.#name) {
-      const left = await this.office.authorizedRoles(this.user);
-      roles = roles.filter((role) => left.includes(role));
+    const user = this.user;
+    let roles = this.#wanted ?? (await this.office.call("assignedRoles", { user }, undefined, limit));
+    if (this.#name && roles.length > 0) {
+      const authorized = await this.office.call("authorizedRoles", { user }, undefined, limit);
+      roles = roles.filter((/** @type {string} */ role) => authorized.includes(role));
+      if (roles.length === 0) {
+        throw new RefusedError(NOT_AUTHORIZED, NAMES[NOT_AUTHORIZED] ?? "", {}); // Without a role there is no session to be made again.
+      }
     }
-    await this.office.call("createSession", { user: this.user, roles, session }, 27);
+    await this.office.call("createSession", { user, roles, session }, 27, limit);
     return { session, roles, left: [] };
   }
 
@@ -131,12 +144,13 @@ export class Session {
    * @param {string} object
    */
   async check(operation, object) {
+    const limit = this.office.limit();
     const name = this.#name;
-    let decision = await this.office.decide(name, operation, object);
+    let decision = await this.office.decide(name, operation, object, limit);
     if (decision.reason === "ended_session" && this.renews) {
       try {
-        await this.#renew(name);
-        decision = await this.office.decide(this.#name, operation, object);
+        await this.#renew(name, limit);
+        decision = await this.office.decide(this.#name, operation, object, limit);
       } catch (error) {
         // A refusal to make it again leaves it ended.
         decision = error instanceof OfficeError && error.reason === "refused" ? decision : undecided(error);
@@ -159,14 +173,35 @@ export class Session {
    * Makes the session again, once for all who wait for it.
    *
    * @param {string} name
+   * @param {number} limit
    */
-  async #renew(name) {
+  async #renew(name, limit) {
     if (this.#name !== name) {
       return;
     }
-    this.#renewal ??= this.open().finally(() => {
+    this.#renewal ??= this.open(limit).finally(() => {
       this.#renewal = undefined;
     });
-    await this.#renewal;
+    await until(limit, this.#renewal);
+  }
+}
+
+/**
+ * Waits for something until a limit.
+ *
+ * @param {number} limit
+ * @param {Promise<void>} awaited
+ */
+async function until(limit, awaited) {
+  /** @type {{ unref(): void } | undefined} */
+  let timer;
+  const over = new Promise((_, reject) => {
+    const late = () => reject(new OfficeError("unanswered", "the session wasn't made again in time", true));
+    timer = setTimeout(late, Math.max(limit - now(), 0));
+  });
+  try {
+    await Promise.race([awaited, over]);
+  } finally {
+    clearTimeout(timer);
   }
 }

@@ -2,6 +2,8 @@
 
 import * as http from "node:http";
 import * as https from "node:https";
+import { isIP } from "node:net";
+import { checkServerIdentity } from "node:tls";
 
 import { LONGEST_ANSWER, readAnswer } from "./answers.js";
 import { now } from "./course.js";
@@ -10,10 +12,11 @@ import { inOneLine } from "./log.js";
 
 const LONGEST_HEAD = 16_384;
 
-// How an answer begins, in so many bytes, and the name of a field: some versions of Node read more than these.
-const START = /^HTTP\/1\.[01] \d{3} $/;
-const START_LENGTH = 13;
+// How an answer begins, and the name of a field: some versions of Node read more than these.
+const START = /^HTTP\/1\.[01] \d{3} /;
 const FIELD = /^[!#$%&'*+.^_`|~0-9A-Za-z-]+$/;
+
+const HEAD_END = "\r\n\r\n";
 
 // Statuses of answers without a body, whatever length they state.
 const WITHOUT_BODY = [204, 304];
@@ -38,7 +41,7 @@ export class Address {
     const place = url
       ? { hostname: url.hostname.replace(/^\[|\]$/g, ""), port: Number(url.port) || (this.isTls ? 443 : 80) }
       : { socketPath: text.slice(5), hostname: "localhost" };
-    this.options = { maxHeaderSize: LONGEST_HEAD, ...place, ...(this.isTls ? tls : {}) };
+    this.options = { maxHeaderSize: LONGEST_HEAD, ...place, ...(this.isTls ? { ...tls, checkServerIdentity: judged } : {}) };
     this.agent = new this.library.Agent({ keepAlive: true, maxFreeSockets: 16 });
     this.agent.on("free", closesAtData);
   }
@@ -79,6 +82,19 @@ export class Address {
   command(name, body, headers, limit) {
     return new Exchange(this, false).run(name, body, headers, limit);
   }
+}
+
+/**
+ * Whether a certificate is for a host, as all clients want it: Node takes the name of the subject if there is no other.
+ *
+ * @param {string} host
+ * @param {import("node:tls").Certificate} certificate
+ */
+function judged(host, certificate) {
+  if (isIP(host) !== 0 || /(^|, )DNS:/.test(certificate.subjectaltname ?? "")) {
+    return checkServerIdentity(host, certificate);
+  }
+  return Object.assign(new Error("the certificate has no name of a host"), { code: "ERR_TLS_CERT_ALTNAME_INVALID" });
 }
 
 /**
@@ -127,7 +143,9 @@ class Exchange {
     this.isConnected = false;
     this.isReused = false;
     this.isOver = false;
-    this.start = "";
+    this.head = "";
+    this.size = 0;
+    this.judge = (/** @type {Buffer} */ piece) => this.count(piece);
     /** @type {http.Socket | undefined} */
     this.socket = undefined;
   }
@@ -153,6 +171,7 @@ class Exchange {
       request.on("error", (error) => reject(this.failure(error)));
       request.on("close", () => {
         clearTimeout(timer);
+        this.socket?.off("data", this.judge);
         reject(this.lost("the connection was closed before the answer ended"));
       });
       request.on("response", (response) => this.receive(name, request, response, resolve, reject));
@@ -166,13 +185,7 @@ class Exchange {
    */
   connected(socket, request) {
     this.socket = socket;
-    const judge = (/** @type {Buffer} */ piece) => {
-      this.start += piece.toString("latin1", 0, START_LENGTH - this.start.length);
-      if (this.start.length === START_LENGTH) {
-        socket.off("data", judge);
-      }
-    };
-    socket.prependListener("data", judge);
+    socket.prependListener("data", this.judge);
     this.isReused = request.reusedSocket;
     const close = ON_DATA.get(socket);
     if (close) {
@@ -188,6 +201,17 @@ class Exchange {
   }
 
   /**
+   * Keeps the head of the answer, and counts all that comes.
+   *
+   * @param {Buffer} piece
+   */
+  count(piece) {
+    const end = this.head.indexOf(HEAD_END);
+    this.head += end < 0 ? piece.toString("latin1") : "";
+    this.size += piece.length;
+  }
+
+  /**
    * Reads an answer. It has to state the length of its body in exactly one way. The connection is kept only after an answer of the server.
    *
    * @param {string} name
@@ -200,7 +224,7 @@ class Exchange {
     const names = response.rawHeaders.map((text, place) => (place % 2 === 0 ? text.toLowerCase() : ""));
     const lengths = names.flatMap((name, place) => (name === "content-length" ? [response.rawHeaders[place + 1] ?? ""] : []));
     const length = lengths.length === 1 && /^\d{1,9}$/.test(lengths[0] ?? "") ? Number(lengths[0]) : LONGEST_ANSWER + 1;
-    const isHead = START.test(this.start) && names.every((name, place) => place % 2 === 1 || FIELD.test(name));
+    const isHead = START.test(this.head) && names.every((name, place) => place % 2 === 1 || FIELD.test(name));
     if (!isHead || length > LONGEST_ANSWER || names.includes("transfer-encoding") || WITHOUT_BODY.includes(response.statusCode ?? 0)) {
       reject(new OfficeError("unexpected", "the answer has a wrong head, or doesn't state its length in one way, or is too long", true));
       request.destroy();
@@ -214,6 +238,11 @@ class Exchange {
       const body = pieces.length === 1 ? /** @type {Buffer} */ (pieces[0]) : Buffer.concat(pieces);
       if (!response.complete || body.length !== length) {
         reject(this.lost("the connection was closed before the answer ended"));
+        return;
+      }
+      if (this.size !== this.head.indexOf(HEAD_END) + HEAD_END.length + length) {
+        this.socket?.destroy();
+        reject(new OfficeError("unexpected", "there is more than an answer", true));
         return;
       }
       try {

@@ -20,7 +20,7 @@ for (const { name, steps } of shared("log_lines.json")) {
 
 test("a line is one of printable ASCII", async () => {
   const lines = [];
-  const office = new Client({ addresses: "http://127.0.0.1:9", log: (line) => lines.push(line) });
+  const office = new Client({ addresses: "http://127.0.0.1:9", pause: 60_000, log: (line) => lines.push(line) });
   await office.check("s1", "open\n\u001b[31m\u2028\u0085", "safe".repeat(1_000));
   await office.check("s1", "open", "safe");
   assert.equal(lines.length, 1);

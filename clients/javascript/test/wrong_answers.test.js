@@ -25,7 +25,7 @@ function hasNoSecret(text) {
 for (const { name, answer, reset, reason } of DATA.cases) {
   test(`${name} is ${reason}`, async () => {
     const lines = [];
-    const office = new Client({ addresses: server.address, token: DATA.token, log: (line) => lines.push(line) });
+    const office = new Client({ addresses: server.address, token: DATA.token, pause: 60_000, log: (line) => lines.push(line) });
     server.answer = reset ? null : bytesOf(answer, server.port);
     server.requests = [];
     const decision = await office.check(DATA.session, "open", "safe");
@@ -47,7 +47,7 @@ for (const { name, answer, reset, reason } of DATA.cases) {
 
 test("the right answer allows", async () => {
   const lines = [];
-  const office = new Client({ addresses: server.address, token: DATA.token, log: (line) => lines.push(line) });
+  const office = new Client({ addresses: server.address, token: DATA.token, pause: 60_000, log: (line) => lines.push(line) });
   server.answer = RIGHT;
   server.requests = [];
   assert.equal((await office.check(DATA.session, "open", "safe")).allowed, true);
@@ -58,7 +58,7 @@ test("the right answer allows", async () => {
 
 for (const { name, answer, reason, keeps } of shared("connections.json")) {
   test(`a connection after ${name} is ${keeps ? "kept" : "closed"}`, async () => {
-    const office = new Client({ addresses: server.address, log: () => {} });
+    const office = new Client({ addresses: server.address, pause: 60_000, log: () => {} });
     server.keeps = true;
     server.connections = 0;
     server.answer = answer;

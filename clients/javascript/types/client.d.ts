@@ -6,11 +6,13 @@
  * @property {string | (() => string)} [token] shows who asks; a text, or a function that returns the present one. The end of a line
  *   after it is ignored
  * @property {boolean} [tokenOverHttp] whether the token is sent to other machines without TLS too, over a network that encrypts by itself
- * @property {number} [timeout] how many milliseconds a call may take as a whole, with all of its attempts; 10,000 if absent
+ * @property {number} [timeout] how many milliseconds a call may take as a whole, with all of its attempts, and a check with the renewal of
+ *   its session; 10,000 if absent
  * @property {string | Uint8Array} [ca] the certificates of the authorities that are trusted instead of those of Node
  * @property {string | Uint8Array} [certificate] the client's own certificate
  * @property {string | Uint8Array} [key] the key of that certificate
- * @property {number} [pause] how many milliseconds pass before a command is sent again, each time twice as many; 100 if absent
+ * @property {number} [pause] how many milliseconds pass before a command is sent again, or a question at the same addresses, which is done
+ *   while half of the time is left; each time twice as many; 100 if absent
  * @property {boolean} [repeats] whether a command whose answer was lost is sent again, if docs/howto/integrate.md, section 3, says that it
  *   may be; true if absent
  * @property {(line: string) => void} [log] gets lines about decisions that the office hasn't made: one for each change of the reason, and
@@ -49,9 +51,20 @@ export class Client extends Functions {
      */
     may(session: string, operation: string, object: string): Promise<boolean>;
     /**
+     * Whether the user may do the operation on the object in some session, and why: for applications without sessions. The front decides;
+     * `rbac serve` can't. It is never rejected: without an answer it denies.
+     *
+     * @param {string} user
+     * @param {string} operation
+     * @param {string} object
+     * @returns {Promise<Decision>}
+     */
+    decideByUser(user: string, operation: string, object: string): Promise<Decision>;
+    /**
      * Makes a session of the user, under a new name that nobody can guess. The front activates as many of the roles in their order, or of
      * all that the user is assigned to, as it can, and `left` of the session has the others. `rbac serve` activates exactly these roles, or
-     * refuses. With `renews` the session is made again when a decision finds that it has ended, with those of the roles that are left.
+     * refuses. With `renews` the session is made again when a decision finds that it has ended, with those of its roles that are left, and
+     * never with others.
      *
      * @param {string} user
      * @param {readonly string[]} [roles]
@@ -75,8 +88,15 @@ export class Client extends Functions {
      * @param {string} session
      * @param {string} operation
      * @param {string} object
+     * @param {number} [limit] when it has to have been made
      */
-    decide(session: string, operation: string, object: string): Promise<Decision>;
+    decide(session: string, operation: string, object: string, limit?: number | undefined): Promise<Decision>;
+    /**
+     * When a call that begins now has to have ended.
+     *
+     * @internal
+     */
+    limit(): number;
     /**
      * Counts a decision, and logs it if the office hasn't made it. The log has no names of sessions.
      *
@@ -87,15 +107,17 @@ export class Client extends Functions {
      */
     keep(decision: Decision, operation: string, object: string): Decision;
     /**
-     * Calls a function. `again` is the code that means that the command was done, if its answer was lost before.
+     * Calls a function. `again` is the code that means that the command was done, if its answer was lost before. `limit` is when the call
+     * has to have ended, if it is a part of something that takes longer.
      *
      * @internal
      * @param {string} name
      * @param {Record<string, unknown>} keys
      * @param {number} [again]
+     * @param {number} [limit]
      * @returns {Promise<any>}
      */
-    call(name: string, keys: Record<string, unknown>, again?: number | undefined): Promise<any>;
+    call(name: string, keys: Record<string, unknown>, again?: number | undefined, limit?: number | undefined): Promise<any>;
     #private;
 }
 /**
@@ -116,7 +138,8 @@ export type Options = {
      */
     tokenOverHttp?: boolean | undefined;
     /**
-     * how many milliseconds a call may take as a whole, with all of its attempts; 10,000 if absent
+     * how many milliseconds a call may take as a whole, with all of its attempts, and a check with the renewal of
+     * its session; 10,000 if absent
      */
     timeout?: number | undefined;
     /**
@@ -132,7 +155,8 @@ export type Options = {
      */
     key?: string | Uint8Array | undefined;
     /**
-     * how many milliseconds pass before a command is sent again, each time twice as many; 100 if absent
+     * how many milliseconds pass before a command is sent again, or a question at the same addresses, which is done
+     * while half of the time is left; each time twice as many; 100 if absent
      */
     pause?: number | undefined;
     /**

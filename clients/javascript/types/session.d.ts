@@ -36,8 +36,9 @@ export class Session {
      * Makes the session, under a new name.
      *
      * @internal
+     * @param {number} [limit] when it has to have been made
      */
-    open(): Promise<void>;
+    open(limit?: number | undefined): Promise<void>;
     /** Ends the session, for good. It is no error if it has ended before. */
     close(): Promise<void>;
     /**

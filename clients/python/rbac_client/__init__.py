@@ -1,7 +1,7 @@
 """A client of the role administration server `rbac` and of its front, for Python 3.9 or later.
 
 `Client` waits for its answers, and the methods of `AsyncClient` are awaited. Both have a method for each of the 51 functions of
-docs/reference/api.md, `check` and `may` for decisions, and `open_session`. `Lines` has the same over a child process `rbac replay`.
+docs/reference/api.md, `check`, `may` and `decide_by_user` for decisions, and `open_session`. `Lines` has the same over a child process `rbac replay`.
 `rbac_client.middleware` guards applications of WSGI and ASGI. docs/howto/integrate.md shows how an application uses them.
 """
 

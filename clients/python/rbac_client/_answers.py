@@ -14,7 +14,11 @@ LONGEST_ANSWER = 4 * 1024 * 1024
 
 # What only the front answers: a session that it opens, and the end of one that is known by its digest.
 OPENS, ENDS = "POST /sessions", "DELETE /sessions/"
-KINDS: Mapping[str, str] = {**VALUES, OPENS: "session", ENDS: "done"}
+
+# The question about a user that only the front answers.
+BY_USER = "decideByUser"
+
+KINDS: Mapping[str, str] = {**VALUES, OPENS: "session", ENDS: "done", BY_USER: "access"}
 AGAIN: Mapping[str, int] = {**OF_FUNCTIONS, ENDS: 26}
 
 # The further keys of refusals.
@@ -48,7 +52,7 @@ def body_of(function: str, arguments: Mapping[str, Any]) -> Optional[bytes]:
 
 def read_answer(function: str, status: Optional[int], text: bytes) -> Any:
     """The value of an answer, whose status is None for lines. Raises `Refused` for a refusal, otherwise `Unexpected`."""
-    if function == "checkAccess" and status in (None, 200) and text in (ALLOWED, DENIED):
+    if KINDS[function] == "access" and status in (None, 200) and text in (ALLOWED, DENIED):
         return text == ALLOWED
     answer = _read_exactly(text)
     if answer.get("ok") is True and answer.keys() <= {"ok", "value"} and status in (None, 200):

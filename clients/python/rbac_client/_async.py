@@ -4,10 +4,11 @@ import asyncio
 import math
 import re
 import select
-import ssl
+import time
 from typing import Any, Dict, List, Optional, Sequence, Tuple, Union
 
-from ._answers import ENDS, body_of, read_answer, target_of
+from ._answers import BY_USER, ENDS, body_of, read_answer, target_of
+from ._connecting import reason_of
 from ._course import Course, Settings, remaining
 from ._decision import Decision, Error, Reason, Refused, Unanswered, Unexpected, Unreachable
 from ._functions import AsyncFunctions
@@ -35,10 +36,25 @@ class AsyncOffice(AsyncFunctions):
         """Whether the session may do the operation on the object, and why. It raises nothing: without an answer it denies."""
         return self._decisions.keep(await self._decide(session, operation, object), operation, object)
 
-    async def _decide(self, session: str, operation: str, object: str) -> Decision:
+    async def decide_by_user(self, user: str, operation: str, object: str) -> Decision:
+        """Whether the user may do the operation on the object in some session, and why: for applications without sessions.
+
+        The front decides; `rbac serve` can't. Like `check` it raises nothing.
+        """
+        return self._decisions.keep(await self._decide_by_user(user, operation, object), operation, object)
+
+    async def _decide(self, session: str, operation: str, object: str, *, limit: Optional[float] = None) -> Decision:
         """A decision that isn't counted yet."""
+        return await self._asked("checkAccess", {"session": session, "operation": operation, "object": object}, limit)
+
+    async def _decide_by_user(self, user: str, operation: str, object: str) -> Decision:
+        """A decision about a user that isn't counted yet."""
+        return await self._asked(BY_USER, {"user": user, "operation": operation, "object": object})
+
+    async def _asked(self, function: str, arguments: Dict[str, Any], limit: Optional[float] = None) -> Decision:
+        """The decision that a question has for its answer."""
         try:
-            return decided(await self.check_access(session, operation, object))
+            return decided(await self._call(function, arguments, None, limit))
         except Exception as error:  # Whatever it is, it doesn't allow.
             return undecided(error)
 
@@ -51,7 +67,7 @@ class AsyncOffice(AsyncFunctions):
 
         The front activates as many of the roles in their order, or of all that the user is assigned to, as it can, and `left` of
         the session has the others. `rbac serve` activates exactly these roles, or refuses. With `renews` the session is made
-        again when a decision finds that it has ended, with those of the roles that are left.
+        again when a decision finds that it has ended, with those of its roles that are left, and never with others.
         """
         session = AsyncSession(self, user, roles, renews)
         await session.open()
@@ -63,7 +79,13 @@ class AsyncOffice(AsyncFunctions):
             raise ValueError("this is not the digest of a session")  # It may be the name of one.
         await self._call(ENDS, {"digest": digest})
 
-    async def _call(self, function: str, arguments: Dict[str, Any], again: Optional[int] = None) -> Any:
+    async def _call(
+        self, function: str, arguments: Dict[str, Any], again: Optional[int] = None, limit: Optional[float] = None
+    ) -> Any:
+        raise NotImplementedError
+
+    def _limit(self) -> float:
+        """When a call that begins now has to have ended."""
         raise NotImplementedError
 
 
@@ -105,9 +127,14 @@ class AsyncClient(AsyncOffice):
         for _, connection in idle:
             connection.close()
 
-    async def _call(self, function: str, arguments: Dict[str, Any], again: Optional[int] = None) -> Any:
+    def _limit(self) -> float:
+        return time.monotonic() + self._settings.timeout
+
+    async def _call(
+        self, function: str, arguments: Dict[str, Any], again: Optional[int] = None, limit: Optional[float] = None
+    ) -> Any:
         target, body = target_of(function, arguments), body_of(function, arguments)
-        course = Course(self._settings, function, again)
+        course = Course(self._settings, function, again, limit)
         while True:
             try:
                 value = await self._attempt(course, function, target, body)
@@ -170,8 +197,7 @@ class AsyncClient(AsyncOffice):
             _, connection = await asyncio.wait_for(opened, seconds)
             return connection
         except (OSError, ValueError, asyncio.TimeoutError, Unanswered) as error:
-            reason = Reason.UNTRUSTED if isinstance(error, ssl.SSLError) else Reason.UNREACHABLE
-            raise Unreachable(ascii(str(error))[1:-1] or "no connection was made in time", reason) from error
+            raise Unreachable(ascii(str(error))[1:-1] or "no connection was made in time", reason_of(error)) from error
 
     def _kept(self, address: Address) -> Optional["_Connection"]:
         """A connection to the address that is open, and on which nothing has come meanwhile."""

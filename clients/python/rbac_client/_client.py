@@ -6,11 +6,10 @@ import os
 import re
 import socket
 import ssl
-import threading
 import time
 from typing import Any, Dict, List, Optional, Sequence, Tuple, Union
 
-from ._answers import ENDS, body_of, read_answer, target_of
+from ._answers import BY_USER, ENDS, body_of, read_answer, target_of
 from ._connecting import connected
 from ._course import Course, Settings, remaining
 from ._decision import Decision, Error, Reason, Refused, Unanswered
@@ -18,6 +17,7 @@ from ._functions import Functions
 from ._http import Address, Reply, Token, request
 from ._office import Decisions, decided, undecided
 from ._following import LONGEST_SNAPSHOT, Snapshot, Watch, now, read_snapshot
+from ._locks import Lock
 from ._sessions import Session, session_name
 
 _MOST_IDLE = 16
@@ -40,10 +40,25 @@ class Office(Functions):
         """Whether the session may do the operation on the object, and why. It raises nothing: without an answer it denies."""
         return self._decisions.keep(self._decide(session, operation, object), operation, object)
 
-    def _decide(self, session: str, operation: str, object: str) -> Decision:
+    def decide_by_user(self, user: str, operation: str, object: str) -> Decision:
+        """Whether the user may do the operation on the object in some session, and why: for applications without sessions.
+
+        The front decides; `rbac serve` can't. Like `check` it raises nothing.
+        """
+        return self._decisions.keep(self._decide_by_user(user, operation, object), operation, object)
+
+    def _decide(self, session: str, operation: str, object: str, *, limit: Optional[float] = None) -> Decision:
         """A decision that isn't counted yet."""
+        return self._asked("checkAccess", {"session": session, "operation": operation, "object": object}, limit)
+
+    def _decide_by_user(self, user: str, operation: str, object: str) -> Decision:
+        """A decision about a user that isn't counted yet."""
+        return self._asked(BY_USER, {"user": user, "operation": operation, "object": object})
+
+    def _asked(self, function: str, arguments: Dict[str, Any], limit: Optional[float] = None) -> Decision:
+        """The decision that a question has for its answer."""
         try:
-            return decided(self.check_access(session, operation, object))
+            return decided(self._call(function, arguments, None, limit))
         except Exception as error:  # Whatever it is, it doesn't allow.
             return undecided(error)
 
@@ -56,7 +71,7 @@ class Office(Functions):
 
         The front activates as many of the roles in their order, or of all that the user is assigned to, as it can, and `left` of
         the session has the others. `rbac serve` activates exactly these roles, or refuses. With `renews` the session is made
-        again when a decision finds that it has ended, with those of the roles that are left.
+        again when a decision finds that it has ended, with those of its roles that are left, and never with others.
         """
         session = Session(self, user, roles, renews)
         session.open()
@@ -68,7 +83,13 @@ class Office(Functions):
             raise ValueError("this is not the digest of a session")  # It may be the name of one.
         self._call(ENDS, {"digest": digest})
 
-    def _call(self, function: str, arguments: Dict[str, Any], again: Optional[int] = None) -> Any:
+    def _call(
+        self, function: str, arguments: Dict[str, Any], again: Optional[int] = None, limit: Optional[float] = None
+    ) -> Any:
+        raise NotImplementedError
+
+    def _limit(self) -> float:
+        """When a call that begins now has to have ended."""
         raise NotImplementedError
 
 
@@ -91,17 +112,18 @@ class Client(Office):
         """`addresses`: one or more of `http://HOST:PORT`, `https://HOST:PORT` and `unix:PATH`; one answers for all.
 
         `token`: shows who asks; a text, or a function that returns the present one. The end of a line after it is ignored.
-        `timeout`: how many seconds a call may take as a whole, with all of its attempts.
+        `timeout`: how many seconds a call may take as a whole, with all of its attempts, and a check with the renewal of its session.
         `ca`: the file of the authorities that may have issued the server's certificate, instead of those of the system.
         `certificate`, `key`: the files of the client's own certificate and key.
-        `pause`: how many seconds pass before a command is sent again. Each further pause is twice as long.
+        `pause`: how many seconds pass before a command is sent again, or a question at the same addresses, which is done while half of
+        the time is left. Each further pause is twice as long.
         `repeats`: whether a command whose answer was lost is sent again, if docs/howto/integrate.md, section 3, says that it may be.
         `token_over_http`: whether the token is sent to other machines without TLS too, over a network that encrypts by itself.
         """
         super().__init__()
         self._settings = Settings.of(addresses, timeout, token, ca, certificate, key, pause, repeats, token_over_http)
         self._idle: List[Tuple[Address, socket.socket]] = []
-        self._lock, self._owner = threading.Lock(), os.getpid()
+        self._lock, self._owner = Lock(), os.getpid()
 
     def __enter__(self) -> "Client":
         return self
@@ -151,9 +173,14 @@ class Client(Office):
         for _, connection in idle:
             connection.close()
 
-    def _call(self, function: str, arguments: Dict[str, Any], again: Optional[int] = None) -> Any:
+    def _limit(self) -> float:
+        return time.monotonic() + self._settings.timeout
+
+    def _call(
+        self, function: str, arguments: Dict[str, Any], again: Optional[int] = None, limit: Optional[float] = None
+    ) -> Any:
         target, body = target_of(function, arguments), body_of(function, arguments)
-        course = Course(self._settings, function, again)
+        course = Course(self._settings, function, again, limit)
         while True:
             try:
                 value = self._attempt(course, function, target, body)
@@ -227,7 +254,7 @@ class Client(Office):
 
     def _forked(self) -> None:
         """After a fork the connections are those of the other process."""
-        self._lock, self._owner = threading.Lock(), os.getpid()
+        self._owner = os.getpid()
         self.close()
 
 

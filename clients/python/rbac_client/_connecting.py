@@ -26,8 +26,13 @@ def connected(address: Address, context: Optional[ssl.SSLContext], limit: float)
             connection.settimeout(remaining(limit))
             return context.wrap_socket(connection, server_hostname=address.host)
     except (OSError, ValueError, Unanswered) as error:
-        reason = Reason.UNTRUSTED if isinstance(error, ssl.SSLError) else Reason.UNREACHABLE
-        raise Unreachable(ascii(str(error))[1:-1], reason) from error
+        raise Unreachable(ascii(str(error))[1:-1], reason_of(error)) from error
+
+
+def reason_of(error: BaseException) -> Reason:
+    """Why there is no connection. A server that closes it amid the handshake has shown no certificate that isn't trusted."""
+    is_lost = isinstance(error, (ssl.SSLEOFError, ssl.SSLZeroReturnError))
+    return Reason.UNTRUSTED if isinstance(error, ssl.SSLError) and not is_lost else Reason.UNREACHABLE
 
 
 def _connected(address: Address, limit: float) -> socket.socket:

@@ -1,7 +1,6 @@
 """What a client was configured with, and the course of a call: which address is asked next, for how long, after which pause."""
 
 import ssl
-import threading
 import time
 from dataclasses import dataclass, field
 from typing import List, Optional, Sequence, Union
@@ -9,6 +8,7 @@ from typing import List, Optional, Sequence, Union
 from ._decision import Error, Reason, Refused, Unanswered, Unreachable
 from ._answers import AGAIN, KINDS
 from ._http import NO_TLS, Address, Token, judged
+from ._locks import Lock
 
 # How often a command is sent at most, and for what a question is asked at the next address.
 MOST_ATTEMPTS = 4
@@ -19,6 +19,9 @@ _OF_ONE_ADDRESS = (
     Reason.UNANSWERED,
     Reason.UNEXPECTED,
 )
+
+# For what a question is asked again at the same addresses: a server that is restarted or too busy.
+_OF_THE_MOMENT = (Reason.UNAVAILABLE, Reason.UNREACHABLE, Reason.UNANSWERED)
 
 
 @dataclass
@@ -33,7 +36,7 @@ class Settings:
     repeats: bool
     first: int = field(default=0)
     revision: int = field(default=0)
-    lock: threading.Lock = field(default_factory=threading.Lock, repr=False)
+    lock: Lock = field(default_factory=Lock, repr=False)
 
     @classmethod
     def of(
@@ -60,6 +63,8 @@ class Settings:
         if any(one.is_tls for one in read):
             context = ssl.create_default_context(cafile=ca)
             context.minimum_version = ssl.TLSVersion.TLSv1_2
+            # As the clients in the other languages: a name in the subject alone isn't one.
+            context.hostname_checks_common_name = False
             if certificate is not None:
                 context.load_cert_chain(certificate, key)
         return cls(read, timeout, token, context, pause, repeats)
@@ -79,10 +84,16 @@ class Settings:
 class Course:
     """The course of one call. It ends with an answer, or with the error that `after` raises."""
 
-    def __init__(self, settings: Settings, function: str, again: Optional[int] = None) -> None:
-        """`again` is the code that means that the command was done, if the function alone doesn't say it."""
+    def __init__(self, settings: Settings, function: str, again: Optional[int] = None, limit: Optional[float] = None) -> None:
+        """`again` is the code that means that the command was done, if the function alone doesn't say it.
+
+        `limit` is when the call has to have ended, if it is a part of something that takes longer.
+        """
         self._settings = settings
-        self.deadline = time.monotonic() + settings.timeout
+        began = time.monotonic()
+        self.deadline = began + settings.timeout if limit is None else min(limit, began + settings.timeout)
+        # The latest time at which a question is asked again at the same addresses.
+        self._latest = began + (self.deadline - began) / 2
         self.is_question = KINDS[function] not in ("done", "import", "session")
         self._again = AGAIN.get(function) if again is None else again
         if not settings.repeats:
@@ -121,17 +132,16 @@ class Course:
         error.may_be_done = not self.is_question and (error.may_be_done or self._lost)
         if is_refused or error.reason not in _OF_ONE_ADDRESS or time.monotonic() >= self.deadline:
             raise self._last(error)
+        self._at += 1
+        if self.is_question:
+            return self._asked_again(error)
         if isinstance(error, Unreachable):
             return self._elsewhere(error)
         self._left -= 1
-        if self._left <= 0 or (not self.is_question and error.reason is Reason.UNEXPECTED):
+        if self._left <= 0 or error.reason is Reason.UNEXPECTED:
             raise error
         self._lost = self._lost or error.may_be_done
-        self._at += 1
-        if self.is_question:
-            return 0.0
-        self._sent += 1
-        return self._pause(self._sent)
+        return self._pause()
 
     def _last(self, error: Error) -> Error:
         """What the call raises at its end: a command that was sent is unanswered, though nobody could be reached after that."""
@@ -139,24 +149,30 @@ class Course:
             return Unanswered(f"the answer was lost, and then: {error}")
         return error
 
+    def _asked_again(self, error: Error) -> float:
+        """The next address at once. After the last one all of them again, after a pause, while half of the time is left."""
+        self._left -= 1
+        if self._left > 0:
+            return 0.0
+        pause = self._pause()
+        if error.reason not in _OF_THE_MOMENT or time.monotonic() + pause > self._latest:
+            raise error
+        self._left = len(self._settings.addresses)
+        return pause
+
     def _elsewhere(self, error: Error) -> float:
         """The next address, since nothing was sent to this one. A command whose answer was lost waits for a server."""
-        self._at += 1
-        if self.is_question:
-            self._left -= 1
-            if self._left <= 0:
-                raise error
-            return 0.0
         if self._unreached > 0:
             self._unreached -= 1
             return 0.0
         if not self._lost:
             raise error
-        self._sent += 1
-        return self._pause(self._sent)
+        return self._pause()
 
-    def _pause(self, number: int) -> float:
-        seconds: float = min(self._settings.pause * 2 ** (number - 1), max(self.deadline - time.monotonic(), 0))
+    def _pause(self) -> float:
+        """The seconds of the next pause: each time twice as many."""
+        self._sent += 1
+        seconds: float = min(self._settings.pause * 2 ** (self._sent - 1), max(self.deadline - time.monotonic(), 0))
         return seconds
 
 

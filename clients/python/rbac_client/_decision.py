@@ -125,6 +125,9 @@ REASONS = {
     **dict.fromkeys([40, 41, 42, 60, 61, 64], Reason.UNAVAILABLE),
 }
 
+# Those that a decision about a user can get besides. Of a command they are refusals as others.
+_OF_USERS = {2: Reason.UNKNOWN_NAME}
+
 # The reasons of answers that aren't those of `rbac`, by their statuses: a proxy sends them.
 REASONS_OF_STATUSES = {
     **dict.fromkeys([401], Reason.UNAUTHENTICATED),
@@ -137,5 +140,5 @@ def decision_of(error: Error) -> Decision:
     """The decision if an error came instead of an answer: it denies."""
     code = error.code if isinstance(error, Refused) else None
     # No other refusal is an answer to this question.
-    reason = Reason.UNEXPECTED if error.reason is Reason.REFUSED else error.reason
+    reason = _OF_USERS.get(code or 0, Reason.UNEXPECTED) if error.reason is Reason.REFUSED else error.reason
     return Decision(reason, str(error), code)

@@ -57,6 +57,8 @@ class Event:
     line: Optional[bytes] = None
     moment: Optional[float] = None
     """If there is no line: a time by `now` before which the number was not yet written. None if the front doesn't tell."""
+    revision: Optional[int] = None
+    """If there is no line: the revision of the policy at that number. None if the front doesn't tell."""
 
 
 class Watch:
@@ -126,7 +128,8 @@ class Watch:
             raise Unexpected("no event: its type is unknown")
         elapsed = fields.get(b"elapsed")
         moment = None if elapsed is None else self.asked + _number(elapsed) / 1_000
-        return Event(_number(fields.get(b"data", b"")), None, moment)
+        revision = None if b"revision" not in fields else _number(fields[b"revision"])
+        return Event(_number(fields.get(b"data", b"")), None, moment, revision)
 
     def _line(self, longest: int) -> bytes:
         """The next line, without its end: LF, or CR LF."""

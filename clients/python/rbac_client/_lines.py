@@ -1,10 +1,10 @@
 """The client of a child process that answers lines."""
 
 import contextlib
+import math
 import os
 import socket
 import subprocess
-import threading
 import time
 from typing import Any, Dict, Optional, Sequence
 
@@ -12,6 +12,7 @@ from ._answers import LONGEST_ANSWER, read_answer, written
 from ._client import Office
 from ._course import remaining
 from ._decision import Refused, Unanswered, Unexpected, Unreachable
+from ._locks import Lock
 
 LONGEST_LINE = 65_536
 
@@ -26,7 +27,7 @@ class Lines(Office):
     def __init__(self, command: Sequence[str], timeout: float = 10.0) -> None:
         """`timeout` is how many seconds a call may take. The first one waits for the program to open the office."""
         super().__init__()
-        self.timeout, self._owner, self._lock, self._is_open = timeout, os.getpid(), threading.Lock(), True
+        self.timeout, self._owner, self._lock, self._is_open = timeout, os.getpid(), Lock(), True
         self._connection, other = socket.socketpair()
         with other:
             self._child = subprocess.Popen(command, stdin=other.fileno(), stdout=other.fileno())
@@ -47,7 +48,12 @@ class Lines(Office):
             self._child.kill()
             return self._child.wait()
 
-    def _call(self, function: str, arguments: Dict[str, Any], again: Optional[int] = None) -> Any:
+    def _limit(self) -> float:
+        return time.monotonic() + self.timeout
+
+    def _call(
+        self, function: str, arguments: Dict[str, Any], again: Optional[int] = None, limit: Optional[float] = None
+    ) -> Any:
         line = written({**arguments, "fn": function})
         if len(line) > LONGEST_LINE:
             raise ValueError(f"the line has more than {LONGEST_LINE} bytes")
@@ -55,7 +61,7 @@ class Lines(Office):
             if not self._is_open or os.getpid() != self._owner:
                 raise Unreachable("the child has ended, or is that of another process")
             try:
-                return read_answer(function, None, self._answer(line + b"\n", time.monotonic() + self.timeout))
+                return read_answer(function, None, self._answer(line + b"\n", min(limit or math.inf, self._limit())))
             except Refused:
                 raise
             except (Unanswered, Unreachable) as error:

@@ -1,12 +1,12 @@
 """What the clients share: decisions with their reasons, which are counted, and logged if the office hasn't made them."""
 
 import logging
-import threading
 import time
 from collections import Counter
 from typing import Callable, Dict, Optional
 
 from ._decision import Decision, Error, Reason, Unsendable, decision_of
+from ._locks import Lock
 
 LOGGER = logging.getLogger("rbac_client")
 
@@ -21,7 +21,7 @@ class LogLines:
     """Which lines about failures are written: each change of the reason, and otherwise one a second, which counts the others."""
 
     def __init__(self, clock: Callable[[], float] = time.monotonic) -> None:
-        self._lock, self._clock = threading.Lock(), clock
+        self._lock, self._clock = Lock(), clock
         self._reason: Optional[Reason] = None
         self._left_out = self._written = 0
         self._last = self._start = -_INTERVAL
@@ -45,7 +45,7 @@ class Decisions:
     """Counts decisions by their reasons, and logs those that the office hasn't made."""
 
     def __init__(self) -> None:
-        self._lock = threading.Lock()
+        self._lock = Lock()
         self._counts: "Counter[Reason]" = Counter()
         self._lines = LogLines()
 

@@ -1,4 +1,4 @@
-"""Guards for applications of WSGI and of ASGI: a request passes only if the session may do what it asks for."""
+"""Guards for applications of WSGI and of ASGI: a request passes only if its session, or its user, may do what it asks for."""
 
 import functools
 import inspect
@@ -50,13 +50,23 @@ class WsgiGuard:
         """`need` returns what a request needs, and `session` the name of its session, which the application keeps."""
         if _is_awaited(office):
             raise TypeError("the decisions of this office are awaited: WsgiGuard needs a Client, AsgiGuard an AsyncClient")
-        self._app, self._office, self._need, self._session = app, office, need, session
+        self._app, self._need, self._holder = app, need, session
+        self._decide: Callable[[str, str, str], Decision] = office.check
+
+    @classmethod
+    def by_user(
+        cls, app: WsgiApp, office: Office, need: Callable[[Environ], Need], user: Callable[[Environ], Optional[str]]
+    ) -> "WsgiGuard":
+        """A guard that decides by the user whom the application has authenticated, for applications without sessions."""
+        guard = cls(app, office, need, user)
+        guard._decide = office.decide_by_user
+        return guard
 
     def __call__(self, environ: Environ, start_response: StartResponse) -> Iterable[bytes]:
         need = self._need(environ)
         if need is not None:
-            name = self._session(environ)
-            decision = self._office.check(name, *need) if name else None
+            name = self._holder(environ)
+            decision = self._decide(name, *need) if name else None
             if not passes(decision):
                 status = status_of(decision)
                 start_response(f"{status} {_WORDS[status]}", list(_PLAIN))
@@ -82,14 +92,27 @@ class AsgiGuard:
     ) -> None:
         """`need` returns what a request needs, and `session` the name of its session, which the application keeps."""
         if not _is_awaited(office):
-            raise TypeError("the decisions of this office aren't awaited: AsgiGuard needs an AsyncClient, WsgiGuard a Client")
-        self._app, self._office, self._need, self._session = app, office, need, session
+            raise TypeError("the decisions of this office aren't awaited: AsgiGuard needs an AsyncClient, or an AsyncReplica")
+        self._app, self._need, self._holder = app, need, session
+        self._decide: Callable[[str, str, str], Awaitable[Decision]] = office.check
+
+    @classmethod
+    def by_user(
+        cls, app: AsgiApp, office: AsyncOffice, need: Callable[[Scope], Need], user: Callable[[Scope], Optional[str]]
+    ) -> "AsgiGuard":
+        """A guard that decides by the user whom the application has authenticated, for applications without sessions."""
+        guard = cls(app, office, need, user)
+        guard._decide = office.decide_by_user
+        return guard
 
     async def __call__(self, scope: Scope, receive: Receive, send: Send) -> None:
-        need = self._need(scope) if scope["type"] in ("http", "websocket") else None
+        kind = scope.get("type")
+        if kind not in ("http", "websocket", "lifespan"):
+            raise ValueError("a guard passes http, websocket and lifespan, and no scope of another type")
+        need = None if kind == "lifespan" else self._need(scope)
         if need is not None:
-            name = self._session(scope)
-            decision = await self._office.check(name, *need) if name else None
+            name = self._holder(scope)
+            decision = await self._decide(name, *need) if name else None
             if not passes(decision):
                 await _refuse(scope, send, status_of(decision))
                 return
@@ -114,31 +137,42 @@ class NotAllowed(Exception):
         self.decision, self.status = decision, status_of(decision)
 
 
-Result = TypeVar("Result")
+Guarded = TypeVar("Guarded", bound=Callable[..., Any])
 
 
 def needs(
     office: Union[Office, AsyncOffice], session: Callable[[], Optional[str]], operation: str, object: str
-) -> Callable[[Callable[..., Result]], Callable[..., Result]]:
+) -> Callable[[Guarded], Guarded]:
     """A decorator: the function runs only if the session may do the operation on the object. Otherwise it raises `NotAllowed`.
 
     With an `AsyncClient` the function is one to await.
     """
+    return _needing(office, office.check, session, operation, object)
 
-    def decorated(function: Callable[..., Any]) -> Callable[..., Any]:
+
+def needs_by_user(
+    office: Union[Office, AsyncOffice], user: Callable[[], Optional[str]], operation: str, object: str
+) -> Callable[[Guarded], Guarded]:
+    """The same for applications without sessions: it decides by the user whom the application has authenticated."""
+    return _needing(office, office.decide_by_user, user, operation, object)
+
+
+def _needing(
+    office: Any, decide: Callable[..., Any], holder: Callable[[], Optional[str]], operation: str, object: str
+) -> Callable[[Guarded], Guarded]:
+    def decorated(function: Any) -> Any:
         @functools.wraps(function)
         def guarded(*given: Any, **named: Any) -> Any:
-            name = session()
-            decision: Any = office.check(name, operation, object) if name else None
+            name = holder()
+            decision: Any = decide(name, operation, object) if name else None
             if not passes(decision):
                 raise NotAllowed(decision)
             return function(*given, **named)
 
         @functools.wraps(function)
         async def awaited(*given: Any, **named: Any) -> Any:
-            name = session()
-            check: Callable[..., Any] = office.check
-            decision = await check(name, operation, object) if name else None
+            name = holder()
+            decision = await decide(name, operation, object) if name else None
             if not passes(decision):
                 raise NotAllowed(decision)
             return await function(*given, **named)

@@ -4,6 +4,7 @@ It needs the module `rbac_office` with the library librbac (docs/howto/embed.md)
 needs the rights `snapshot` and `watch`, so it gets the whole policy. docs/howto/integrate.md, section 7, says when to use it.
 """
 
+import asyncio
 import enum
 import functools
 import json
@@ -15,12 +16,13 @@ import threading
 import weakref
 from collections import Counter
 from dataclasses import dataclass
-from typing import Any, Dict, NoReturn, Optional, Tuple
+from typing import Any, Callable, Dict, NamedTuple, Optional, Tuple, TypeVar
 
 import rbac_office
 
+from ._async import AsyncOffice
 from ._client import Client, Office
-from ._decision import REASONS, Decision, Error, Reason, Refused, Unexpected
+from ._decision import Decision, Error, Reason, Refused, Unexpected
 from ._following import OUTDATED, Event, Watch, now
 from ._office import LogLines, decided, undecided
 from ._rows import answer_to, office_of
@@ -34,8 +36,9 @@ _MOST_DIGESTS = 16_384
 # For how many seconds a watch is followed: until then the clocks of two machines differ by less than a millisecond or so.
 _LONGEST_WATCH = 600.0
 
-# The pauses before the front is asked again, in seconds: none at first, and each is twice the one before.
-_PAUSE, _LONGEST_PAUSE = 0.05, 1.0
+# The pauses before the front is asked again, in seconds: none at first, and each is twice the one before. The last one is that after
+# the front has refused to be followed: each attempt costs it a snapshot.
+_PAUSE, _LONGEST_PAUSE, _REFUSED_PAUSE = 0.05, 1.0, 5.0
 
 # The commands that the revision of the policy doesn't count.
 _ABOUT_SESSIONS = (b'{"fn":"createSession"', b'{"fn":"deleteSession"', b'{"fn":"addActiveRole"', b'{"fn":"dropActiveRole"')
@@ -79,15 +82,39 @@ class Status:
     detail: str
 
 
+class _Asked(NamedTuple):
+    """A question: what the front knows as its session or user, and what the copy does."""
+
+    is_by_user: bool
+    holder: str
+    name: str
+    operation: str
+    object: str
+    at_least: int
+
+
 class _Diverged(Unexpected):
     """The copy isn't that of the front any more, or may not be."""
 
 
 class _Copy:
-    """A copy of an office, with the numbers of the last command in it."""
+    """A copy of an office, with the numbers of the last command in it, and when the front was asked for it."""
 
-    def __init__(self, office: rbac_office.Office, number: int, revision: int, place: int) -> None:
-        self.office, self.number, self.revision, self.place = office, number, revision, place
+    def __init__(self, office: rbac_office.Office, number: int, revision: int, place: int, asked: float) -> None:
+        self.office, self.number, self.revision, self.place, self.asked = office, number, revision, place, asked
+        # What the revision is over several machines: the number of the last command that it counts.
+        self.last = revision
+
+    def compare(self, revision: Optional[int]) -> None:
+        """Compares the revision with that of the front, which has the same commands: one of them may have been left out."""
+        if revision is not None and revision not in (self.revision, self.last):
+            raise _Diverged(f"the policy has revision {revision}, and the copy {self.revision}")
+        self.revision = self.revision if revision is None else revision
+
+
+def _invalid(error: Exception) -> ReplicaDecision:
+    """The decision if the question can't be asked."""
+    return ReplicaDecision(Reason.INVALID_REQUEST, undecided(error).detail)
 
 
 class Replica(Office):
@@ -170,6 +197,12 @@ class Replica(Office):
         self._decisions.keep(decision, operation, object)
         return decision
 
+    def decide_by_user(self, user: str, operation: str, object: str, at_least: int = 0) -> ReplicaDecision:
+        """Whether the user may do the operation on the object in some session, and why, by which state. It raises nothing."""
+        decision = self._judged(_Asked(True, user, user, operation, object, at_least))
+        self._decisions.keep(decision, operation, object)
+        return decision
+
     def may(self, session: str, operation: str, object: str, at_least: int = 0) -> bool:
         """Whether to let the session do the operation on the object."""
         try:
@@ -193,35 +226,49 @@ class Replica(Office):
             denied, allowed = self._made
         return dict(counts + Counter({Reason.DENIED: denied, Reason.ALLOWED: allowed}))
 
-    def _decide(self, session: str, operation: str, object: str, at_least: int = 0) -> ReplicaDecision:
+    def _decide(
+        self, session: str, operation: str, object: str, at_least: int = 0, *, limit: Optional[float] = None
+    ) -> ReplicaDecision:
         try:
-            name = self._digest(session)
-            decision, is_final = self._decide_here(name, operation, object, at_least)
-            if not is_final and self._otherwise is Otherwise.WAIT:
-                decision = self._decide_later(name, operation, object, at_least)
-            if not is_final and self._otherwise is Otherwise.ASK:
-                decision = self._decide_there(session, operation, object)
-            return decision
-        except Exception as error:  # Whatever it is, it doesn't allow.
-            return ReplicaDecision(Reason.INVALID_REQUEST, undecided(error).detail)
+            asked = self._about_session(session, operation, object, at_least)
+        except Exception as error:
+            return _invalid(error)
+        return self._judged(asked, limit)
 
-    def _decide_here(self, name: str, operation: str, object: str, at_least: int) -> Tuple[ReplicaDecision, bool]:
+    def _about_session(self, session: str, operation: str, object: str, at_least: int) -> _Asked:
+        return _Asked(False, session, self._digest(session), operation, object, at_least)
+
+    def _judged(self, asked: _Asked, limit: Optional[float] = None) -> ReplicaDecision:
+        try:
+            decision, is_final = self._decide_here(asked)
+            return decision if is_final else self._decide_otherwise(asked, decision, limit)
+        except Exception as error:  # Whatever it is, it doesn't allow.
+            return _invalid(error)
+
+    def _decide_otherwise(self, asked: _Asked, decision: ReplicaDecision, limit: Optional[float]) -> ReplicaDecision:
+        """What is decided if the copy may not: it may take a while."""
+        if self._otherwise is Otherwise.WAIT:
+            return self._decide_later(asked)
+        return self._decide_there(asked, limit) if self._otherwise is Otherwise.ASK else decision
+
+    def _decide_here(self, asked: _Asked) -> Tuple[ReplicaDecision, bool]:
         """The decision of the copy, and whether nothing else is to be tried."""
         with self._lock:
-            behind = self._behind(at_least)
+            behind = self._behind(asked.at_least)
             if behind is not None:
                 return behind, self._closing.is_set() or (self._trouble is not None and self._trouble.reason in _NO_RIGHT)
             copy, age = self._copy, now() - self._fresh
             assert copy is not None
             try:
-                is_allowed = copy.office.check(name, operation, object)
+                decides = copy.office.check_user if asked.is_by_user else copy.office.check
+                is_allowed = decides(asked.name, asked.operation, asked.object)
             except rbac_office.Refused as error:
-                reason = REASONS.get(error.code, Reason.UNEXPECTED)
-                detail = f"{error.code} {error.name}"
-                return ReplicaDecision(reason, detail, error.code, age, copy.number), reason is not Reason.ENDED_SESSION
+                found = undecided(Refused(error.code, error.name, {}))
+                is_final = found.reason is not Reason.ENDED_SESSION
+                return ReplicaDecision(found.reason, found.detail, found.code, age, copy.number), is_final
             number = copy.number
             # A session that has just come may get its roles only now.
-            is_young = not is_allowed and now() - self._young.get(name, -math.inf) < _YOUNG
+            is_young = not (is_allowed or asked.is_by_user) and now() - self._young.get(asked.name, -math.inf) < _YOUNG
         return ReplicaDecision(Reason.ALLOWED if is_allowed else Reason.DENIED, "", None, age, number), not is_young
 
     def _behind(self, at_least: int) -> Optional[ReplicaDecision]:
@@ -237,11 +284,11 @@ class Replica(Office):
             return ReplicaDecision(Reason.UNAVAILABLE, detail, None, age, copy.number)
         return None
 
-    def _decide_later(self, name: str, operation: str, object: str, at_least: int) -> ReplicaDecision:
+    def _decide_later(self, asked: _Asked) -> ReplicaDecision:
         """The decision as soon as the copy may make it, or when the time is over."""
         limit = now() + self._wait
         while True:
-            decision, is_final = self._decide_here(name, operation, object, at_least)
+            decision, is_final = self._decide_here(asked)
             left = limit - now()
             if is_final or left <= 0:
                 return decision
@@ -249,14 +296,22 @@ class Replica(Office):
                 if self._copy is None or self._copy.number == decision.number:
                     self._changed.wait(min(left, 0.1))
 
-    def _decide_there(self, session: str, operation: str, object: str) -> ReplicaDecision:
+    def _decide_there(self, asked: _Asked, limit: Optional[float]) -> ReplicaDecision:
         """The decision of the front."""
-        asked = now()
-        found = self._client._decide(session, operation, object)
-        return ReplicaDecision(found.reason, found.detail, found.code, now() - asked, 0)
+        began = now()
+        if asked.is_by_user:
+            found = self._client._decide_by_user(asked.holder, asked.operation, asked.object)
+        else:
+            found = self._client._decide(asked.holder, asked.operation, asked.object, limit=limit)
+        return ReplicaDecision(found.reason, found.detail, found.code, now() - began, 0)
 
-    def _call(self, function: str, arguments: Dict[str, Any], again: Optional[int] = None) -> Any:
-        return self._client._call(function, arguments, again)
+    def _call(
+        self, function: str, arguments: Dict[str, Any], again: Optional[int] = None, limit: Optional[float] = None
+    ) -> Any:
+        return self._client._call(function, arguments, again, limit)
+
+    def _limit(self) -> float:
+        return self._client._limit()
 
     # The thread that follows the front.
 
@@ -277,6 +332,8 @@ class Replica(Office):
 
     def _pause(self) -> float:
         """How long to wait before the next attempt: longer after each that failed."""
+        if self._trouble is not None and self._trouble.reason in _NO_RIGHT:
+            return _REFUSED_PAUSE * random.uniform(0.5, 1.0)
         longest = min(_PAUSE * 2.0 ** min(self._failures - 2, 9), _LONGEST_PAUSE)
         return 0.0 if self._failures < 2 else longest * random.uniform(0.5, 1.0)
 
@@ -298,12 +355,12 @@ class Replica(Office):
             self._trouble = error
 
     def _load(self, place: int) -> None:
-        """Makes the copy by a snapshot of the front."""
+        """Makes the copy by a snapshot of the front. It doesn't decide before the front lets it be followed."""
         snapshot = self._client.snapshot(place)
-        made = _Copy(office_of(snapshot.lines), snapshot.number, snapshot.revision, place)
+        made = _Copy(office_of(snapshot.lines), snapshot.number, snapshot.revision, place, snapshot.asked)
         with self._changed:
             if not self._closing.is_set():
-                self._copy, self._fresh = made, snapshot.asked
+                self._copy = made
                 self._client._settings.saw(snapshot.revision)
                 self._young.clear()
                 for line in snapshot.lines:
@@ -315,8 +372,11 @@ class Replica(Office):
         if self._copy is None:
             return
         watch = self._client.watch(self._copy.number, place, self._silence)
-        with self._lock:
+        with self._changed:
             self._watch = watch
+            if self._copy is not None:
+                self._fresh = max(self._fresh, self._copy.asked)
+            self._changed.notify_all()
         if self._closing.is_set():
             watch.close()
         for event in watch:
@@ -336,6 +396,7 @@ class Replica(Office):
             moment = asked if event.moment is None else min(event.moment, now())
             if event.number < self._copy.number:
                 raise _Diverged(f"the newest number is {event.number}, and the copy has {self._copy.number}")
+            self._copy.compare(event.revision)
             # All commands up to that number were sent. On several machines those that were refused have numbers too.
             self._copy.number = event.number
             self._is_fresh(moment)
@@ -362,7 +423,8 @@ class Replica(Office):
                 self._copy, self._fresh = None, -math.inf
                 raise _Diverged(str(error) if isinstance(error, Unexpected) else type(error).__name__) from None
             copy.number = event.number
-            copy.revision += not line.startswith(_ABOUT_SESSIONS)
+            if not line.startswith(_ABOUT_SESSIONS):
+                copy.revision, copy.last = copy.revision + 1, event.number
             self._note_session(line)
             self._changed.notify_all()
 
@@ -391,6 +453,87 @@ class Replica(Office):
         self._changed = threading.Condition(self._lock)
         self._copy, self._fresh, self._watch = None, -math.inf, None
         self._trouble = Unexpected("the replica was made before this process was forked", Reason.UNAVAILABLE)
+
+
+Result = TypeVar("Result")
+
+
+class AsyncReplica(AsyncOffice):
+    """A replica for an application of asyncio, such as one behind `AsgiGuard`: the methods of `Replica`, to await.
+
+    The copy decides at once. What has to wait, or to ask the front, is done by a thread of the loop's executor.
+    """
+
+    def __init__(self, client: Client, **settings: Any) -> None:
+        """The parameters are those of `Replica`, and `client` is a `Client`: a thread asks."""
+        super().__init__()
+        self._replica = Replica(client, **settings)
+
+    async def __aenter__(self) -> "AsyncReplica":
+        return self
+
+    async def __aexit__(self, *_: object) -> None:
+        await self.close()
+
+    async def close(self) -> None:
+        """Ends the replica. It denies then. The client stays open."""
+        await self._elsewhere(self._replica.close)
+
+    async def ready(self, timeout: float = 10.0) -> bool:
+        """Waits until the copy may decide, and returns whether it may."""
+        return await self._elsewhere(self._replica.ready, timeout)
+
+    @property
+    def status(self) -> Status:
+        """How the copy is at the moment."""
+        return self._replica.status
+
+    async def check(self, session: str, operation: str, object: str, at_least: int = 0) -> ReplicaDecision:
+        """Whether the session may do the operation on the object, and why, by which state. It raises nothing."""
+        decision = await self._decide(session, operation, object, at_least)
+        self._decisions.keep(decision, operation, object)
+        return decision
+
+    async def may(self, session: str, operation: str, object: str, at_least: int = 0) -> bool:
+        """Whether to let the session do the operation on the object."""
+        return (await self.check(session, operation, object, at_least)).allowed
+
+    async def decide_by_user(self, user: str, operation: str, object: str, at_least: int = 0) -> ReplicaDecision:
+        """Whether the user may do the operation on the object in some session, and why, by which state. It raises nothing."""
+        decision = await self._judged(_Asked(True, user, user, operation, object, at_least))
+        self._decisions.keep(decision, operation, object)
+        return decision
+
+    async def _decide(
+        self, session: str, operation: str, object: str, at_least: int = 0, *, limit: Optional[float] = None
+    ) -> ReplicaDecision:
+        try:
+            asked = self._replica._about_session(session, operation, object, at_least)
+        except Exception as error:
+            return _invalid(error)
+        return await self._judged(asked, limit)
+
+    async def _judged(self, asked: _Asked, limit: Optional[float] = None) -> ReplicaDecision:
+        replica = self._replica
+        try:
+            decision, is_final = replica._decide_here(asked)
+            if is_final or replica._otherwise is Otherwise.DENY:
+                return decision
+            return await self._elsewhere(replica._decide_otherwise, asked, decision, limit)
+        except Exception as error:  # Whatever it is, it doesn't allow.
+            return _invalid(error)
+
+    async def _call(
+        self, function: str, arguments: Dict[str, Any], again: Optional[int] = None, limit: Optional[float] = None
+    ) -> Any:
+        return await self._elsewhere(self._replica._call, function, arguments, again, limit)
+
+    def _limit(self) -> float:
+        return self._replica._limit()
+
+    async def _elsewhere(self, call: Callable[..., Result], *given: Any) -> Result:
+        """What a thread returns that may wait."""
+        return await asyncio.get_running_loop().run_in_executor(None, call, *given)
 
 
 # The replicas of this process, and the copies that a forked process has left alone.

@@ -2,7 +2,7 @@
 
 import json
 import sys
-from collections.abc import Callable, Iterable
+from collections.abc import Iterable, Sequence
 from pathlib import Path
 
 from rbac_client._values import session_digest
@@ -13,11 +13,11 @@ from .mistakes import Mistake
 from .model import SET_FUNCTIONS, Command, Stop, listed, sentence, shown
 from .planning import Plan, make_plan
 from .reading import Policy
-from .target import Broken, Target, refusal_text
+from .target import Broken, Judge, Target, refusal_text
 from .validating import reasons
 
 # How many lines of a kind are shown unless all are wanted.
-_MOST_SHOWN = 40
+MOST_SHOWN = 40
 
 
 def plan_for(policy: Policy, target: Target) -> tuple[Plan, Effects]:
@@ -63,7 +63,7 @@ def show_lines(title: str, lines: Iterable[str], is_whole: bool) -> None:
     found = list(lines)
     if not found:
         return
-    most = len(found) if is_whole else _MOST_SHOWN
+    most = len(found) if is_whole else MOST_SHOWN
     print(title)
     for line in found[:most]:
         print(f"  {line}")
@@ -141,15 +141,22 @@ def do(plan: Plan, target: Target) -> int:
         print(f"refused: {refused[0]}", file=sys.stderr)
     if broken is not None:
         print(f"{broken}{_may_be_done(broken)}", file=sys.stderr)
-    print(f"{done:,} changes are done, and {left:,} are left. The same command line does the rest.", file=sys.stderr)
+    print(f"{done:,} changes are done, and {left:,} are left. {rest_of(broken)}", file=sys.stderr)
     return 1
 
 
-def run(target: Target, commands: list[Command], judge: Callable[[Command, dict[str, object] | None], bool]) -> Broken | None:
+def rest_of(broken: Broken | None) -> str:
+    """What does the rest, after something has ended the changes."""
+    if broken is not None and broken.is_denied:
+        return "The same command line is refused again, until the front allows what it refuses."
+    return "The same command line does the rest."
+
+
+def run(target: Target, commands: list[Command], judge: Judge, starts: Sequence[int] = ()) -> Broken | None:
     """Does commands, and returns why the office doesn't answer any more, or None."""
     try:
         if commands:
-            target.apply(commands, judge)
+            target.apply(commands, judge, starts)
     except Broken as broken:
         return broken
     return None

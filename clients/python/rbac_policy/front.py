@@ -4,6 +4,7 @@ import http.client
 import json
 import socket
 import ssl
+from bisect import bisect_right
 from collections.abc import Iterator, Sequence
 from dataclasses import dataclass
 
@@ -15,6 +16,9 @@ from .target import Broken, Judge, refusal_of
 # How many rows the front answers at once, how many commands it does at once, and how often lists are read anew if others write.
 _MOST_ROWS, _MOST_COMMANDS, _MOST_READS = 1_000, 100, 5
 _MOST_BYTES = 2_000_000
+
+# The statuses below 500 after which the same request may be accepted.
+_PASSING = (408, 412, 429)
 
 _LISTS = {
     "users": ("",),
@@ -128,10 +132,10 @@ class Front:
                 return _state(found)
         raise Stop("others change the policy all the time: try again later")
 
-    def apply(self, commands: Sequence[Command], judge: Judge) -> None:
+    def apply(self, commands: Sequence[Command], judge: Judge, starts: Sequence[int] = ()) -> None:
         done = 0
         while done < len(commands):
-            batch = _batch_of(commands[done : done + _MOST_COMMANDS])
+            batch = _batch_of(commands[done : done + _end_of(starts, done, len(commands))])
             is_end = batch[0]["fn"] == "deleteSession"
             answers = [self._end_session(batch[0])] if is_end else self._batch(batch)
             if not answers or len(answers) < len(batch) and "code" not in answers[-1]:
@@ -188,7 +192,8 @@ class Front:
             raise Broken("somebody else has changed the policy meanwhile")
         if status != 200:
             # Whatever isn't an answer of the office may have been done, but for what refuses the request as a whole.
-            raise Broken(f"the front refuses: {_failure(status, head, text)}", 0 if status < 500 else len(commands))
+            is_denied = 400 <= status < 500 and status not in _PASSING
+            raise Broken(f"the front refuses: {_failure(status, head, text)}", 0 if status < 500 else len(commands), is_denied)
         self._revision = head.get("Policy-Revision") or "0"
         return [json.loads(line) for line in text.splitlines()]
 
@@ -199,8 +204,17 @@ class Front:
         except (OSError, http.client.HTTPException) as error:
             raise Broken(f"the front does not answer: {error or type(error).__name__}", 1) from None
         if status not in (200, 409):
-            raise Broken(f"the front refuses to end a session: {_failure(status, head, text)}")
+            is_denied = 400 <= status < 500 and status not in _PASSING
+            raise Broken(f"the front refuses to end a session: {_failure(status, head, text)}", is_denied=is_denied)
         return refusal_of(text)
+
+
+def _end_of(starts: Sequence[int], done: int, count: int) -> int:
+    """How many of `count` commands, of which some are done, come next: as many as the front does at once, up to where some begin."""
+    if count - done <= _MOST_COMMANDS:
+        return count - done
+    last = starts[bisect_right(starts, done + _MOST_COMMANDS) - 1] if starts else 0
+    return last - done if last > done else _MOST_COMMANDS
 
 
 def _batch_of(commands: Sequence[Command]) -> Sequence[Command]:

@@ -24,7 +24,11 @@ class InFile:
         self._digest = self._now()
         return state
 
-    def apply(self, commands: Sequence[Command], judge: Judge) -> None:
+    def apply(self, commands: Sequence[Command], judge: Judge, starts: Sequence[int] = ()) -> None:
+        self._do(commands, judge)
+        self._digest = self._now()
+
+    def _do(self, commands: Sequence[Command], judge: Judge) -> None:
         with Replay(self._path) as office:
             try:
                 # After its first answer the child has the file to itself.

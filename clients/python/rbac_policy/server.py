@@ -23,7 +23,7 @@ class Server:
         self._compare(state)
         return state
 
-    def apply(self, commands: Sequence[Command], judge: Judge) -> None:
+    def apply(self, commands: Sequence[Command], judge: Judge, starts: Sequence[int] = ()) -> None:
         for command in commands:
             arguments = {key: value for key, value in command.items() if key != "fn"}
             try:

@@ -4,7 +4,7 @@ from collections.abc import Callable, Iterator
 
 from .model import LIMITS, SET_FUNCTIONS, Command, DutySet, shown
 
-# What the free names begin with. A crash may leave such a set, which the next plan deletes like any other that isn't wanted.
+# The prefix of temporary sets. A crash may leave one; the next plan deletes it, like any set that isn't wanted.
 _FREE = "rbac-policy "
 
 # How many sets of a sort there may be.

@@ -17,7 +17,8 @@ def test_watch(server, case):
     found = []
     with pytest.raises(rbac_client.Error) as raised:
         for event in watch:
-            found.append([event.number, None if event.line is None else event.line.decode()])
+            line = None if event.line is None else event.line.decode()
+            found.append([event.number, line] + ([] if event.revision is None else [event.revision]))
     assert found == case.get("events", [])
     # After its events the watch ends, since the connection does.
     assert raised.type is (rbac_client.Unanswered if "events" in case else rbac_client.Unexpected)

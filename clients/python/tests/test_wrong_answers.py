@@ -20,7 +20,7 @@ def is_harmless(text):
 
 @pytest.fixture
 def office(server, made):
-    return made(server.address, token=DATA["token"], pause=0.001)
+    return made(server.address, token=DATA["token"], pause=60)
 
 
 @pytest.mark.parametrize("case", DATA["cases"], ids=[case["name"][:50] for case in DATA["cases"]])
@@ -51,7 +51,7 @@ CONNECTIONS = shared("connections.json")
 @pytest.mark.parametrize("case", CONNECTIONS, ids=[case["name"] for case in CONNECTIONS])
 def test_connection_is_kept(server, made, case):
     """clients/conformance/connections.json."""
-    office = made(server.address)
+    office = made(server.address, pause=60)
     server.keeps, server.answer = True, case["answer"].encode()
     assert office.check("s1", "open", "safe").reason.value == case["reason"]
     server.answer = RIGHT

@@ -15,9 +15,12 @@ import java.time.Duration;
 import java.util.ArrayList;
 import java.util.Arrays;
 import java.util.Base64;
+import java.util.Collections;
 import java.util.LinkedHashMap;
 import java.util.List;
 import java.util.Map;
+import java.util.concurrent.Callable;
+import java.util.concurrent.Executors;
 import java.util.stream.Collectors;
 import javax.net.ssl.KeyManager;
 import javax.net.ssl.KeyManagerFactory;
@@ -61,15 +64,17 @@ public final class Driver {
                 return call((String) line.get("function"), object(line.get("arguments")));
             case "check":
                 return shown(client.check(text(line, "session"), text(line, "operation"), text(line, "object")));
+            case "decide":
+                return shown(client.decideByUser(text(line, "user"), text(line, "operation"), text(line, "object")));
             case "login":
                 return result(() -> {
                     var user = text(line, "user");
+                    var isRenewed = line.get("renews").equals(true);
                     if (line.get("roles") == null) {
-                        session = client.openSession(user);
+                        session = isRenewed ? client.openRenewedSession(user) : client.openSession(user);
                         return session.name();
                     }
                     var roles = texts(line.get("roles"));
-                    var isRenewed = line.get("renews").equals(true);
                     session = isRenewed ? client.openRenewedSession(user, roles) : client.openSession(user, roles);
                     return session.name();
                 });
@@ -89,6 +94,8 @@ public final class Driver {
                 var found = shown(session.check(text(line, "operation"), text(line, "object")));
                 found.put("name", session.name());
                 return found;
+            case "asks":
+                return asks(text(line, "operation"), text(line, "object"), ((Double) line.get("times")).intValue());
             case "logout":
                 return result(() -> {
                     session.close();
@@ -98,6 +105,21 @@ public final class Driver {
                 var counts = new LinkedHashMap<String, Object>();
                 client.counts().forEach((reason, count) -> counts.put(reason.toString(), count));
                 return counts;
+        }
+    }
+
+    /** The reasons of decisions at once. */
+    private Map<String, Object> asks(String operation, String object, int times) throws Exception {
+        var threads = Executors.newFixedThreadPool(times);
+        try {
+            Callable<String> asking = () -> session.check(operation, object).reason().toString();
+            var reasons = new ArrayList<String>();
+            for (var one : threads.invokeAll(Collections.nCopies(times, asking))) {
+                reasons.add(one.get());
+            }
+            return Map.of("reasons", reasons);
+        } finally {
+            threads.shutdown();
         }
     }
 

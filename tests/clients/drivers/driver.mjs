@@ -58,6 +58,7 @@ const DOING = {
   open,
   call: (line) => result(() => client[line.function](...keys[line.function].map((key) => line.arguments[key]))),
   check: async ({ session, operation, object }) => shown(await client.check(session, operation, object)),
+  decide: async ({ user, operation, object }) => shown(await client.decideByUser(user, operation, object)),
   login: ({ user, roles, renews }) =>
     result(async () => {
       session = await client.openSession(user, roles ?? undefined, { renews });
@@ -69,6 +70,10 @@ const DOING = {
   }),
   end: ({ digest }) => result(() => client.endSession(digest ?? sessionDigest(session.name))),
   ask: async ({ operation, object }) => ({ ...shown(await session.check(operation, object)), name: session.name }),
+  asks: async ({ operation, object, times }) => {
+    const found = await Promise.all(Array.from({ length: times }, () => session.check(operation, object)));
+    return { reasons: found.map((one) => one.reason) };
+  },
   logout: () => result(() => session.close()),
   counts: () => Object.fromEntries(client.counts),
 };

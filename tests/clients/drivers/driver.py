@@ -11,6 +11,7 @@ import json
 import logging
 import re
 import sys
+from concurrent.futures import ThreadPoolExecutor
 
 import rbac_client
 
@@ -29,6 +30,8 @@ class Driver:
             return await self.call(**given)
         if do == "check":
             return shown(await awaited(self.client.check(**given)))
+        if do == "decide":
+            return shown(await awaited(self.client.decide_by_user(**given)))
         if do == "login":
             return await self.result(self.login, given)
         if do == "logout":
@@ -41,6 +44,8 @@ class Driver:
             return await self.result(self.client.end_session, {"digest": digest})
         if do == "ask":
             return {**shown(await awaited(self.session.check(**given))), "name": self.session.name}
+        if do == "asks":
+            return {"reasons": await self.asks(**given)}
         return {reason.value: count for reason, count in self.client.counts.items()}
 
     def open(self, addresses, **settings):
@@ -54,6 +59,15 @@ class Driver:
     async def login(self, **given):
         self.session = await awaited(self.client.open_session(**given))
         return self.session.name
+
+    async def asks(self, times, **given):
+        """The reasons of decisions of the session at once: in threads, or in tasks."""
+        if self.kind is rbac_client.AsyncClient:
+            found = await asyncio.gather(*(self.session.check(**given) for _ in range(times)))
+        else:
+            with ThreadPoolExecutor(times) as threads:
+                found = list(threads.map(lambda _: self.session.check(**given), range(times)))
+        return [one.reason.value for one in found]
 
     async def call(self, function, arguments):
         """Calls the method of a function."""

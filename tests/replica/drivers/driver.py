@@ -1,5 +1,6 @@
 """Does with the replica in Python what each line of its input says, and prints what came of it. replica/driving.py has the lines."""
 
+import asyncio
 import itertools
 import json
 import logging
@@ -8,7 +9,8 @@ import threading
 import time
 
 import rbac_client
-from rbac_client.replica import Otherwise, Replica
+from rbac_client.middleware import AsgiGuard
+from rbac_client.replica import AsyncReplica, Otherwise, Replica
 
 
 class Driver:
@@ -19,7 +21,8 @@ class Driver:
 
     def open(self, addresses, token, oldest, otherwise, limit, silence, ca):
         self.client = rbac_client.Client(addresses, token=token or None, ca=ca or None)
-        self.replica = Replica(self.client, oldest=oldest, otherwise=Otherwise(otherwise), wait=limit, silence=silence)
+        self.settings = {"oldest": oldest, "otherwise": Otherwise(otherwise), "wait": limit, "silence": silence}
+        self.replica = Replica(self.client, **self.settings)
         return {}
 
     def ready(self, seconds):
@@ -33,6 +36,31 @@ class Driver:
                 raise ValueError("may and check differ")
         age = min(made.age, 1e9)
         return {"allowed": bool(made), "reason": made.reason.value, "code": made.code or 0, "age": age, "number": made.number}
+
+    def user(self, user, operation, object):
+        made = self.replica.decide_by_user(user, operation, object)
+        return {"allowed": bool(made), "reason": made.reason.value, "number": made.number}
+
+    def guarded(self, asked, by_user):
+        return {"statuses": asyncio.run(self.statuses(asked, AsgiGuard.by_user if by_user else AsgiGuard))}
+
+    async def statuses(self, asked, guard):
+        """The statuses of requests, and at the end how many decisions were counted. The loop goes on while it waits."""
+        found = []
+
+        async def application(scope, receive, send):
+            await send({"type": "http.response.start", "status": 200})
+
+        async def send(message):
+            if "status" in message:
+                found.append(message["status"])
+
+        async with AsyncReplica(self.client, **self.settings) as replica:
+            await replica.ready(60 if self.settings["oldest"] > 1 else 0.1)
+            app = guard(application, replica, lambda scope: scope["need"], lambda scope: scope["holder"])
+            for holder, *need in asked:
+                await app({"type": "http", "holder": holder, "need": need}, None, send)
+            return [*found, sum(replica.counts.values())]
 
     def status(self):
         status = self.replica.status

@@ -13,6 +13,7 @@ import (
 	"os"
 	"reflect"
 	"strings"
+	"sync"
 	"time"
 
 	"rbac/clients/go/rbacclient"
@@ -29,6 +30,7 @@ type line struct {
 	User                        string
 	Roles                       []string
 	Renews                      bool
+	Times                       int
 	Repeats                     *bool
 	Function                    string
 	Arguments                   map[string]interface{}
@@ -61,6 +63,8 @@ func (d *driver) do(l line) (answer, error) {
 		return d.call(ctx, l)
 	case "check":
 		return shown(d.client.Check(ctx, l.Session, l.Operation, l.Object)), nil
+	case "decide":
+		return shown(d.client.DecideByUser(ctx, l.User, l.Operation, l.Object)), nil
 	case "login":
 		session, err := d.client.OpenSession(ctx, rbacclient.SessionConfig{User: l.User, Roles: l.Roles, Renew: l.Renews})
 		if err != nil {
@@ -95,12 +99,29 @@ func (d *driver) do(l line) (answer, error) {
 		found := shown(d.session.Check(ctx, l.Operation, l.Object))
 		found["name"] = d.session.Name()
 		return found, nil
+	case "asks":
+		return answer{"reasons": d.asks(ctx, l)}, nil
 	}
 	found := answer{}
 	for reason, count := range d.client.Counts() {
 		found[string(reason)] = count
 	}
 	return found, nil
+}
+
+// asks returns the reasons of decisions at once.
+func (d *driver) asks(ctx context.Context, l line) []rbacclient.Reason {
+	reasons := make([]rbacclient.Reason, l.Times)
+	var all sync.WaitGroup
+	for i := range reasons {
+		all.Add(1)
+		go func(i int) {
+			defer all.Done()
+			reasons[i] = d.session.Check(ctx, l.Operation, l.Object).Reason
+		}(i)
+	}
+	all.Wait()
+	return reasons
 }
 
 // config is that of the client.

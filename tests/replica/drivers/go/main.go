@@ -67,6 +67,9 @@ func (d *driver) do(r request) (answer, error) {
 	case "check":
 		made := d.replica.CheckAt(ctx, r.AtLeast, r.Session, r.Operation, r.Object)
 		return answer{"allowed": made.Allowed(), "reason": made.Reason, "code": made.Code, "age": age(made.Age), "number": made.Number}, nil
+	case "user":
+		made := d.replica.DecideByUserAt(ctx, 0, r.User, r.Operation, r.Object)
+		return answer{"allowed": made.Allowed(), "reason": made.Reason, "number": made.Number}, nil
 	case "status":
 		return d.status(), nil
 	case "call":

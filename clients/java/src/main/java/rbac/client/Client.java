@@ -104,13 +104,16 @@ public final class Client extends Functions implements AutoCloseable {
             return this;
         }
 
-        /** Limits a call as a whole, with all of its attempts. */
+        /** Limits a call as a whole, with all of its attempts, and a check with the renewal of its session. */
         public Builder timeout(Duration given) {
             timeout = given;
             return this;
         }
 
-        /** Passes before a command is sent again. Each further pause is twice as long. */
+        /**
+         * Passes before a command is sent again, or a question at the same addresses, which is done while half of the time is left. Each
+         * further pause is twice as long.
+         */
         public Builder pause(Duration given) {
             pause = given;
             return this;
@@ -148,7 +151,16 @@ public final class Client extends Functions implements AutoCloseable {
 
     /** Whether the session may do the operation on the object, and why. It throws nothing: without an answer it denies. */
     public Decision check(String session, String operation, String object) {
-        return keep(decide(session, operation, object), operation, object);
+        return keep(decide(session, operation, object, limit()), operation, object);
+    }
+
+    /**
+     * Whether the user may do the operation on the object in some session, and why: for applications without sessions. The front decides;
+     * {@code rbac serve} can't. It throws nothing: without an answer it denies.
+     */
+    public Decision decideByUser(String user, String operation, String object) {
+        var keys = Functions.keys("user", user, "operation", operation, "object", object);
+        return keep(asked("decideByUser", keys, limit()), operation, object);
     }
 
     /** Whether to let the session do the operation on the object. */
@@ -170,10 +182,16 @@ public final class Client extends Functions implements AutoCloseable {
     }
 
     /**
-     * Makes such a session. It is made again when a decision finds that it has ended, with those of the roles that are left.
+     * Makes such a session. It is made again when a decision finds that it has ended, with those of its roles that are left, and never
+     * with others.
      */
     public Session openRenewedSession(String user, Collection<String> roles) {
         return Session.opened(this, user, roles, true);
+    }
+
+    /** Makes such a session with all roles that the user is assigned to at first. */
+    public Session openRenewedSession(String user) {
+        return Session.opened(this, user, null, true);
     }
 
     /** Ends the session that has this digest, as lists and records of the front show it. */
@@ -181,7 +199,7 @@ public final class Client extends Functions implements AutoCloseable {
         if (!digest.matches("[0-9a-f]{32}")) {
             throw new IllegalArgumentException("this is not the digest of a session");
         }
-        call("DELETE /sessions/" + digest, Functions.keys(), Reader.DONE, 26);
+        call("DELETE /sessions/" + digest, Functions.keys(), Reader.DONE, 26, limit());
     }
 
     /** Closes the connections that are kept. A further call opens a new one. */
@@ -197,10 +215,15 @@ public final class Client extends Functions implements AutoCloseable {
         }
     }
 
-    /** A decision that isn't counted yet. Whatever goes wrong, it doesn't allow. */
-    Decision decide(String session, String operation, String object) {
+    /** A decision that isn't counted yet, made until a limit. */
+    Decision decide(String session, String operation, String object, long limit) {
+        return asked("checkAccess", Functions.keys("session", session, "operation", operation, "object", object), limit);
+    }
+
+    /** The decision that a question has for its answer. Whatever goes wrong, it doesn't allow. */
+    private Decision asked(String function, Map<String, Object> keys, long limit) {
         try {
-            return Decision.of(checkAccess(session, operation, object));
+            return Decision.of(call(function, keys, Reader.ACCESS, null, limit));
         } catch (RuntimeException error) {
             return Decision.undecided(error);
         }
@@ -221,16 +244,21 @@ public final class Client extends Functions implements AutoCloseable {
 
     @Override
     <T> T call(String function, Map<String, Object> keys, Reader<T> reader) {
-        return call(function, keys, reader, null);
+        return call(function, keys, reader, null, limit());
     }
 
-    /** Calls a function. The code again means that a command was done, if its answer was lost before. */
-    <T> T call(String function, Map<String, Object> keys, Reader<T> reader, Integer again) {
+    /** When a call that begins now has to have ended, by the nanoseconds of System. */
+    long limit() {
+        return System.nanoTime() + timeout.toNanos();
+    }
+
+    /** Calls a function until a limit. The code again means that a command was done, if its answer was lost before. */
+    <T> T call(String function, Map<String, Object> keys, Reader<T> reader, Integer again, long limit) {
         var body = function.equals("importAssignments") ? (String) keys.get("csv") : Json.body(keys);
         if (!isSendable(Objects.requireNonNull(body))) {
             throw OfficeException.failed(Reason.INVALID_REQUEST, false, "a name has half of a character", null);
         }
-        var course = new Course(function, again, repeats, addresses.size(), first.get(), timeout, pause);
+        var course = new Course(function, again, repeats, addresses.size(), first.get(), limit - System.nanoTime(), pause);
         while (true) {
             try {
                 var value = answered(course, function, body, reader);

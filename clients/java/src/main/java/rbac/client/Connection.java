@@ -6,6 +6,8 @@ import java.net.Socket;
 import java.net.StandardSocketOptions;
 import java.nio.ByteBuffer;
 import java.nio.channels.SocketChannel;
+import java.security.cert.CertificateParsingException;
+import java.security.cert.X509Certificate;
 import java.util.concurrent.ScheduledFuture;
 import java.util.concurrent.ScheduledThreadPoolExecutor;
 import java.util.concurrent.TimeUnit;
@@ -29,6 +31,9 @@ final class Connection {
         CLOCK.setKeepAliveTime(10, TimeUnit.SECONDS);
         CLOCK.allowCoreThreadTimeOut(true);
     }
+
+    /** The type of a name of a host among the other names of a certificate. */
+    private static final Integer DNS_NAME = 2;
 
     private final SocketChannel channel;
     private Socket socket;
@@ -59,9 +64,10 @@ final class Connection {
             Thread.currentThread().interrupt();
             throw OfficeException.failed(Reason.UNREACHABLE, false, "the thread was interrupted", null);
         } catch (SSLException error) {
-            // Its text has names of the certificate, and so has that of its cause.
-            var isLate = limit - System.nanoTime() <= 0;
-            throw OfficeException.failed(isLate ? Reason.UNREACHABLE : Reason.UNTRUSTED, false, said(error, limit), null);
+            // Its text has names of the certificate, and so has that of its cause. A server that closes the connection amid the
+            // handshake has shown no certificate that isn't trusted.
+            var isLost = limit - System.nanoTime() <= 0 || error.getCause() instanceof IOException;
+            throw OfficeException.failed(isLost ? Reason.UNREACHABLE : Reason.UNTRUSTED, false, said(error, limit), null);
         } catch (IOException error) {
             throw OfficeException.failed(Reason.UNREACHABLE, false, said(error, limit), error);
         }
@@ -83,6 +89,9 @@ final class Connection {
                 parameters.setProtocols(new String[] {"TLSv1.3", "TLSv1.2"});
                 secured.setSSLParameters(parameters);
                 secured.startHandshake();
+                if (!isNamed(secured, address.host())) {
+                    throw new SSLException("the certificate has no name of a host");
+                }
                 socket = secured;
             }
             isConnected = true;
@@ -92,6 +101,19 @@ final class Connection {
             if (!isConnected) {
                 close();
             }
+        }
+    }
+
+    /** Whether a certificate has a name of a host, as all clients want it: Java takes that of the subject if there is no other. */
+    private static boolean isNamed(SSLSocket secured, String host) throws IOException {
+        if (host.contains(":") || host.matches("[0-9.]+")) {
+            return true; // Java takes an address from the other names alone.
+        }
+        try {
+            var names = ((X509Certificate) secured.getSession().getPeerCertificates()[0]).getSubjectAlternativeNames();
+            return names != null && names.stream().anyMatch(one -> one.get(0).equals(DNS_NAME));
+        } catch (CertificateParsingException error) {
+            return false;
         }
     }
 

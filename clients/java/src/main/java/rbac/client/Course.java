@@ -10,6 +10,8 @@ final class Course {
     private final int addresses;
     private final Duration pause;
     private final long deadline;
+    /** The latest time at which a question is asked again at the same addresses. */
+    private final long latest;
     private final boolean isQuestion;
     private final Integer again;
     private int left;
@@ -18,11 +20,15 @@ final class Course {
     private int sent;
     private boolean isLost;
 
-    /** again is the code that means that the command was done, or null if the function alone says it. */
-    Course(String function, Integer again, boolean repeats, int addresses, int first, Duration timeout, Duration pause) {
+    /**
+     * again is the code that means that the command was done, or null if the function alone says it. The call has to have ended after
+     * some nanoseconds.
+     */
+    Course(String function, Integer again, boolean repeats, int addresses, int first, long nanoseconds, Duration pause) {
         this.addresses = addresses;
         this.pause = pause;
-        this.deadline = System.nanoTime() + timeout.toNanos();
+        this.deadline = System.nanoTime() + nanoseconds;
+        this.latest = deadline - nanoseconds / 2;
         // What only the front does is a method and a path, and changes the office.
         this.isQuestion = !Functions.COMMANDS.contains(function) && !function.contains(" ");
         this.again = !repeats ? null : again != null ? again : Functions.AGAIN.get(function);
@@ -60,14 +66,21 @@ final class Course {
             throw last(own);
         }
         at++;
-        if (isQuestion) {
-            left--;
-            if (left == 0) {
-                throw own;
-            }
+        return isQuestion ? askedAgain(own) : afterCommand(own);
+    }
+
+    /** The next address at once. After the last one all of them again, after a pause, while half of the time is left. */
+    private long askedAgain(OfficeException error) {
+        left--;
+        if (left > 0) {
             return 0;
         }
-        return afterCommand(own);
+        var milliseconds = pause();
+        if (!isOfTheMoment(error.reason()) || System.nanoTime() + milliseconds * 1_000_000 - latest > 0) {
+            throw error;
+        }
+        left = addresses;
+        return milliseconds;
     }
 
     /** What the call throws at its end: a command that was sent is unanswered, though nobody could be reached after that. */
@@ -108,6 +121,11 @@ final class Course {
 
     static boolean isRefused(OfficeException error) {
         return error.code() != 0 && error.reason() != Reason.UNAVAILABLE;
+    }
+
+    /** Whether the same address may have an answer soon: a server that is restarted or too busy. */
+    private static boolean isOfTheMoment(Reason reason) {
+        return reason == Reason.UNAVAILABLE || reason == Reason.UNREACHABLE || reason == Reason.UNANSWERED;
     }
 
     /** Whether another address may have an answer. */

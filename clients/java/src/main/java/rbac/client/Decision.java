@@ -2,6 +2,8 @@ package rbac.client;
 
 /** Whether a session may do something, and why. */
 public final class Decision {
+    private static final int NO_USER = 2;
+
     private final Reason reason;
     private final String detail;
     private final int code;
@@ -24,7 +26,9 @@ public final class Decision {
             return new Decision(Reason.INVALID_REQUEST, error.getClass().getSimpleName(), 0);
         }
         var own = (OfficeException) error;
-        var reason = own.reason() == Reason.REFUSED ? Reason.UNEXPECTED : own.reason();
+        // But that of a user who isn't known.
+        var refused = own.code() == NO_USER ? Reason.UNKNOWN_NAME : Reason.UNEXPECTED;
+        var reason = own.reason() == Reason.REFUSED ? refused : own.reason();
         return new Decision(reason, own.getMessage(), own.code());
     }
 

@@ -9,31 +9,47 @@ import java.util.function.Function;
  * @param <R> the requests
  */
 public final class Guard<R> {
-    private final Client office;
+    private final Decides decides;
     private final Function<? super R, Need> need;
-    private final Function<? super R, String> session;
+    private final Function<? super R, String> holder;
 
     /**
      * A guard. The function need returns what a request needs, or null if it passes without a question; session returns the name of
      * its session, which the application keeps, or null.
      */
     public Guard(Client office, Function<? super R, Need> need, Function<? super R, String> session) {
-        this.office = office;
-        this.need = need;
-        this.session = session;
+        this(office::check, need, session);
     }
 
-    /** 200 if the request passes. Otherwise 401 without a session, 403 if the office denies, and 503 if there is no decision. */
+    private Guard(Decides decides, Function<? super R, Need> need, Function<? super R, String> holder) {
+        this.decides = decides;
+        this.need = need;
+        this.holder = holder;
+    }
+
+    /**
+     * A guard for applications without sessions: the function user returns the user whom the application has authenticated, or null.
+     */
+    public static <R> Guard<R> byUser(Client office, Function<? super R, Need> need, Function<? super R, String> user) {
+        return new Guard<>(office::decideByUser, need, user);
+    }
+
+    /** What decides about a session, or about a user. */
+    private interface Decides {
+        Decision decide(String holder, String operation, String object);
+    }
+
+    /** 200 if the request passes. Otherwise 401 without a session or a user, 403 if the office denies, and 503 if there is no decision. */
     public int statusOf(R request) {
         var needed = need.apply(request);
         if (needed == null) {
             return 200;
         }
-        var name = session.apply(request);
+        var name = holder.apply(request);
         if (name == null || name.isEmpty()) {
             return 401;
         }
-        var decision = office.check(name, needed.operation(), needed.object());
+        var decision = decides.decide(name, needed.operation(), needed.object());
         if (decision.isAllowed()) {
             return 200;
         }

@@ -12,7 +12,16 @@ public final class GuardFilter extends Filter {
 
     /** The parameters are those of {@link Guard}. */
     public GuardFilter(Client office, Function<HttpExchange, Need> need, Function<HttpExchange, String> session) {
-        guard = new Guard<>(office, need, session);
+        this(new Guard<>(office, need, session));
+    }
+
+    private GuardFilter(Guard<HttpExchange> guard) {
+        this.guard = guard;
+    }
+
+    /** The parameters are those of {@link Guard#byUser}. */
+    public static GuardFilter byUser(Client office, Function<HttpExchange, Need> need, Function<HttpExchange, String> user) {
+        return new GuardFilter(Guard.byUser(office, need, user));
     }
 
     @Override

@@ -101,7 +101,7 @@ interface Reader<T> {
         json.need(",\"role\":");
         var role = json.text();
         var set = kind.isEmpty() && json.skips(",\"set\":") ? json.text() : "";
-        json.need("}");
+        json.need(role.isEmpty() || refusal.isEmpty() ? "a name" : "}");
         return new LeftOut(role, code, refusal, kind.isEmpty() ? set : kind);
     }
 

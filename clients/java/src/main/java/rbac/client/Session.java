@@ -7,13 +7,20 @@ import java.security.SecureRandom;
 import java.util.ArrayList;
 import java.util.Collection;
 import java.util.List;
+import java.util.Map;
+import java.util.concurrent.CompletableFuture;
+import java.util.concurrent.ExecutionException;
+import java.util.concurrent.TimeUnit;
+import java.util.concurrent.TimeoutException;
 
 /** A session of a user: opened when the user logs in, and closed when the user logs out. Threads may share it. */
 public final class Session {
     private static final SecureRandom RANDOM = new SecureRandom();
 
-    /** What a server answers that opens no sessions, such as {@code rbac serve}. */
+    /** What a server answers that opens no sessions, such as {@code rbac serve}, and what the front answers if no role is left. */
     private static final int NO_SUCH_PATH = 35;
+
+    private static final int NOT_AUTHORIZED = 29;
 
     /** For how many nanoseconds such a server isn't asked to open a session again. */
     private static final long CREATES = 60_000_000_000L;
@@ -23,6 +30,9 @@ public final class Session {
     private final List<String> wanted;
     private boolean isRenewed;
     private Opened opened = new Opened("", List.of(), List.of());
+
+    /** What makes the session again at the moment, or null. The monitor is held for moments, never while something is asked. */
+    private CompletableFuture<Void> renewal;
 
     /** wanted may be null: then they are all that the user is assigned to. */
     private Session(Client office, String user, Collection<String> wanted, boolean isRenewed) {
@@ -47,7 +57,7 @@ public final class Session {
 
     static Session opened(Client office, String user, Collection<String> roles, boolean isRenewed) {
         var session = new Session(office, user, roles, isRenewed);
-        session.open();
+        session.open(office.limit());
         return session;
     }
 
@@ -97,16 +107,18 @@ public final class Session {
 
     /** Whether the session may do the operation on the object, and why. */
     public Decision check(String operation, String object) {
+        var limit = office.limit();
         var asked = name();
-        var decision = office.decide(asked, operation, object);
+        var decision = office.decide(asked, operation, object, limit);
         if (decision.reason() == Reason.ENDED_SESSION) {
             try {
-                if (renew(asked)) {
-                    decision = office.decide(name(), operation, object);
+                if (renew(asked, limit)) {
+                    decision = office.decide(name(), operation, object, limit);
                 }
-            } catch (OfficeException error) {
+            } catch (RuntimeException error) {
                 // A refusal to make it again leaves it ended.
-                decision = error.reason() == Reason.REFUSED ? decision : Decision.undecided(error);
+                var isRefused = error instanceof OfficeException && ((OfficeException) error).reason() == Reason.REFUSED;
+                decision = isRefused ? decision : Decision.undecided(error);
             }
         }
         return office.keep(decision, operation, object);
@@ -119,13 +131,16 @@ public final class Session {
 
     /** Ends the session, for good. It is no error if it has ended before. */
     public void close() {
-        String ended;
+        CompletableFuture<Void> own;
         synchronized (this) {
             isRenewed = false;
-            ended = opened.name;
+            own = renewal;
+        }
+        if (own != null) {
+            own.exceptionally(error -> null).join(); // It ends with the time of its check.
         }
         try {
-            office.call("deleteSession", Functions.keys("user", user, "session", ended), Reader.DONE, 26);
+            office.call("deleteSession", Functions.keys("user", user, "session", name()), Reader.DONE, 26, office.limit());
         } catch (OfficeException error) {
             // The user may be gone as well.
             if (error.code() != 26 && error.code() != 2) {
@@ -134,12 +149,13 @@ public final class Session {
         }
     }
 
-    /** Makes the session, under a new name. */
-    private synchronized void open() {
+    /** Makes the session, under a new name, until a limit. */
+    private void open(long limit) {
         if (System.nanoTime() - office.createsUntil >= 0) {
             try {
-                var keys = wanted == null ? Functions.keys("user", user) : Functions.keys("user", user, "roles", wanted);
-                opened = office.call("POST /sessions", keys, Reader.OPENED, null);
+                var roles = wanted();
+                var keys = roles == null ? Functions.keys("user", user) : Functions.keys("user", user, "roles", roles);
+                became(office.call("POST /sessions", keys, Reader.OPENED, null, limit));
                 return;
             } catch (OfficeException error) {
                 if (error.code() != NO_SUCH_PATH) {
@@ -148,29 +164,74 @@ public final class Session {
                 office.createsUntil = System.nanoTime() + CREATES;
             }
         }
-        opened = created();
+        became(created(limit));
+    }
+
+    private synchronized void became(Opened made) {
+        opened = made;
+    }
+
+    /** The roles that are asked for: those that it has had if it is made again. Null are all of the user. */
+    private synchronized List<String> wanted() {
+        return opened.name.isEmpty() ? wanted : opened.roles;
     }
 
     /** Makes the session by createSession. If the answer is lost it is sent again: nobody else has that name. */
-    private Opened created() {
+    private Opened created(long limit) {
         var made = newName();
-        var roles = wanted;
-        if (wanted == null) {
-            roles = office.assignedRoles(user);
-        } else if (!opened.name.isEmpty()) {
-            roles = new ArrayList<>(wanted);
-            roles.retainAll(office.authorizedRoles(user));
+        var roles = wanted();
+        if (roles == null) {
+            roles = office.call("assignedRoles", Functions.keys("user", user), Reader.NAMES, null, limit);
+        } else if (!name().isEmpty() && !roles.isEmpty()) {
+            roles = new ArrayList<>(roles);
+            roles.retainAll(office.call("authorizedRoles", Functions.keys("user", user), Reader.NAMES, null, limit));
+            if (roles.isEmpty()) { // Without a role there is no session to be made again.
+                throw OfficeException.refused(NOT_AUTHORIZED, Functions.NAMES.get(NOT_AUTHORIZED), Map.of());
+            }
         }
-        office.call("createSession", Functions.keys("user", user, "roles", roles, "session", made), Reader.DONE, 27);
+        office.call("createSession", Functions.keys("user", user, "roles", roles, "session", made), Reader.DONE, 27, limit);
         return new Opened(made, roles, List.of());
     }
 
-    /** Makes the session again if that is wanted, unless another thread has done it. Returns whether there is a new one. */
-    private synchronized boolean renew(String asked) {
-        if (!isRenewed || !opened.name.equals(asked)) {
-            return !opened.name.equals(asked);
+    /** Makes the session again if that is wanted, or waits for the thread that does. Returns whether there is a new one. */
+    private boolean renew(String asked, long limit) {
+        CompletableFuture<Void> own;
+        boolean isFirst;
+        synchronized (this) {
+            if (!isRenewed || !opened.name.equals(asked)) {
+                return !opened.name.equals(asked);
+            }
+            isFirst = renewal == null;
+            renewal = isFirst ? new CompletableFuture<>() : renewal;
+            own = renewal;
         }
-        open();
-        return true;
+        if (isFirst) {
+            makeAgain(own, limit);
+        }
+        try {
+            own.get(Math.max(limit - System.nanoTime(), 0), TimeUnit.NANOSECONDS);
+            return true;
+        } catch (ExecutionException error) {
+            throw(RuntimeException) error.getCause();
+        } catch (TimeoutException error) {
+            throw OfficeException.failed(Reason.UNANSWERED, true, "the session wasn't made again in time", null);
+        } catch (InterruptedException error) {
+            Thread.currentThread().interrupt();
+            throw OfficeException.failed(Reason.UNANSWERED, true, "the thread was interrupted", null);
+        }
+    }
+
+    /** Makes the session again. Its failure is that of all who wait. */
+    private void makeAgain(CompletableFuture<Void> own, long limit) {
+        try {
+            open(limit);
+        } catch (RuntimeException error) {
+            own.completeExceptionally(error);
+        } finally {
+            synchronized (this) {
+                renewal = null;
+            }
+            own.complete(null);
+        }
     }
 }

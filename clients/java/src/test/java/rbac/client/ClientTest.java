@@ -7,10 +7,12 @@ import static org.junit.jupiter.api.Assertions.assertThrows;
 import static org.junit.jupiter.api.Assertions.assertTrue;
 
 import java.io.IOException;
+import java.time.Duration;
 import java.util.ArrayList;
 import java.util.List;
 import java.util.Map;
 import java.util.concurrent.atomic.AtomicLong;
+import java.util.function.Function;
 import org.junit.jupiter.api.DynamicTest;
 import org.junit.jupiter.api.Test;
 import org.junit.jupiter.api.TestFactory;
@@ -128,7 +130,7 @@ class ClientTest {
 
     @Test
     void aLineIsOneOfPrintableAscii() {
-        try (var logged = new Logged(); var office = Client.of("http://127.0.0.1:9").build()) {
+        try (var logged = new Logged(); var office = Client.of("http://127.0.0.1:9").pause(Duration.ofMinutes(1)).build()) {
             office.check("s1", "open\n\u001b[31m\u2028\u0085", "safe".repeat(1_000));
             office.check("s1", "open", "safe");
             var start = "no decision about \"open\\u000a\\u001b[31m\\u2028\\u0085\" on \""
@@ -140,17 +142,28 @@ class ClientTest {
 
     @Test
     void aGuardPassesOnlyWhatIsAllowed() throws IOException {
-        try (var server = new FakeServer(); var logged = new Logged(); var office = Client.of(server.address()).build()) {
-            var guard =
-                new Guard<String>(office, request -> request.equals("free") ? null : Need.of("open", "safe"), request -> request);
+        try (var server = new FakeServer(); var logged = new Logged(); var office = client(server)) {
+            Function<String, Need> need = request -> request.equals("free") ? null : Need.of("open", "safe");
+            var guard = new Guard<String>(office, need, request -> request);
+            var byUser = Guard.<String>byUser(office, need, request -> request);
             var answers = Map.of(FakeServer.RIGHT, 200, FakeServer.DENIED, 403, "", 503);
             answers.forEach((answer, status) -> {
                 server.answers(answer);
                 assertEquals(status, guard.statusOf("s1"));
+                assertEquals(status, byUser.statusOf("ann"));
+                var last = server.requests.get(server.requests.size() - 1);
+                assertTrue(last.startsWith("POST /v1/decideByUser ") && last.contains("{\"user\":\"ann\","), last);
             });
             assertEquals(401, guard.statusOf(""));
+            assertEquals(401, byUser.statusOf(""));
             assertEquals(200, guard.statusOf("free"));
+            assertEquals(200, byUser.statusOf("free"));
             assertEquals(1, logged.lines.size());
         }
+    }
+
+    /** A client that asks each question once. */
+    private static Client client(FakeServer server) {
+        return Client.of(server.address()).pause(Duration.ofMinutes(1)).build();
     }
 }

@@ -5,6 +5,7 @@ import static org.junit.jupiter.api.Assertions.assertThrows;
 import static org.junit.jupiter.api.Assertions.assertTrue;
 
 import java.io.IOException;
+import java.time.Duration;
 import java.util.ArrayList;
 import java.util.Collections;
 import java.util.List;
@@ -24,7 +25,8 @@ class ConnectionsTest {
         for (var one : (List<?>) Values.shared("connections.json")) {
             var test = (Map<?, ?>) one;
             tests.add(DynamicTest.dynamicTest((String) test.get("name"), () -> {
-                try (var server = new FakeServer(); var logged = new Logged(); var office = Client.of(server.address()).build()) {
+                try (var server = new FakeServer(); var logged = new Logged();
+                     var office = Client.of(server.address()).pause(Duration.ofMinutes(1)).build()) {
                     server.keeps = true;
                     server.answers((String) test.get("answer"));
                     assertEquals(test.get("reason"), office.check("s1", "open", "safe").reason().toString());
@@ -39,7 +41,7 @@ class ConnectionsTest {
 
     @Test
     void aCommandHasAConnectionOfItsOwn() throws IOException {
-        try (var server = new FakeServer(); var office = Client.of(server.address()).build()) {
+        try (var server = new FakeServer(); var office = Client.of(server.address()).pause(Duration.ofMinutes(1)).build()) {
             server.keeps = true;
             assertTrue(office.may("s1", "open", "safe"));
             server.answers("HTTP/1.1 200 OK\r\nContent-Length: 11\r\n\r\n{\"ok\":true}");
@@ -53,7 +55,8 @@ class ConnectionsTest {
     /** A server that closes each connection after its answer, though it doesn't say so, costs no decision, whatever the threads. */
     @Test
     void threadsOverConnectionsThatAreClosed() throws Exception {
-        try (var server = new FakeServer(); var logged = new Logged(); var office = Client.of(server.address()).build()) {
+        try (var server = new FakeServer(); var logged = new Logged();
+             var office = Client.of(server.address()).pause(Duration.ofMinutes(1)).build()) {
             server.pause = 2;
             Callable<Integer> asks = () -> {
                 var allowed = 0;
@@ -74,7 +77,8 @@ class ConnectionsTest {
 
     @Test
     void anInterruptEndsACall() throws Exception {
-        try (var server = new FakeServer(); var logged = new Logged(); var office = Client.of(server.address()).build()) {
+        try (var server = new FakeServer(); var logged = new Logged();
+             var office = Client.of(server.address()).pause(Duration.ofMinutes(1)).build()) {
             server.keeps = true;
             server.answers("HTTP/1.1 200 OK\r\n");
             var asking = new Thread(() -> office.check("s1", "open", "safe"));

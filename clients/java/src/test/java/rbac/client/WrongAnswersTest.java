@@ -8,6 +8,7 @@ import static org.junit.jupiter.api.Assertions.assertTrue;
 import java.io.IOException;
 import java.io.PrintWriter;
 import java.io.StringWriter;
+import java.time.Duration;
 import java.util.ArrayList;
 import java.util.List;
 import java.util.Map;
@@ -35,7 +36,7 @@ class WrongAnswersTest {
 
     private void denies(Map<?, ?> test) throws IOException {
         try (var server = new FakeServer(); var logged = new Logged();
-             var office = Client.of(server.address()).token(token).build()) {
+             var office = Client.of(server.address()).pause(Duration.ofMinutes(1)).token(token).build()) {
             server.answers(test.get("reset") == null ? text((List<?>) test.get("answer")) : null);
             var decision = office.check(session, "open", "safe");
             assertFalse(decision.isAllowed());
@@ -78,7 +79,7 @@ class WrongAnswersTest {
     @Test
     void rightAnswer() throws IOException {
         try (var server = new FakeServer(); var logged = new Logged();
-             var office = Client.of(server.address()).token(token).build()) {
+             var office = Client.of(server.address()).pause(Duration.ofMinutes(1)).token(token).build()) {
             assertTrue(office.may(session, "open", "safe"));
             assertEquals(List.of(), logged.lines);
             assertTrue(server.requests.get(0).contains("Bearer " + token + "\r\n"));
