@@ -15,6 +15,10 @@
     rights      callers who may not do everything, and a token that is nowhere
     hostile     names that are markup or can't be seen; pages of another origin
     lost        a front that goes away and comes back
+    between     a proxy between the browser and the front, which loses answers, replaces them, and holds up requests
+    answers     what the page says if an answer isn't the front's, is lost, or is that of a command that the browser has sent again
+    revisions   pages of one revision of the policy while somebody else changes it, and what is shown after a refusal
+    sentences   sentences that are true, also for who may not see everything
     looks       the keyboard alone, widths, dark, print, rules of accessibility, and the pictures of docs/howto/console.md
     limits      an office that is full, with --long
     browser     runs Chromium and looks at its pages

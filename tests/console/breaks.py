@@ -78,6 +78,18 @@ BREAKS = {
     "an answer that is lost when something is read": (
         SITE + "parts.js", "error.isChange ? LOST : UNREAD", "LOST", "notices.check_lost", "a file",
     ),
+    "an answer of something in between": (
+        SITE + "api.js", "if (!reply.ok && isRefusal(answer) && !UNKNOWN.has(answer.code)) {", "if (!reply.ok) {", "answers.check_done", "502: ",
+    ),
+    "a command that is refused since the browser has sent it again": (
+        SITE + "parts.js", "isLost || mayBeRepeated(error) ? await", "isLost ? await", "answers.check_again", "a user: ",
+    ),
+    "a page of two revisions": (
+        SITE + "api.js", "if (!reading.isMixed || count === MOST_READINGS) {", "if (count === 1) {", "revisions.check_role", "no senior role: ",
+    ),
+    "a user who is deleted though somebody else has made it": (
+        SITE + "users.js", ", revision: reading.revision })));", " })));", "revisions.check_deleted", "Delete frank: ",
+    ),
     "a review that keeps what is gone": (
         SITE + "review.js", 'now.has(keyOf(line)) ? "" : "gone"', '""', "reviews.check_assigned_meanwhile", "erin is gone",
     ),

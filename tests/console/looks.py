@@ -159,6 +159,28 @@ def check_keyboard(bench):
         bench.judge("the focus", faults)
 
 
+def check_long_names(bench):
+    """Names of 64 letters make no table wider than the page: nothing that can be pressed is out of sight."""
+    long = {one: one * 64 for one in "uro"}
+    with bank(bench) as front, Browser(bench, front) as page:
+        for function, values in (
+            ("addUser", {"user": long["u"]}),
+            ("addRole", {"role": long["r"]}),
+            ("assignUser", {"user": long["u"], "role": long["r"]}),
+            ("addPermObj", {"object": long["o"]}),
+            ("addPermission", {"object": long["o"], "operation": "open"}),
+            ("grantPermission", {"object": long["o"], "operation": "open", "role": long["r"]}),
+        ):
+            bench.same(function, front.ask(function, values)[0], 200)
+        page.open("")
+        for width in (390, 768):
+            page.resize(width)
+            for segments in (("users",), ("users", long["u"]), ("roles", long["r"]), ("objects",), ("objects", long["o"])):
+                page.go(*segments)
+                wide = "return [...document.querySelectorAll('.scroll')].map(one => one.scrollWidth - one.clientWidth).filter(one => one > 0)"
+                bench.same(f"{segments[0]} at {width}", page.run(wide), [])
+
+
 def check_print(bench):
     """A page is printed to PDF: what is on it, without what can be pressed."""
     with bank(bench) as front, Browser(bench, front) as page:

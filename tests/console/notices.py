@@ -41,9 +41,10 @@ def check_gone(bench):
         ]:
             page.go("users")
             page.go("users", "erin")
+            bench.same("a refusal", refused(page), TAKEN)
+            page.settle()
             if what == "a link":
                 page.run("document.querySelector('main').insertAdjacentHTML('beforeend', '<a href=\"#/users/ann\">ann</a>')")
-            bench.same("a refusal", refused(page), TAKEN)
             leave()
             page.until(lambda: not page.said(), f"the notice is gone by {what}", SECONDS / 10)
             bench.same(f"gone by {what}", page.said(), "")

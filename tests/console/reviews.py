@@ -413,6 +413,26 @@ def check_assigned_meanwhile(bench):
         bench.same("to be decided", len(page.elements("main fieldset")), 6)
 
 
+def check_formulas(bench):
+    """No cell of the CSV has a formula, also where it is taken apart at tabs or at the ends of lines."""
+    people = ["\t=1+1", "\r=1+1", "x\t'@sum", "x\n+1", ";\t-1", "a\tb=1"]
+    safe = ["\t'=1+1", "\r'=1+1", "x\t''@sum", "x\n'+1", ";\t'-1", "a\tb=1"]
+    with bank(bench) as front, Browser(bench, front) as page:
+        for number in range(len(people)):
+            front.ask("addUser", {"user": f"u{number}"})
+            front.ask("assignUser", {"user": f"u{number}", "role": "cashier"})
+        rows = "".join(f'u{number},"{name}"\n' for number, name in enumerate(people))
+        files = Files(bench, page)
+        page.open("review")
+        begin(page, "Q4", choice="those in the people file", people=write(bench, "people.csv", f"user,name\n{rows}"))
+        note = page.run("return document.querySelector('main tbody input:not([type])')")
+        page.run("arguments[0].value = '\\t=2+2'; arguments[0].dispatchEvent(new Event('input'))", note)
+        text = files.next(page, lambda: page.click("Download the list as CSV")).read_bytes().decode()
+        found = list(csv.reader(io.StringIO(text, newline="")))
+        bench.same("the names", [row[1] for row in found[1:]], safe)
+        bench.same("the note", found[1][7], "\t'=2+2")
+
+
 RIGHTS = {"token:desk": [*READING, ("review", "office")], "token:admin": READING}
 
 
@@ -434,6 +454,10 @@ def check_rights(bench):
         begin(page, "Q4", choice="the role alone", which="auditor")
         bench.same("no removals", [page.find(one) for one in ("Try the removals on a copy", "Do it")], [None, None])
         decide(page, "auditor of erin", "remove")
+        page.click("Log out")
+        judge(bench, "asked before it is lost", page.notice(), "The review isn't saved: its decisions and notes would be lost.")
+        page.click("Dismiss the notice")
+        bench.same("it is there still", "Review Q4" in page.text(), True)
         text = files.next(page, lambda: press(page, "End the review")).read_bytes()
         told = json.loads(entries(front.office)[-1].request)
         bench.same(
@@ -448,6 +472,12 @@ def check_rights(bench):
         page.settle()
         page.go("review")
         bench.same("nothing is left of it", "Begin a review" in page.text(), True)
+        begin(page, "Q5", choice="the role alone", which="auditor")
+        decide(page, "auditor of erin", "keep")
+        page.click("Log out")
+        page.click("Log out all the same")
+        page.until(lambda: page.elements("input[type=password]"), "the form to log in")
+        bench.same("nothing is said any more", page.said(), "")
 
 
 def check_lost(bench):

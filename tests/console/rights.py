@@ -31,7 +31,7 @@ BUTTONS = """return [...document.querySelectorAll("main button")].map(one => one
 # What a page asks the front for without its own buttons, with the token that it has: a status or the name of a refusal.
 ASKED = """
 const done = arguments[arguments.length - 1];
-import("/console/api.js").then(api => api.ask(arguments[0], arguments[1])).then(() => done("done"), error => done(error.message));
+import("/console/api.js").then(api => api.order(arguments[0], arguments[1])).then(() => done("done"), error => done(error.message));
 """
 
 
@@ -85,6 +85,8 @@ def check_desk(bench):
             page.submit("Assign", "Assign a role", Role="teller"),
             "frank can't become teller: you have no right to this.",
         )
+        typed = page.run("return document.querySelector('[data-key=role]').value")
+        bench.same("it can be corrected", typed, "teller")
         bench.same("this role", page.submit("Assign", "Assign a role", Role="cashier"), "frank is assigned to cashier.")
         page.go("roles", "teller")
         bench.same("no action for teller", page.run(BUTTONS), [])

@@ -152,6 +152,7 @@ def check_picture(bench):
             "names in it", [f"{name} isn't in {texts}" for name in ["boss", *odd[:5], "[U+202E]evil", "a&b"] if name not in texts]
         )
         bench.same("around clerk", sorted(texts_of(get(front, "/picture?role=clerk")[2])), sorted(["boss", "clerk", odd[0]]))
+        bench.same("its revision", fields["Policy-Revision"], get(front, "/room")[1]["Policy-Revision"])
         way = urllib.parse.urlencode({"role": odd[0], "from": "boss", "user": "ann", "operation": "o", "object": "x"})
         bench.same(
             "a way", sorted(texts_of(get(front, f"/picture?{way}")[2])), sorted(["boss", "clerk", odd[0], "ann", "o", "x"])

@@ -1,9 +1,9 @@
 /** The console: who is logged in, and which page is shown. A page is chosen by the fragment of the address. */
 
-import { login, logout, Lost, may, maySome, Refused, setReason, who } from "./api.js";
+import { login, logout, Lost, may, maySome, readTogether, Refused, setReason, who } from "./api.js";
 import { isVisit, visit } from "./address.js";
 import { forgetPlaces } from "./browse.js";
-import { hush, hushOthers, say, UNREAD } from "./notice.js";
+import { hush, hushOthers, MIXED, say, UNREAD } from "./notice.js";
 import { button, fail, field, form, lastPressed, section } from "./parts.js";
 import { h, name } from "./text.js";
 import { why } from "./words.js";
@@ -78,11 +78,15 @@ function title(text) {
     document.title = `${text} – Office console`;
 }
 
+// How often in a row a page is read again since the policy has changed.
+const MOST_TIMES = 5;
+
 /**
  * Shows the page of the address. Its heading gets the focus, unless the page is only shown anew: then the control has it that was
- * pressed last, or the one in its place.
+ * pressed last, or the one in its place. What is typed in the form with that control is kept only if it `isKept`. `times` counts how often
+ * the page was read.
  */
-async function show(isAnew = false) {
+async function show(isAnew = false, isKept = true, times = 1) {
     if (!isIn) {
         return showLogin();
     }
@@ -98,9 +102,9 @@ async function show(isAnew = false) {
     }
     // A link that is marked before the page is there would be drawn by itself.
     const marking = setTimeout(() => markPage(page?.[0]), 100);
-    let nodes;
+    let nodes, reading;
     try {
-        nodes = await nodesOf(page, segments, query);
+        [nodes, reading] = await readTogether((each) => nodesOf(page, segments, query, each));
     } catch (error) {
         nodes = [h("h1", {}, page?.[1] ?? "No such page"), await troubleOf(error)];
     }
@@ -110,21 +114,65 @@ async function show(isAnew = false) {
     }
     markPage(page?.[0]);
     const place = isAnew ? scroller().scrollTop : scrolled.get(address) ?? 0;
-    const again = isAnew ? controlAgain(lastPressed()) : () => null;
+    const isSame = isAnew && main().dataset.address === address;
+    const again = isSame ? controlAgain(times > 1 ? document.activeElement : lastPressed()) : () => null;
+    const keepAgain = isSame ? keep(isKept ? null : lastPressed()?.closest("form")) : () => {};
     main().replaceChildren(...nodes.flat(Infinity).filter(Boolean));
+    main().dataset.address = address;
+    keepAgain();
+    keepTogether(reading, mine, times);
     const heading = main().querySelector("h1");
-    title(heading.textContent);
-    heading.tabIndex = -1;
+    title([...heading.childNodes].filter((one) => one.className !== "mark no").map((one) => one.textContent).join("").trim());
     scroller().scrollTop = place;
+    moveFocus(heading, () => mine === shown && again());
+}
+
+/** Moves the focus to the heading, and then to the control that is found again, if there is one. */
+function moveFocus(heading, again) {
+    heading.tabIndex = -1;
     if (isFirst) {
         scroller().focus({ preventScroll: true }); // So that the keys scroll, and the tab key begins at the top.
         isFirst = false;
         return;
     }
     heading.focus({ preventScroll: true });
-    if (isAnew) {
-        setTimeout(() => mine === shown && again()?.focus({ preventScroll: true })); // Parts that are known are there by then.
+    setTimeout(() => (again() || null)?.focus({ preventScroll: true })); // Parts that are known are there by then.
+}
+
+/** Has the page shown again if a part of it comes later and is of another revision of the policy; too often, and the page says so. */
+function keepTogether(reading, mine, times) {
+    const warn = () => main().querySelector("#mixed") ?? main().querySelector("h1").after(h("p", { id: "mixed", class: "warning" }, MIXED));
+    if (reading?.isMixed) {
+        warn();
+    } else if (reading) {
+        reading.onMixed = async () => {
+            if (mine === shown && times === MOST_TIMES) {
+                return warn();
+            }
+            if (mine === shown) {
+                await show(true, true, times + 1);
+            }
+            return new Promise(() => {}); // What waits for the answer is replaced.
+        };
     }
+}
+
+/** Returns a function that types again what is typed in the forms of the page, but for one, and opens what is open. */
+function keep(except) {
+    const fields = () => [...main().querySelectorAll("form[aria-label] [data-key]:not([type=file], [type=checkbox], [type=radio])")];
+    const parts = () => [...main().querySelectorAll("section > details")];
+    const keyOf = (one) => `${one.form.getAttribute("aria-label")}\t${one.dataset.key}`;
+    const titleOf = (one) => one.parentElement.querySelector("h2").textContent;
+    const isTyped = (one) => one.form !== except && one.value !== one.defaultValue;
+    const typed = new Map(fields().filter(isTyped).map((one) => [keyOf(one), one.value]));
+    const open = parts().filter((one) => one.open).map(titleOf);
+    return () => {
+        fields().filter((one) => typed.has(keyOf(one))).forEach((one) => {
+            one.value = typed.get(keyOf(one));
+            one.dispatchEvent(new Event("change"));
+        });
+        parts().filter((one) => open.includes(titleOf(one))).forEach((one) => { one.open = true; });
+    };
 }
 
 /** Returns a function that finds a control on the page that is made anew: in the section with its title, one like it at its place. */
@@ -136,7 +184,8 @@ function controlAgain(control) {
     if (!section || !main().contains(section)) {
         return () => null;
     }
-    const like = (within) => [...within.querySelectorAll("button, input, select, textarea")].filter((one) => kindOf(one) === kindOf(control));
+    const all = "button, input, select, textarea, summary";
+    const like = (within) => [...within.querySelectorAll(all)].filter((one) => kindOf(one) === kindOf(control));
     const [text, place] = [titleOf(section), like(section).indexOf(control)];
     return () => {
         const found = like(sectionOf(text) ?? h("p"));
@@ -144,12 +193,12 @@ function controlAgain(control) {
     };
 }
 
-async function nodesOf(page, segments, query) {
+async function nodesOf(page, segments, query, reading) {
     if (!page || (segments.length > 1 && !page[4])) {
         return [h("h1", {}, "No such page"), h("p", {}, "There is no such page, or you have no right to it.")];
     }
-    const anew = () => show(true);
-    return segments.length > 1 ? page[4](segments.slice(1), { query, anew }) : page[3]({ query, anew });
+    const context = { query, reading, anew: (isKept = false) => show(true, isKept) };
+    return segments.length > 1 ? page[4](segments.slice(1), context) : page[3](context);
 }
 
 async function troubleOf(error) {
@@ -167,15 +216,20 @@ function showWho() {
     const caller = who();
     const parts = [];
     if (COMMANDS.some(maySome)) {
-        const reason = h("input", { id: "reason", autocomplete: "off", maxlength: "120", placeholder: "kept in the record" });
-        reason.addEventListener("input", () => setReason(reason.value));
+        const reason = h("input", { id: "reason", autocomplete: "off", maxlength: "256", placeholder: "kept in the record" });
+        reason.addEventListener("input", () => reason.setAttribute("aria-invalid", String(!setReason(reason.value))));
         parts.push(h("label", { for: "reason", class: "check" }, "Reason ", reason));
     }
     parts.push(h("span", {}, caller.open ? "open to everybody" : name(caller.caller)), button("Refresh", "Refresh the page", () => show(true)));
     if (!caller.open) {
-        parts.push(h("button", { type: "button", class: "plain", onclick: leave }, "Log out"));
+        parts.push(h("button", { type: "button", class: "plain", onclick: () => (isUnsaved() ? askToLeave() : leave()) }, "Log out"));
     }
     document.getElementById("who").replaceChildren(...parts);
+}
+
+function askToLeave() {
+    say("unsure", ["The review isn't saved: its decisions and notes would be lost. ",
+        h("button", { type: "button", class: "plain", onclick: leave }, "Log out all the same")]);
 }
 
 function leave() {

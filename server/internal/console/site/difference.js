@@ -1,6 +1,6 @@
 /** The difference of two copies of the policy. The files are read by the browser: they go nowhere. */
 
-import { linesOf, report } from "./api.js";
+import { report, reportLines } from "./api.js";
 import { csvOfRows, download } from "./files.js";
 import { say } from "./notice.js";
 import { button, field, form, section, table } from "./parts.js";
@@ -95,7 +95,7 @@ async function linesIn(file) {
 async function compared(first, second) {
     const now = second ? null : await report("dump");
     const before = factsOf(await linesIn(first), "the first copy");
-    const after = factsOf(now ? await linesOf(now.ticket) : await linesIn(second), "the second copy");
+    const after = factsOf(now ? await reportLines(now.ticket) : await linesIn(second), "the second copy");
     const found = differences(before, after);
     const rows = found.map(({ where, parts }) => [h("span", { class: `mark ${where === "first" ? "no" : "yes"}` }, `only in the ${where}`), sentence(parts, name)]);
     const count = (where) => found.filter((one) => one.where === where).length;

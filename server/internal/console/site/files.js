@@ -9,11 +9,12 @@ export function download(name, type, text) {
 }
 
 /**
- * Returns a cell of CSV. What a spreadsheet would take for a formula gets an apostrophe, and one more if it has some, as in the reports: the
- * text, or what is behind a semicolon, which separates cells in many countries.
+ * Returns a cell of CSV. What a spreadsheet would take for a formula gets an apostrophe, and one more if it has some, as in the reports:
+ * the text, or what is behind a semicolon, which separates cells in many countries, behind a tab, which a spreadsheet may be told to
+ * separate cells at, or behind the end of a line.
  */
 function cell(text) {
-    const safe = text.replace(/(^|;)('*[=+\-@＝＋－＠])/g, "$1'$2");
+    const safe = text.replace(/(^|[;\t\r\n])('*[=+\-@＝＋－＠])/g, "$1'$2");
     return /[",\r\n]/.test(safe) ? `"${safe.replaceAll('"', '""')}"` : safe;
 }
 

@@ -1,10 +1,13 @@
 /** Parts that several pages have: sections, tables, forms, pictures. */
 
-import { Lost, maySome, order, picture, Refused } from "./api.js";
+import { Lost, maySome, order, Reading, Refused, Unfit } from "./api.js";
 import { visit } from "./address.js";
-import { hush, LOST, say, UNREAD } from "./notice.js";
-import { done, refusal, suggestions, why } from "./words.js";
+import { hush, LOST, NOT_YET, say, UNREAD, UNSAID } from "./notice.js";
+import { areSo } from "./outcome.js";
+import { done, refusal, soNow, suggestions, why } from "./words.js";
 import { h, hashOf, listed, plain, some } from "./text.js";
+
+export { Unfit };
 
 export function section(title, ...children) {
     return h("section", {}, h("h2", {}, title), children);
@@ -27,13 +30,10 @@ export function table(caption, heads, rows, empty = "None.") {
 export const number = (value) => ({ class: "number", child: value.toLocaleString("en") });
 export const action = (child) => ({ class: "action", child: child ?? "" });
 
-/** What somebody has typed or opened can't be used; the message says why. */
-export class Unfit extends Error {}
-
 /** Says why something failed. */
 export async function fail(error, values = {}) {
     if (error instanceof Lost) {
-        say("refused", [error.isChange ? LOST : UNREAD]);
+        say(error.isChange ? "unsure" : "refused", [error.isChange ? LOST : UNREAD]);
     } else if (error instanceof Refused) {
         say("refused", ["Refused: ", await why(values, error)]);
     } else if (error instanceof Unfit) {
@@ -43,22 +43,52 @@ export async function fail(error, values = {}) {
     }
 }
 
-/** Asks for a command, says what came of it, and shows the page anew if it was done, or the one with the address `after`. */
-export async function command(fn, values, after) {
+/**
+ * Asks for a command, says what has come of it, and shows the page anew, or the one with the address `after` if it is done. With a
+ * revision it is done only if the policy still has that one. `perform` asks for the command in another way.
+ */
+export async function command(fn, values, anew, { after, revision, perform = () => order(fn, values, revision) } = {}) {
     try {
-        await order(fn, values);
+        await perform();
     } catch (error) {
-        if (!(error instanceof Refused)) {
-            return fail(error);
-        }
-        return say("refused", await refusal(fn, values, error).catch(() => [error.message]));
+        return settle(fn, values, anew, after, error);
     }
-    if (typeof after === "string") {
-        say("done", done(fn, values), after);
-        visit(after);
+    await show("done", done(fn, values), { anew, after });
+}
+
+/**
+ * Says what has become of a command that was refused, or whose answer is lost. The browser may have sent it again by itself: then it was
+ * done, and the refusal is that of the second one. What is so now says more.
+ */
+async function settle(fn, values, anew, after, error) {
+    const isLost = error instanceof Lost;
+    if (!isLost && !(error instanceof Refused)) {
+        throw error;
+    }
+    const [isSo] = isLost || mayBeRepeated(error) ? await areSo([{ fn, ...values }]) : [false];
+    if (isSo) {
+        return show("unsure", [isLost ? `${UNSAID} ` : "", soNow(fn, values)], { anew, after });
+    }
+    if (isLost) {
+        return isSo === null ? fail(error) : show("unsure", [NOT_YET], { anew, isKept: true });
+    }
+    const words = await refusal(fn, values, error).catch(() => [error.message]);
+    return isOfOffice(error) ? show("refused", words, { anew, isKept: true }) : say("refused", words);
+}
+
+/** Whether what was refused may have been done before, by the same request. */
+const mayBeRepeated = ({ code }) => (code >= 2 && code <= 31) || code === 67;
+
+/** Whether a refusal says something of the office, and not of the caller or of the request. */
+const isOfOffice = ({ code }) => code < 60 || code === 67;
+
+/** Says what has happened, and shows the page as it is now, or another one. What is typed in the form is kept if it can be sent again. */
+async function show(kind, nodes, { anew, after, isKept = false }) {
+    say(kind, nodes, after);
+    if (after === undefined) {
+        await anew(isKept);
     } else {
-        say("done", done(fn, values));
-        await after?.();
+        visit(after);
     }
 }
 
@@ -121,6 +151,9 @@ async function pressed(control, element, perform) {
     }
 }
 
+/** What is said if a search finds nothing. */
+export const NONE_FOUND = "No name has this text in it. Capital and small letters are different here.";
+
 /** Returns a form that shows the names of a page that have a text in them. */
 export function searchForm(segment, contains) {
     return form(`Search ${segment}`, [field("Name contains", "contains", { value: contains, type: "search" })], "Search",
@@ -176,7 +209,7 @@ export function folded(names, show, label, most = 10) {
 }
 
 /** Returns a picture that the front draws, or a line that says why there is none. */
-export function drawn(query, about, drawing = picture(query)) {
+export function drawn(query, about, drawing = new Reading().picture(query)) {
     const holder = h("div", { class: "picture" }, h("p", { class: "quiet" }, "The picture is being drawn."));
     const without = (text) => holder.replaceWith(h("p", { class: "quiet" }, text));
     drawing.then((blob) => {

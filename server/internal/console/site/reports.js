@@ -1,7 +1,7 @@
 /** Reports: shown to be read, printed and signed, or as files, each by a ticket for one download. */
 
 import { visit } from "./address.js";
-import { linesOf, Refused, report, who } from "./api.js";
+import { Refused, report, reportLines, who } from "./api.js";
 import { say } from "./notice.js";
 import { button, fail, field, form, section, table } from "./parts.js";
 import { brief, counted, h, hashOf, link, name, time } from "./text.js";
@@ -53,7 +53,7 @@ export async function reportPage([segment], { query }) {
     if (segment === "difference") {
         return differencePage();
     }
-    const told = REPORTS[segment];
+    const told = Object.hasOwn(REPORTS, segment) ? REPORTS[segment] : null;
     if (!told) {
         return [h("h1", {}, "Report ", name(segment)), h("p", {}, "There is no such report.")];
     }
@@ -92,7 +92,7 @@ function filterForm(segment, told, query) {
 async function shown(segment, told, chosen, query) {
     const most = query.all ? MOST_SHOWN : SHOWN;
     const made = await report(segment, { ...chosen, format: "lines", limit: most });
-    const lines = await linesOf(made.ticket);
+    const lines = await reportLines(made.ticket);
     const cells = (line) => JSON.parse(line).map((cell) => brief(segment === "room" ? KINDS[cell] ?? cell : cell));
     const rows = lines.map((line) => (made.columns ? cells(line) : [h("span", { class: "mono" }, brief(line))]));
     const more = { ...chosen, all: "yes" };

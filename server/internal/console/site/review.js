@@ -1,6 +1,6 @@
 /** Review: a recertification of who has what. It is in this page alone until the reviewer saves it to a file. */
 
-import { askAll, endReview, everything, may } from "./api.js";
+import { endReview, Lost, may, readTogether, record } from "./api.js";
 import { download } from "./files.js";
 import { say } from "./notice.js";
 import { button, deliberate, field, form, section, table, Unfit } from "./parts.js";
@@ -45,9 +45,8 @@ function beginForm(anew) {
         form("Begin a review", inputs, "Begin", async (values) => {
             const chosen = people.querySelector("input").files[0];
             const found = chosen || values.whom === "people" ? peopleOf(await textOf(chosen)) : new Map();
-            review = { name: reviewName(values.name), begun: new Date().toISOString(), ended: null, people: found,
-                ...await chosenBy(values.whom, values.which, found) };
-            await fill(anew);
+            const begun = { name: reviewName(values.name), begun: new Date().toISOString(), ended: null, people: found };
+            await fill(anew, async (reading) => ({ ...begun, ...await chosenBy(values.whom, values.which, found, reading) }));
         }),
     ];
 }
@@ -56,25 +55,22 @@ function openForm(anew) {
     const saving = file("File of a review", "file", ".json,application/json");
     return form("Go on with a review", [saving], "Open", async () => {
         const found = opened(await textOf(saving.querySelector("input").files[0]));
-        if (!found.ended) {
-            await compare(found);
-        }
-        review = found;
-        await fill(anew);
+        await fill(anew, async (reading) => (found.ended ? found : compared(found, reading)));
     });
 }
 
 const newLine = (row, isNew = false) => ({ user: row.user, role: row.role, decision: "", note: "", state: "", isNew });
 
 /** Returns the users that are chosen, and a line for each of their assignments. */
-async function chosenBy(whom, which, people) {
+async function chosenBy(whom, which, people, reading) {
     if (["role", "only", "contains"].includes(whom) && which === "") {
         throw new Unfit("Say which role, or which part of a name.");
     }
     const only = whom === "only" ? which : "";
-    const users = new Set(whom === "people" ? people.keys() : whom === "all" ? await everything("users")
-        : whom === "contains" ? await everything("users", { contains: which }) : (await everything("assignments", { role: which })).map((row) => row.user));
-    const lines = (await everything("assignments", only ? { role: only } : {})).filter((row) => users.has(row.user)).map((row) => newLine(row));
+    const chosen = ["role", "only"].includes(whom) ? ["assignments", { role: which }] : ["users", whom === "contains" ? { contains: which } : {}];
+    const [rows, assignments] = await reading.lists(chosen, ["assignments", only ? { role: only } : {}]);
+    const users = new Set(whom === "people" ? people.keys() : rows.map((row) => row.user ?? row));
+    const lines = assignments.filter((row) => users.has(row.user)).map((row) => newLine(row));
     if (lines.length === 0) {
         throw new Unfit("Nobody whom you have chosen is assigned to a role.");
     }
@@ -84,10 +80,11 @@ async function chosenBy(whom, which, people) {
     return { only, users: [...users], lines };
 }
 
-/** Compares a review that was saved with what the office has now. */
-async function compare(found) {
+/** Returns a review that was saved, compared with what the office has now. */
+async function compared(file, reading) {
+    const found = { ...file, lines: file.lines.map((line) => ({ ...line })) };
     const users = new Set(found.users);
-    const rows = (await everything("assignments", found.only ? { role: found.only } : {})).filter((row) => users.has(row.user));
+    const rows = (await reading.everything("assignments", found.only ? { role: found.only } : {})).filter((row) => users.has(row.user));
     const keyOf = (one) => JSON.stringify([one.user, one.role]);
     const now = new Set(rows.map(keyOf));
     const known = new Map(found.lines.map((line) => [keyOf(line), line]));
@@ -104,14 +101,22 @@ async function compare(found) {
             Object.assign(line, newLine(row, true)); // Somebody has assigned it again.
         }
     }
+    return found;
 }
 
-/** Asks for the permissions of the roles, and shows the review. */
-async function fill(anew) {
-    const roles = [...new Set(review.lines.map((line) => line.role))];
-    const answers = may("rolePermissions") ? await askAll(roles.map((one) => ({ fn: "rolePermissions", role: one }))) : [];
-    review.permissions = new Map(roles.map((one, i) => [one, (answers[i]?.value ?? []).map(([object, operation]) => [operation, object])]));
-    Object.assign(review, { shown: "all", first: 0 });
+/** Reads a review together with the permissions of its roles, and shows it. */
+async function fill(anew, read) {
+    const [found, { isMixed }] = await readTogether(async (reading) => {
+        const chosen = await read(reading);
+        const roles = [...new Set(chosen.lines.map((line) => line.role))];
+        const answers = await reading.values(...roles.map((one) => ({ fn: "rolePermissions", role: one })));
+        const permissions = new Map(roles.map((one, i) => [one, (answers[i] ?? []).map(([object, operation]) => [operation, object])]));
+        return { ...chosen, permissions, shown: "all", first: 0 };
+    });
+    review = found;
+    if (isMixed) {
+        say("unsure", ["The policy changed while the review was read, so lines may be missing. Close it, and begin again."]);
+    }
     await anew();
 }
 
@@ -210,10 +215,10 @@ function givenInFile(one) {
     return all.slice(0, GIVEN_IN_FILE).join("; ") + (all.length > GIVEN_IN_FILE ? `; and ${all.length - GIVEN_IN_FILE} more` : "");
 }
 
-const RESULTS = { removed: "removed", gone: "no longer assigned" };
+const RESULTS = new Map([["", ""], ["removed", "removed"], ["gone", "no longer assigned"]]);
 
 function resultOf(line) {
-    return line.state === "" ? "" : RESULTS[line.state] ?? `refused: ${line.state}`;
+    return RESULTS.get(line.state) ?? `refused: ${line.state}`;
 }
 
 const list = () => csvOf(review, givenInFile, resultOf);
@@ -287,12 +292,13 @@ const commandOf = (line) => ({ fn: "deassignUser", user: line.user, role: line.r
 /** Tries the next removals over a copy, and does them if that is wanted: the record has the review's name as the reason. */
 function removals(place, anew) {
     const perform = (lines, commands) => async (revision) => {
-        const answers = await performed(commands, revision, review.name);
-        answers?.forEach((answer, i) => {
+        const { answers = [], so = [] } = await performed(commands, revision, review.name);
+        answers.forEach((answer, i) => {
             // 11: it isn't assigned any more. 2 and 4: the user or the role isn't there any more.
             lines[i].state = answer.ok ? "removed" : [2, 4, 11].includes(answer.code) ? "gone" : answer.error;
         });
-        if (answers) {
+        lines.filter((_, i) => so[i]).forEach((line) => { line.state = "gone"; });
+        if (answers.length + so.length > 0) {
             await anew();
         }
     };
@@ -310,6 +316,19 @@ function removals(place, anew) {
     ];
 }
 
+/** Returns the number of the entry with the digest of a list, of which the answer is lost. The record says whether it is there. */
+async function recordedEnd(error, sha256) {
+    if (!(error instanceof Lost && may("record"))) {
+        throw error;
+    }
+    const { entries } = await record({ limit: 50 }).catch(() => { throw error; });
+    const found = entries.find(({ request }) => request.record === "reviewed" && request.sha256 === sha256);
+    if (!found) {
+        throw error;
+    }
+    return found.number;
+}
+
 /** Records that the review has ended, with the digest of its list. */
 function ending(anew) {
     const end = async () => {
@@ -321,8 +340,9 @@ function ending(anew) {
         const sha256 = await digestOf(text);
         const kept = decided("keep").length;
         const removed = review.lines.filter((line) => line.state === "removed").length;
-        const number = await endReview({ review: review.name, sha256, kept, removed, open: review.lines.length - kept - removed });
-        review.ended = { number, sha256 };
+        const values = { review: review.name, sha256, kept, removed, open: review.lines.length - kept - removed };
+        const number = await endReview(values).catch((error) => recordedEnd(error, sha256));
+        Object.assign(review, { ended: { number, sha256 }, isUnsaved: false }); // The list that is downloaded has all of it.
         download(fileName(review, "csv"), "text/csv", text);
         say("done", [`The review has ended: entry ${number} of the record has the SHA-256 digest of the list, which your browser has downloaded.`]);
         await anew();

@@ -1,9 +1,9 @@
 /** The roles: the hierarchy as a tree, and one role with its neighbours, users, permissions and sets. */
 
-import { ask, everything, lists, may, maySome, picture } from "./api.js";
+import { may, maySome } from "./api.js";
 import { browse } from "./browse.js";
 import { Hierarchy } from "./hierarchy.js";
-import { action, awhile, button, command, deliberate, drawn, early, field, form, later, searchForm, section, table } from "./parts.js";
+import { action, awhile, button, command, deliberate, drawn, early, field, form, later, NONE_FOUND, searchForm, section, table } from "./parts.js";
 import { brief, counted, few, h, hashOf, link, name, object, role, set, some, user } from "./text.js";
 
 // The most roles at the top of the hierarchy of which the lower ones are shown too.
@@ -12,9 +12,9 @@ const SHOWN_USERS = 25;
 // How many sets are shown of those that have a role.
 const MOST_SETS = 5;
 
-export async function rolesPage({ query, anew }) {
+export async function rolesPage({ query, reading, anew }) {
     const { contains = "" } = query;
-    const content = contains ? await foundRoles(contains) : await hierarchy();
+    const content = contains ? await foundRoles(contains, reading) : await hierarchy(reading);
     const nodes = [h("h1", {}, "Roles"), section(contains ? "Found" : "Hierarchy", searchForm("roles", contains), content)];
     if (maySome("addRole")) {
         nodes.push(section("Add a role", form("Add a role", [field("Name", "role", { required: true })], "Add",
@@ -23,14 +23,14 @@ export async function rolesPage({ query, anew }) {
     return nodes;
 }
 
-async function foundRoles(contains) {
-    return browse("Roles whose names contain the text", ["Role"], await everything("roles", { contains }), (part) => part.map((one) => [role(one)]),
-        { empty: "There is no such role." });
+async function foundRoles(contains, reading) {
+    return browse("Roles whose names contain the text", ["Role"], await reading.everything("roles", { contains }), (part) => part.map((one) => [role(one)]),
+        { empty: NONE_FOUND });
 }
 
 /** The hierarchy as a tree: at its top the roles without seniors, below each role those that it inherits from. */
-async function hierarchy() {
-    const [roles, edges] = await Promise.all([everything("roles"), everything("inheritances")]);
+async function hierarchy(reading) {
+    const [roles, edges] = await reading.lists(["roles"], ["inheritances"]);
     const juniors = new Map(roles.map((one) => [one, []]));
     const hasSenior = new Set();
     for (const { asc, desc } of edges) {
@@ -62,35 +62,40 @@ function branch(roles, juniors, open) {
     }));
 }
 
-export async function rolePage([text], { anew }) {
+export async function rolePage([text], { reading, anew }) {
     const values = { role: text };
     // Everything is asked for at once, what takes longest first.
-    const drawing = early(picture(values));
-    const authorizing = early(may("authorizedUsers", values) ? ask("authorizedUsers", values) : Promise.resolve(null));
-    const having = early(may("rolePermissions", values) ? ask("rolePermissions", values) : Promise.resolve(null));
-    const [known, inheritances, assignments, granted, fixed, dynamic] = await lists(["roles", values], ["inheritances"], ["assignments", values],
+    const drawing = early(reading.picture(values));
+    const asking = early(reading.values({ fn: "authorizedUsers", ...values }, { fn: "rolePermissions", ...values }));
+    const [known, inheritances, assignments, granted, fixed, dynamic] = await reading.lists(["roles", values], ["inheritances"], ["assignments", values],
         ["grants", values], ["staticSets"], ["dynamicSets"]);
     if (known.length === 0) {
         return [h("h1", {}, "Role ", name(text)), h("p", {}, "There is no such role.")];
     }
-    await awhile([authorizing, having]);
+    await awhile([asking]);
     const seniors = inheritances.filter(({ desc }) => desc === text);
     const juniors = inheritances.filter(({ asc }) => asc === text);
     const met = setsMet(new Hierarchy(inheritances), text, fixed, dynamic);
     return [
         h("h1", {}, "Role ", name(text)), impossible(met.filter((one) => one.isTooMany)),
         may("deleteRole", values) ? h("div", { class: "actions" }, deliberate("Delete", `Delete the role ${text}`,
-            "Delete the role with all of its assignments and grants?", () => command("deleteRole", values, hashOf(["roles"])))) : null,
+            "Delete the role with all of its assignments and grants?",
+            () => command("deleteRole", values, anew, { after: hashOf(["roles"]), revision: reading.revision }))) : null,
         h("div", { class: "columns" },
             section("Inheritance",
                 edges("Senior roles, which inherit from this one", seniors, "asc", "No role inherits from this one.", anew),
                 edges("Junior roles, from which this one inherits", juniors, "desc", "It inherits from no role.", anew),
                 addEdges(text, anew)),
-            section("Neighbours", drawn({ role: text }, `The role with its ${counted(seniors.length, "senior role")}, ${counted(juniors.length, "junior role")} and its separation of duty sets, as in the lists beside it`, drawing))),
-        h("div", { class: "columns" }, later("Users", async () => usersOf(text, assignments.map((row) => row.user), await authorizing, anew)),
+            section("Neighbours", drawn({ role: text }, aboutPicture(seniors, juniors), drawing))),
+        h("div", { class: "columns" }, later("Users", async () => usersOf(text, assignments.map((row) => row.user), (await asking)[0], anew)),
             section("Separation of duty", setsOf(met))),
-        later("Permissions", async () => permissionsOf(text, granted, await having, anew)),
+        later("Permissions", async () => permissionsOf(text, granted, (await asking)[1], anew)),
     ];
+}
+
+function aboutPicture(seniors, juniors) {
+    return `The role with ${counted(seniors.length, "senior role")} and ${counted(juniors.length, "junior role")}, as in the lists beside it, `
+        + "and all separation of duty sets that have one of these roles as a member";
 }
 
 function edges(caption, found, key, empty, anew) {

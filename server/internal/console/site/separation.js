@@ -1,6 +1,6 @@
 /** Separation of duty: the sets, and one set with its members and with those who are near to it. */
 
-import { askAll, lists, may, maySome } from "./api.js";
+import { may, maySome } from "./api.js";
 import { browse } from "./browse.js";
 import { Hierarchy } from "./hierarchy.js";
 import { action, button, command, deliberate, field, form, later, section, table } from "./parts.js";
@@ -13,9 +13,9 @@ const MEANINGS = {
     dynamic: "No session may have as many roles of a dynamic set as its cardinality says.",
 };
 
-export async function separationPage({ anew }) {
+export async function separationPage({ reading, anew }) {
     const kinds = Object.keys(LISTS);
-    const found = await lists(...kinds.map((kind) => [LISTS[kind]]));
+    const found = await reading.lists(...kinds.map((kind) => [LISTS[kind]]));
     const sections = kinds.map(async (kind, i) => {
         const [title, names] = [kind === "static" ? "Static sets" : "Dynamic sets", (one) => [one.set, ...one.roles]];
         const cells = (part) => part.map((one) => [set(kind, one.set), `at most ${few(one.cardinality - 1)} of ${one.roles.length}`, some(one.roles, role)]);
@@ -35,8 +35,9 @@ function createForm(kind, anew) {
         command(`create${PREFIXES[kind]}Set`, { set: values.set, roles: [values.one, values.other], cardinality: 2 }, anew));
 }
 
-export async function setPage([kind, text], { anew }) {
-    const [sets, inheritances] = LISTS[kind] ? await lists([LISTS[kind], { set: text }], ["inheritances"]) : [[], []];
+export async function setPage([kind, text], { reading, anew }) {
+    const isKind = Object.hasOwn(LISTS, kind);
+    const [sets, inheritances] = isKind ? await reading.lists([LISTS[kind], { set: text }], ["inheritances"]) : [[], []];
     const [found] = sets;
     if (!found) {
         return [h("h1", {}, "Set ", name(text ?? "")), h("p", {}, "There is no such set.")];
@@ -51,7 +52,7 @@ export async function setPage([kind, text], { anew }) {
     return [
         h("h1", {}, kind === "static" ? "Static set " : "Dynamic set ", name(text)),
         may(`delete${prefix}Set`) ? h("div", { class: "actions" }, deliberate("Delete", `Delete the set ${text}`, "Delete the set?",
-            () => command(`delete${prefix}Set`, { set: text }, hashOf(["separation"])))) : null,
+            () => command(`delete${prefix}Set`, { set: text }, anew, { after: hashOf(["separation"]), revision: reading.revision }))) : null,
         section("Rule", h("p", {}, kind === "static" ? "A user may be authorized for at most " : "A session may have at most ",
             `${few(cardinality - 1)} of `, some(roles, role), `. The cardinality is ${cardinality}.`),
         impossible.length ? h("p", { class: "warning" }, kind === "static" ? "Nobody can be authorized for a role that includes too many of them: "
@@ -61,13 +62,13 @@ export async function setPage([kind, text], { anew }) {
             (values) => command(`add${prefix}RoleMember`, { set: text, ...values }, anew)) : null,
         may(`set${prefix}SetCardinality`) ? form("Change the cardinality", [field("Cardinality", "cardinality", { type: "number", min: 2, max: 32, value: cardinality, required: true })], "Change",
             (values) => command(`set${prefix}SetCardinality`, { set: text, cardinality: Number(values.cardinality) }, anew)) : null),
-        mayAsk ? later(kind === "static" ? "Who is one role away" : "Who could violate it by activation", () => nearest(kind, found, hierarchy)) : null,
+        mayAsk ? later(kind === "static" ? "Who is one role away" : "Who could violate it by activation", () => nearest(kind, found, hierarchy, reading)) : null,
     ];
 }
 
 /** Users whom a static set bars from a role that others can have, or who have too many roles of a dynamic set for one session. */
-async function nearest(kind, found, hierarchy) {
-    const answers = await askAll(found.roles.map((one) => ({ fn: "authorizedUsers", role: one })));
+async function nearest(kind, found, hierarchy, reading) {
+    const answers = await reading.askAll(found.roles.map((one) => ({ fn: "authorizedUsers", role: one })));
     const held = new Map();
     answers.forEach((answer, i) => (answer.value ?? []).forEach((one) => held.set(one, [...(held.get(one) ?? []), found.roles[i]])));
     const barred = barring(found, hierarchy);

@@ -47,14 +47,17 @@ function partsOf(text) {
     return parts;
 }
 
+// A word that is broken rather than making a table wider than the page.
+const LONG = /\S{25}/;
+
 /** Returns a name, isolated from the direction of the text around it. */
 export function name(text) {
-    return h("bdi", {}, partsOf(text).map((part) => part.text ?? h("span", { class: "code" }, part.code)));
+    return h("bdi", { class: LONG.test(text) ? "long" : null }, partsOf(text).map((part) => part.text ?? h("span", { class: "code" }, part.code)));
 }
 
 /** Returns a name for a cell or a link: as a text if it has nothing that would need isolation, since pages have many of them. */
 export function brief(text) {
-    return USUAL.test(text) || text === "" ? text : name(text);
+    return (USUAL.test(text) && !LONG.test(text)) || text === "" ? text : name(text);
 }
 
 /** Returns a name as a text, for titles and labels. */

@@ -1,23 +1,22 @@
 /** The users, and one user: roles, permissions with the roles that give them, sessions, nearness to each separation of duty set. */
 
-import { ask, askAll, endSession, lists, may, maySome } from "./api.js";
+import { endSession, may, maySome } from "./api.js";
 import { browse } from "./browse.js";
 import { Hierarchy } from "./hierarchy.js";
-import { say } from "./notice.js";
-import { action, awhile, button, command, deliberate, early, fail, field, folded, form, later, searchForm, section, table } from "./parts.js";
+import { action, awhile, button, command, deliberate, early, field, folded, form, later, NONE_FOUND, searchForm, section, table } from "./parts.js";
 import { brief, counted, h, hashOf, link, listed, name, object, plain, role, set, some, time, user } from "./text.js";
 
 const SHOWN_OF_USER = 20;
 
 const lock = () => h("span", { class: "mark no" }, "locked");
 
-export async function usersPage({ query, anew }) {
+export async function usersPage({ query, reading, anew }) {
     const { contains = "" } = query;
-    const [users, locked] = await lists(["users", { contains }], ["locked", { contains }]);
+    const [users, locked] = await reading.lists(["users", { contains }], ["locked", { contains }]);
     const isLocked = new Set(locked);
     const nodes = [h("h1", {}, "Users"), section("Find a user", searchForm("users", contains),
         await browse(contains ? `Users whose names contain “${plain(contains)}”` : "Users in the order of their names", ["User", "Condition"], users,
-            (part) => part.map((one) => [user(one), isLocked.has(one) ? lock() : ""]), { empty: contains ? "There is no such user." : "There is no user yet." }))];
+            (part) => part.map((one) => [user(one), isLocked.has(one) ? lock() : ""]), { empty: contains ? NONE_FOUND : "There is no user yet." }))];
     if (maySome("addUser")) {
         nodes.push(section("Add a user", form("Add a user", [field("Name", "user", { required: true })], "Add",
             (values) => command("addUser", values, anew))));
@@ -25,25 +24,27 @@ export async function usersPage({ query, anew }) {
     return nodes;
 }
 
-export async function userPage([text], { anew }) {
+export async function userPage([text], { reading, anew }) {
     const values = { user: text };
-    const authorizing = may("authorizedRoles", values) ? early(ask("authorizedRoles", values)) : null;
-    const having = may("userPermissions", values) ? early(ask("userPermissions", values)) : null;
-    const [known, locked, assignments, sessions, inheritances, fixed, dynamic] = await lists(["users", values], ["locked", values], ["assignments", values],
-        ["sessions", values], ["inheritances"], ["staticSets"], ["dynamicSets"]);
+    const having = early(reading.values({ fn: "userPermissions", ...values }));
+    const [[known, locked, assignments, sessions, inheritances, fixed, dynamic], [authorized]] = await Promise.all([
+        reading.lists(["users", values], ["locked", values], ["assignments", values], ["sessions", values], ["inheritances"],
+            ["staticSets"], ["dynamicSets"]),
+        reading.values({ fn: "authorizedRoles", ...values }),
+    ]);
     if (known.length === 0) {
         return [h("h1", {}, "User ", name(text)), h("p", {}, "There is no such user.")];
     }
-    const authorized = await authorizing;
     const assigned = assignments.map((row) => row.role);
     const isLocked = locked.length > 0;
     const hierarchy = new Hierarchy(inheritances);
-    const permissions = having ? early(having.then((pairs) => permissionsOf(text, authorized, pairs))) : null;
+    const permissions = may("userPermissions", values)
+        ? early(having.then(([pairs]) => permissionsOf(text, authorized, pairs ?? [], reading))) : null;
     await awhile([permissions]);
     return [
         h("h1", {}, "User ", name(text), isLocked ? [" ", lock()] : null),
         isLocked ? h("p", {}, name(text), " is locked: no session is possible.") : null,
-        actionsOf(text, isLocked, anew),
+        actionsOf(text, isLocked, reading, anew),
         h("div", { class: "columns" }, rolesSection(text, assigned, authorized, (one) => hierarchy.violated(dynamic, one), anew),
             authorized ? section("Separation of duty", nearness(text, authorized, hierarchy, fixed, dynamic)) : null),
         permissions ? later("Permissions", () => permissions) : null,
@@ -51,7 +52,7 @@ export async function userPage([text], { anew }) {
     ];
 }
 
-function actionsOf(text, isLocked, anew) {
+function actionsOf(text, isLocked, reading, anew) {
     const values = { user: text };
     const actions = [];
     if (isLocked && may("unlockUserAccount", values)) {
@@ -62,9 +63,11 @@ function actionsOf(text, isLocked, anew) {
     }
     if (may("deleteUser", values)) {
         actions.push(deliberate("Delete", `Delete ${text}`, "Delete the user with all assignments?",
-            () => command("deleteUser", values, hashOf(["users"]))));
+            () => command("deleteUser", values, anew, { after: hashOf(["users"]), revision: reading.revision })));
     }
-    actions.push(link(["explain", text], "Explain what this user may do"));
+    if (maySome("decideByUser")) {
+        actions.push(link(["explain", text], "Explain what this user may do"));
+    }
     return h("div", { class: "actions" }, actions);
 }
 
@@ -112,34 +115,29 @@ function lineOf(hierarchy, kind, found, held) {
         const which = cardinality === 2 && held.length === 2 ? "both" : `${cardinality} of them`;
         return [begin, kind === "static" ? `Nobody may have ${which}.` : `No session may have ${which}.`];
     }
-    const more = left === 1 ? null : [`May have ${left - 1} more of `, some(roles.filter((one) => !held.includes(one)), role), ". "];
+    // A dynamic set limits what a session has, and nobody's assignments.
+    const who = kind === "static" ? "May" : `A session with ${held.length === 1 ? "it" : "them"} may`;
+    const more = left === 1 ? null : [`${who} have ${left - 1} more of `, some(roles.filter((one) => !held.includes(one)), role), ". "];
     const barred = hierarchy.barred(found, held);
     return [begin, more, barred.length ? [kind === "static" ? "Can't become " : "No session may also have ", some(barred, role, "or"), "."] : null];
 }
 
 /** A user's permissions, each with the roles that give it, if the caller may know them. */
-function permissionsOf(text, authorized, pairs) {
+function permissionsOf(text, authorized, pairs, reading) {
     const has = new Set(authorized ?? []);
     const cells = async (part) => {
-        const givers = may("permissionRoles") ? await askAll(part.map(([on, operation]) => ({ fn: "permissionRoles", object: on, operation }))) : [];
+        const givers = await reading.values(...part.map(([on, operation]) => ({ fn: "permissionRoles", object: on, operation })));
         return part.map(([on, operation], i) => [
-            object(on), brief(operation), some((givers[i]?.value ?? []).filter((one) => has.has(one)), role, "and", 3),
-            action(link(["explain", text, operation, on], "Why")),
+            object(on), brief(operation), some((givers[i] ?? []).filter((one) => has.has(one)), role, "and", 3),
+            action(maySome("decideByUser") ? link(["explain", text, operation, on], "Why") : null),
         ]);
     };
     return browse("Permissions through all roles", ["Object", "Operation", "Given by", ""], pairs, cells, { empty: "No permission.", size: SHOWN_OF_USER, names: (pair) => pair });
 }
 
 function sessionsOf(text, sessions, anew) {
-    const end = (one) => button("End", `End the session ${one.session.slice(0, 8)}`, async () => {
-        try {
-            await endSession(one.session);
-        } catch (error) {
-            return fail(error, { user: text });
-        }
-        say("done", ["A session of ", user(text), " has ended."]);
-        await anew();
-    });
+    const end = (one) => button("End", `End the session ${one.session.slice(0, 8)}`,
+        () => command("deleteSession", { user: text, session: one.session }, anew, { perform: () => endSession(one.session) }));
     const cells = (one) => [
         h("span", { class: "mono" }, one.session.slice(0, 12)), one.roles.length ? listed(one.roles.map(role)) : h("span", { class: "quiet" }, "none"),
         { class: "time", child: time(one.since) }, { class: "time", child: time(one.used) },

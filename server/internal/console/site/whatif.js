@@ -1,7 +1,8 @@
 /** What if: commands are tried over a copy of the office by the proved program, and done for real if that is wanted. */
 
 import { doAll, Lost, may, Refused, whatIf } from "./api.js";
-import { say } from "./notice.js";
+import { NOT_YET, say, UNSAID } from "./notice.js";
+import { areSo } from "./outcome.js";
 import { deliberate, fail, field, form, number, section, table, Unfit } from "./parts.js";
 import { counted, h, json, name, object, role, user } from "./text.js";
 import { done, short, wanted } from "./words.js";
@@ -125,28 +126,63 @@ function actionOf(accepted, result, perform) {
 
 /** Does commands in the office itself, and shows its answers in a place. */
 async function real(lines, revision, place) {
-    const answers = await performed(lines, revision);
+    const { answers, so } = await performed(lines, revision);
     if (answers) {
         place.replaceChildren(section("Done", answersTable("What the office has answered", lines, answers)));
+    } else if (so) {
+        place.replaceChildren(section("What is so now", outcomeTable(lines, so)));
     }
 }
 
-/** Does commands if the policy still has a revision, and says what came of it. Without an answer it returns nothing. */
+/**
+ * Does commands if the policy still has a revision, and says what has come of it. Returns the answers; or, if they are lost, whether what
+ * each command asks for is so now.
+ */
 export async function performed(lines, revision, why) {
     let answers;
     try {
         answers = await doAll(lines.map((line) => JSON.stringify(line)), revision, why);
     } catch (error) {
-        if (error instanceof Refused && error.code === 67) {
-            say("refused", ["Nothing was done: somebody has changed the policy since this was tried. Try it again, and look at what it would change now."]);
-            return null;
+        if (error instanceof Lost || (error instanceof Refused && error.code === 67)) {
+            return unanswered(lines, error);
         }
         await fail(error);
-        return null;
+        return {};
     }
     const count = answers.filter((one) => one.ok).length;
     say(count === answers.length ? "done" : "refused", [`The office has done ${count} of ${counted(answers.length, "command")}.`]);
-    return answers;
+    return { answers };
+}
+
+/**
+ * Says what is so now of commands whose answers are lost. The browser may have sent them again by itself: if the first ones were done, the
+ * policy has another revision for the second ones.
+ */
+async function unanswered(lines, error) {
+    // The lists have sessions by their digests, and no command names one so.
+    const so = await areSo(lines.map((line) => ("session" in line ? { fn: "" } : line)));
+    const isLost = error instanceof Lost;
+    if (isLost && so.every((one) => one === null)) {
+        await fail(error);
+        return {};
+    }
+    if (!isLost && so.every((one) => one === false)) {
+        say("refused", ["Nothing was done: somebody has changed the policy since this was tried. ",
+            "Try it again, and look at what it would change now."]);
+        return {};
+    }
+    const count = so.filter((one) => one === true).length;
+    const others = isLost ? " Look again in two minutes, before you repeat the others." : " Try the others again.";
+    say("unsure", count === 0 ? [NOT_YET] : [isLost ? UNSAID : "The policy has changed since this was tried.",
+        ` Of ${counted(so.length, "command")}, ${count} ${count === 1 ? "is" : "are"} so now, done by this click or by somebody else.`,
+        count < so.length ? others : null]);
+    return { so };
+}
+
+function outcomeTable(lines, so) {
+    const mark = (is) => h("span", { class: is ? "mark yes" : "mark no" }, is === null ? "not known" : is ? "is so now" : "is not so now");
+    const rows = lines.map(({ fn, ...values }, i) => [number(i + 1), mark(so[i]), done(fn, values)]);
+    return table("What the commands ask for", [{ class: "number", child: "Number" }, "Now", "Command"], rows);
 }
 
 function answersTable(caption, lines, answers) {

@@ -1,6 +1,6 @@
 /** Refusals and commands in words. A sentence is a list of texts and of names. */
 
-import { explain, lists } from "./api.js";
+import { Reading } from "./api.js";
 import { few, listed, name, object, role, set, user } from "./text.js";
 
 const permission = (v) => [name(v.operation), " on ", object(v.object)];
@@ -90,6 +90,8 @@ for (const [kind, word] of [["Ssd", "static"], ["Dsd", "dynamic"]]) {
 /** The commands, in the order of their names. */
 export const FUNCTIONS = Object.keys(COMMANDS).sort();
 
+const wordsOf = (fn) => (Object.hasOwn(COMMANDS, fn) ? COMMANDS[fn] : null);
+
 function ofUser(v) {
     return v.user === undefined ? "" : [" of ", user(v.user)];
 }
@@ -100,12 +102,17 @@ function rolesOf(roles) {
 
 /** Returns what an accepted command has done. */
 export function done(fn, values) {
-    return [...(COMMANDS[fn]?.[0](values) ?? [fn]), "."];
+    return [...(wordsOf(fn)?.[0](values) ?? [fn]), "."];
+}
+
+/** Returns what is so now, though it isn't known who has done it. */
+export function soNow(fn, values) {
+    return ["It is so now: ", done(fn, values), " It may have been done by this click or by somebody else."];
 }
 
 /** Returns what a refused command should have done. */
 export function wanted(fn, values) {
-    return COMMANDS[fn]?.[1](values) ?? [fn];
+    return wordsOf(fn)?.[1](values) ?? [fn];
 }
 
 /** Why a command is refused, by the number of the refusal. */
@@ -148,7 +155,7 @@ const REASONS = {
     64: () => ["you have too many requests under way; try again"],
     65: () => ["the front doesn't take requests of this page's address; its option --origin names those that it takes"],
     66: () => ["the front doesn't take requests sent to this name"],
-    67: () => ["somebody has changed the policy meanwhile"],
+    67: () => ["somebody has changed the policy since this page was read, and it is shown again as it is now"],
 };
 
 /** Returns " allows one of auditor, teller". */
@@ -186,7 +193,7 @@ function conflictOf(values, conflict, isNew) {
 
 /** Why separation of duty refuses a command: the front explains it with all sets and users, as far as the caller may know them. */
 async function separated(fn, values, refused, kind) {
-    const told = await explain({ command: { fn, ...values } }).catch(() => ({}));
+    const told = await new Reading().explain({ command: { fn, ...values } }).catch(() => ({}));
     const conflicts = (told.conflicts ?? []).slice(0, MOST_SETS);
     if (conflicts.length === 0) {
         return [`the ${kind} separation of duty set `, name(refused.set), " forbids it"];
@@ -224,6 +231,6 @@ export function short(answer, values) {
 
 /** Names that a field suggests: those of a list that have a text. */
 export async function suggestions(listName, text) {
-    const [found] = await lists([listName, { contains: text, limit: 20 }]);
+    const found = await new Reading().everything(listName, { contains: text, limit: 20 });
     return found.map((row) => (typeof row === "string" ? row : (row.set ?? row.operation)));
 }
