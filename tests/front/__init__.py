@@ -36,6 +36,7 @@
     recordfaults    disks under the record that fail or are full
     recordorder     the order of writes and syncs, by strace
     signed      heads that another machine signs, and the commands of docs/howto/heads.md
+    evidence    one file of all signed heads, journals beside files, copies and adoptions that lie, and what verify leaves
     verifying   what the front finds by itself in a record that was changed, and an office without its record
     backups     parts that a backup has already, and several backups at once
     callkills   commands about a record are killed at each system call

@@ -13,10 +13,12 @@ import time
 
 import pytest
 
+from pages import markdown
 from program.bench import PROGRAM as RBAC
 from program.bench import TESTS
 
 from .program import HOST, Front, over_tls, refused_start, until
+from .recorded import digest
 from .sources import keys_of_functions
 
 # Makes two authorities of the same name, and certificates: CN by the first name, and what is wrong by the second.
@@ -40,6 +42,8 @@ make serving ca /CN=shop 'extendedKeyUsage=serverAuth\n' '-days 2'
 make foreign other /CN=shop "$both" '-days 2'
 openssl req -x509 $ec -keyout own.key -out own.crt -subj /CN=shop -days 2
 make expired ca /CN=shop "$both" '-days 0'
+make longest ca /CN=$(printf '%059d' 0) "$both" '-days 2'
+make longer ca /CN=$(printf '%060d' 0) "$both" '-days 2'
 """
 
 # The operations that are no functions.
@@ -113,6 +117,11 @@ def check_tokens(bench):
         for role, status in [("clerk", 200), ("boss", 403)]:
             given = front.ask("assignUser", {"user": "ann", "role": role}, **bearer("secret"))
             bench.same(f"desk: {role}", given[0], status)
+        given = front.ask("createSession", {"user": "ann", "roles": ["boss"], "session": "secret name"}, **bearer("secret"))
+        bench.same("desk: a session", given[0], 403)
+        lines = f'{json.dumps({"fn": "assignUser", "user": "ann", "role": "clerk"})}\n{json.dumps({"fn": "deleteUser", "user": "ann"})}\n'
+        given = front.exchange("POST", "/v1/batch", lines, Office_Reason="ticket 7", **bearer("secret"))
+        bench.same("desk: a batch", given[0], 403)
         odd = b'{"user":"ann","role":"boss","ROLE":"clerk","Role":"clerk"}'
         bench.same("ROLE for role", front.ask("assignUser", odd, **bearer("secret"))[0], 403)
         bench.same(
@@ -126,6 +135,13 @@ def check_tokens(bench):
     known, unknown = refusals(front)
     bench.same("callers in their file", ({line["caller"] for line in known}, {line["status"] for line in known}), ({"token:desk"}, {403}))
     bench.same("others in theirs", ({line.get("caller", "") for line in unknown}, {line["status"] for line in unknown}), ({""}, {401}))
+    asked = [line.get("asked") for line in known]
+    for what, wanted in {
+        "an assignment": {"function": "assignUser", "user": "ann", "role": "boss"},
+        "a session": {"function": "createSession", "user": "ann", "roles": ["boss"], "session": digest("secret name")},
+        "the line of a batch, and why": {"function": "deleteUser", "user": "ann", "reason": "ticket 7"},
+    }.items():
+        bench.same(f"what was asked for: {what}", wanted in asked, True)
     lines = known + unknown
     bench.same("what is noted", sorted({line["status"] for line in lines}), [401, 403])
     bench.same("callers in it", sorted({line.get("caller", "") for line in lines}), ["", "token:desk"])
@@ -171,6 +187,8 @@ def check_certificates(bench):
             ("another authority of the same name", "foreign", {}, None),
             ("one that signs itself", "own", {}, None),
             ("an expired one", "expired", {}, None),
+            ("a name of 64 bytes with its kind", "longest", {}, 403),
+            ("a longer one", "longer", {}, 401),
             ("a token", "", bearer("secret"), 409),
             ("a good one and a token", "shop", bearer("secret"), 409),
             ("a good one and a wrong token", "shop", bearer("wrong"), 401),
@@ -269,8 +287,32 @@ def check_jwts(bench):
             ("HS256 with the public key", f"{forged}.{encoded(mac)}", 401),
             ("over 8 kB", jwt(bench, {**good, "x": "x" * 6_200}), 401),
             ("almost 8 kB", jwt(bench, {**good, "x": "x" * 5_500}), 409),
+            ("a space behind the head", jwt(bench, good).replace(".", ". ", 1), 401),
+            ("a space in the signature", jwt(bench, good)[:-9] + " " + jwt(bench, good)[-9:], 401),
+            ("a tab at the end", jwt(bench, good) + "\t.", 401),
+            ("a name of 64 bytes with its kind", jwt(bench, {**good, "sub": "x" * 59}), 403),
+            ("a longer one", jwt(bench, {**good, "sub": "x" * 60}), 401),
         ]:
             bench.same(f"a JWT: {what}", front.ask("assignedRoles", {"user": "ann"}, **bearer(token))[0], status)
+
+
+def check_without_identity(bench):
+    """What is answered to somebody who doesn't show who asks is what callers.md names, and nothing else."""
+    with secured(bench, "--public-url", "https://office.example", rights={"token:admin": [("reports", "office")]}) as front:
+        ticket = json.loads(front.exchange("POST", "/reports/room", "", **bearer("another"))[1])["value"]["ticket"]
+        for method, path, status in [
+            ("GET", "/healthz", 200), ("GET", "/console/", 200), ("GET", "/", 301), ("GET", f"/reports/{ticket}", 200),
+            ("GET", f"/reports/{ticket}", 404), ("GET", f"/reports/{'0' * 64}", 404), ("GET", "/.well-known/authzen-configuration", 200),
+            ("OPTIONS", "*", 200), ("POST", "/access/v1/evaluation", 401), ("POST", "/access/v1/evaluations", 401), ("GET", "/metrics", 401),
+            ("HEAD", "/metrics", 401), ("POST", "/reports/room", 401), ("GET", "/lists/users", 401), ("GET", "/nothing", 401),
+            ("POST", "/v1/checkAccess", 401), ("POST", "/decide", 401), ("GET", "/watch", 401), ("GET", "/record", 401),
+        ]:  # fmt: skip
+            bench.same(f"{method} {path[:24]}", front.exchange(method, path)[0], status)
+        (said,) = re.findall(r"- \*\*Requests without identity\*\* (.*?)All others get 401", markdown.in_one_line(markdown.page("howto/callers.md")))
+        for words in ("/healthz", "/console/", "`/` leads (301)", "/reports/TICKET", "/.well-known/authzen-configuration", "OPTIONS *"):
+            bench.same(f"the page names {words}", words in said, True)
+        old = front.raw(b"POST /v1/addUser HTTP/1.0\r\nTransfer-Encoding: chunked\r\n\r\n0\r\n\r\nGET /healthz HTTP/1.1\r\nHost: a\r\n\r\n")
+        bench.same("a coding in HTTP/1.0", (old[:12], old.count(b"HTTP/1")), (b"HTTP/1.0 401", 1))
 
 
 def check_sockets(bench):

@@ -2,10 +2,12 @@
 
 import re
 
+import pytest
+
 from pages import markdown
 from program.bench import TESTS
 
-from .identities import secured
+from .monitored import used_front
 from .program import refused_start
 
 PAGES = {name: markdown.page(name) for name in ("reference/front.md", "howto/callers.md", "howto/cluster.md")}
@@ -13,10 +15,10 @@ PAGES = {name: markdown.page(name) for name in ("reference/front.md", "howto/cal
 # Options of other programs on the pages: of etcd, etcdctl, curl, useradd, systemctl, bin/node and the tests; and of `record adopt` and
 # `setup`.
 OTHERS = {
-    "advertise-client-urls", "build", "by", "cacert", "data-dir", "dns", "endpoints", "gate", "home-dir", "initial-advertise-peer-urls",
-    "initial-cluster", "initial-cluster-state", "initial-cluster-token", "listen-client-urls", "listen-peer-urls", "long", "now", "part",
-    "peer-urls", "prefix", "print-value-only", "quota-backend-bytes", "reason", "retry", "retry-all-errors", "shell", "system", "unix-socket",
-    "version",
+    "advertise-client-urls", "build", "by", "cacert", "cert-file", "data-dir", "dns", "endpoints", "force-new-cluster", "gate", "home-dir",
+    "initial-advertise-peer-urls", "initial-cluster", "initial-cluster-state", "initial-cluster-token", "key-file", "listen-client-urls",
+    "listen-peer-urls", "long", "now", "part", "peer-", "peer-urls", "prefix", "print-value-only", "quota-backend-bytes", "reason", "retry",
+    "retry-all-errors", "shell", "system", "trusted-ca-file", "unix-socket", "version", "without-later-commands",
 }  # fmt: skip
 
 # Options whose default depends on the machine, or on the kind of office.
@@ -81,8 +83,8 @@ def metrics_on(*pages):
     return set(re.findall(r"rbac_node_\w+", "".join(PAGES[page] for page in pages)))
 
 
+@pytest.mark.needs("openssl")
 def check_metrics(bench):
     """The page lists each metric of the front, and no other one."""
-    with secured(bench, "--log-decisions", "0.5") as front:
-        text = front.exchange("GET", "/metrics", Authorization="Bearer another")[1]
+    (text,) = used_front(bench)
     bench.same("metrics of the page", sorted(metrics_on("reference/front.md", "howto/callers.md")), sorted(metrics_of(text)))

@@ -4,16 +4,18 @@ serves, as Prometheus itself reads it."""
 import json
 import re
 import signal
+import ssl
 import subprocess
 import urllib.parse
 import urllib.request
+from pathlib import Path
 
 import pytest
 
 from program.bench import SECONDS, TESTS
 from program.web import free_port
 
-from .identities import bearer, secured
+from .identities import bearer, openssl, secured
 from .program import HOST, Front, over_tls, until
 from .setups import set_up
 
@@ -21,9 +23,13 @@ FOLDER = TESTS.parent / "deploy/prometheus"
 RULES, DASHBOARD = FOLDER / "alerts.yml", FOLDER / "dashboard.json"
 ADMIN = bearer("another")
 
+# What makes a key, and a certificate that ends after some days.
+CERTIFICATE = """openssl req -x509 -newkey ec -pkeyopt ec_paramgen_curve:P-256 -nodes -subj /CN=localhost -days {days} \\
+    -addext subjectAltName=DNS:localhost,IP:127.0.0.1 -keyout {name}.key -out {name}.crt 2> made"""
+
 # What a front serves has these labels besides, or they are of histograms. Prometheus makes the metric itself.
 OF_PROMETHEUS, BY_PROMETHEUS = {"instance", "job", "le"}, {"up"}
-WORDS_OF_PROMQL = {"sum", "by", "rate", "increase", "histogram_quantile", "and", "label_values"}
+WORDS_OF_PROMQL = {"sum", "by", "rate", "increase", "histogram_quantile", "and", "label_values", "time"}
 
 # For each alert series that raise it, and series that don't, as promtool writes them: one value a minute.
 HOUR = "x60"
@@ -62,6 +68,16 @@ ALERTS = {
         {'rbac_node_replay_starts_total{replay="office"}': f"9{HOUR}"},
     ),
     "ManyWaiting": ({'rbac_node_replay_waiting{replay="office"}': f"1001{HOUR}"}, {'rbac_node_replay_waiting{replay="office"}': f"1000{HOUR}"}),
+    "OfficeNearlyFull": (
+        {'rbac_node_room{kind="session"}': f"200{HOUR}", 'rbac_node_limit{kind="session"}': f"1000{HOUR}"},
+        {'rbac_node_room{kind="session"}': f"201{HOUR}", 'rbac_node_limit{kind="session"}': f"1000{HOUR}",
+         'rbac_node_room{kind="member"}': f"0{HOUR}", 'rbac_node_limit{kind="member"}': f"32{HOUR}",
+         'rbac_node_room{kind="activeRole"}': f"0{HOUR}", 'rbac_node_limit{kind="activeRole"}': f"32{HOUR}"},
+    ),
+    "CertificateEnds": (
+        {'rbac_node_certificate_not_after_seconds{option="tls-cert"}': f"2590000{HOUR}"},
+        {'rbac_node_certificate_not_after_seconds{option="tls-cert"}': f"2600000{HOUR}"},
+    ),
     "FewFilesLeft": (
         {'process_open_fds{job="rbac"}': f"900{HOUR}", 'process_max_fds{job="rbac"}': f"1000{HOUR}"},
         {'process_open_fds{job="rbac"}': f"700{HOUR}", 'process_max_fds{job="rbac"}': f"1000{HOUR}"},
@@ -124,13 +140,46 @@ def check_rules(bench):
 
 
 def used_front(bench):
-    """A front that has answered something of each sort."""
-    front = secured(bench, "--log-decisions", "1")
+    """A front with a certificate, which has answered something of each sort at a socket."""
+    openssl(bench, CERTIFICATE.format(name="front", days=40))
+    files = [word for name in ("cert front.crt", "key front.key", "ca front.crt") for option, path in [name.split()] for word in (f"--tls-{option}", bench.path(path))]
+    front = secured(bench, "--log-decisions", "1", *files, listen=f"unix:{bench.path('socket')}")
     with front:
         front.ask("addUser", {"user": "ann"}, **ADMIN)
         front.ask("checkAccess", {"session": "s", "operation": "o", "object": "x"}, **ADMIN)
         front.ask("addUser", {"user": "bob"})
         yield front.exchange("GET", "/metrics", **ADMIN)[1]
+
+
+def ends_of(front, **fields):
+    """When certificates end, by the metrics."""
+    text = front.exchange("GET", "/metrics", **fields)[1]
+    return {option: int(float(value)) for option, value in re.findall(r'^rbac_node_certificate_not_after_seconds{option="([\w-]+)"} (\S+)$', text, re.M)}
+
+
+@pytest.mark.needs("openssl")
+def check_certificates(bench):
+    """The metrics say when the certificates of the front and of its clients' authority end, also after others have taken their place, and of
+    several the one that ends first. A file that can't be read ends at 0."""
+    for name, days in (("front", 40), ("other", 20), ("third", 60)):
+        openssl(bench, CERTIFICATE.format(name=name, days=days))
+    end = {}
+    for name in ("front", "other", "third"):
+        said = openssl(bench, f"openssl x509 -enddate -noout -in {name}.crt").decode().strip().removeprefix("notAfter=")
+        end[name] = int(ssl.cert_time_to_seconds(said))
+    texts = {name: Path(bench.path(f"{name}.crt")).read_bytes() for name in end}
+    authority = bench.write("authority.crt", texts["third"] + texts["front"])
+    pair = ["--tls-cert", bench.path("front.crt"), "--tls-key", bench.path("front.key")]
+    with secured(bench, *pair, "--tls-ca", authority, listen=f"unix:{bench.path('socket')}") as front:
+        bench.same("at the start", ends_of(front, **ADMIN), {"tls-cert": end["front"], "tls-ca": end["front"]})
+        bench.write("front.crt", texts["other"] + texts["third"])
+        bench.write("authority.crt", texts["third"])
+        bench.same("others", ends_of(front, **ADMIN), {"tls-cert": end["other"], "tls-ca": end["third"]})
+        bench.write("front.crt", b"none")
+        bench.same("no certificate", ends_of(front, **ADMIN)["tls-cert"], 0)
+    with Front(bench) as front:
+        bench.same("without TLS", ends_of(front), {})
+        bench.same("HEAD", front.exchange("HEAD", "/metrics"), (200, ""))
 
 
 def served_by(text):
@@ -164,6 +213,7 @@ def expressions():
     return found + [variable["definition"] for variable in dashboard["templating"]["list"] if "definition" in variable]
 
 
+@pytest.mark.needs("openssl")
 def check_names(bench):
     """Each metric of the rules and of the dashboard is one that a front serves, with these labels."""
     (text,) = used_front(bench)
@@ -190,7 +240,7 @@ def check_dashboard(bench):
     bench.same("sources", {panel["datasource"]["uid"] for panel in panels}, {"${datasource}"})
 
 
-@pytest.mark.needs("promtool")
+@pytest.mark.needs("promtool", "openssl")
 def check_exposition(bench):
     """promtool reads all metrics, and finds no name or text strange."""
     (text,) = used_front(bench)

@@ -55,9 +55,9 @@ def link(before, entry):
     return hashlib.sha256("".join(f"{field}\n" for field in fields).encode()).hexdigest()
 
 
-def chain_again(office, before=""):
-    """Computes the whole chain of the file at hand anew, as somebody does who may write the record."""
-    with closing(sqlite3.connect(path_of(office))) as opened:
+def chain_again(office, before="", file="record.db"):
+    """Computes the whole chain of a file anew, as somebody does who may write the record."""
+    with closing(sqlite3.connect(path_of(office, file))) as opened:
         for entry in [Entry(*row) for row in opened.execute("SELECT * FROM entry ORDER BY n")]:
             before = link(before, entry)
             opened.execute("UPDATE entry SET chain = ? WHERE n = ?", (before, entry.n))

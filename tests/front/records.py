@@ -423,7 +423,8 @@ def check_parts(bench):
     bench.same("the part alone", (status, out.splitlines()[-1], said), (0, f"head 10:{tenth.chain}", ""))
     shown = tool("record", "show", "--part", bench.path("record-1-10.db"))[1]
     bench.same("show the part alone", len(shown.splitlines()), 10)
-    refuted(bench, "an old head", front.office, "entry 10, whose link is known, is not here", "--head", f"10:{tenth.chain}")
+    verified(bench, "the head before the part at hand", front.office, "--head", f"10:{tenth.chain}", is_whole=False)
+    refuted(bench, "another such head", front.office, "was computed anew", "--head", f"10:{'0' * 64}")
     os.rename(bench.path("record-1-10.db"), first)
     with closing(sqlite3.connect(first)) as opened:
         opened.execute("DELETE FROM entry WHERE n = 10")

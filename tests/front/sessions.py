@@ -44,8 +44,8 @@ def greedy(state, user, roles, given=None):
     roles = [role for role in roles if given is None or role in given]
     try:
         after = create_session(state, user, (), "new")
-    except Refused as refused:
-        return state, refusal_of(refused)
+    except Refused:
+        return state, refusal_of_last(state, user, roles)
     active, last = [], None
     for role in roles:
         try:
@@ -57,6 +57,15 @@ def greedy(state, user, roles, given=None):
     if roles and not active:
         return state, last
     return after, {"left": left, "roles": active}
+
+
+def refusal_of_last(state, user, roles):
+    """How createSession refuses the last of some roles: the user has none, or is locked, or there are too many sessions."""
+    try:
+        create_session(state, user, roles[-1:], "new")
+    except Refused as refused:
+        return refusal_of(refused)
+    raise ValueError(f"a session of {user} with {roles[-1:]} is made")
 
 
 def refusal_of(refused):
@@ -170,6 +179,31 @@ def check_rights(bench):
             bench.same(f"DELETE by {who}", status, wanted)
         bench.same("the name and not the digest", front.exchange("DELETE", f"/sessions/{other}", **admin)[0], 409)
         bench.same("GET", front.exchange("GET", f"/sessions/{digest_of(other)}", **admin)[0], 405)
+
+
+def check_locks_are_not_told(bench):
+    """Who may give one role learns that a user is locked only if the user is authorized for it. createSession answers the same."""
+    rights = {
+        "token:admin": [(function, "office") for function in ("addUser", "addRole", "assignUser", "lockUserAccount")],
+        "token:desk": [("createSession", "role clerk"), ("createSession", "role pilot"), ("deleteSession", "office")],
+    }
+    with secured(bench, rights=rights) as front:
+        for function, values in [
+            *(("addUser", {"user": user}) for user in ("erin", "fay", "gus")), *(("addRole", {"role": role}) for role in ("clerk", "boss")),
+            ("assignUser", {"user": "erin", "role": "boss"}), ("assignUser", {"user": "fay", "role": "clerk"}),
+            *(("lockUserAccount", {"user": user}) for user in ("erin", "fay")),
+        ]:  # fmt: skip
+            bench.same(f"{function} {values}", front.ask(function, values, **bearer("another"))[0], 200)
+        desk, locked = bearer("secret"), {"code": 37, "error": "UserLocked"}
+        unauthorized, no_role = {"code": 29, "error": "NotAuthorized"}, {"code": 4, "error": "NoRole"}
+        for user, roles, wanted in [
+            ("erin", ["clerk"], unauthorized), ("gus", ["clerk"], unauthorized), ("fay", ["clerk"], locked), ("erin", ["pilot"], no_role),
+            ("gus", ["pilot"], no_role), ("fay", ["clerk", "pilot"], no_role), ("fay", ["pilot", "clerk"], locked),
+        ]:  # fmt: skip
+            bench.same(f"{user}: {roles}", made(front, {"user": user, "roles": roles}, **desk), (409, wanted))
+            named = {"user": user, "roles": roles[-1:], "session": "s"}
+            bench.same(f"createSession of {user}: {roles[-1:]}", front.ask("createSession", named, **desk), (409, json.dumps(wanted, separators=(",", ":"))))
+        bench.same("nobody", made(front, {"user": "nobody", "roles": ["clerk"]}, **desk), (409, {"code": 2, "error": "NoUser"}))
 
 
 def check_order(bench):

@@ -68,6 +68,9 @@ def check_setup(bench):
     bench.same("where the console is", f"https://localhost:{listen.rpartition(':')[2]}/console/" in said, True)
 
     options = shlex.split(re.fullmatch(r'OPTIONS="(.*)"\n', made["bank.conf"].decode())[1])
+    ends = {option: options[options.index(option) + 1] for option in ("--session-idle", "--session-age") if option in options}
+    bench.same("what ends sessions", ends, {"--session-idle": "8h", "--session-age": "24h"})
+    bench.same("it is said", "A session ends after 8h in which nobody uses it, and 24h after it was made." in said, True)
     front = Front(bench, *options[2:], listen=listen)
     front.port = int(listen.rpartition(":")[2])
     front.connection = lambda: over_tls(bench, front.port, authority="etc/bank.crt")
@@ -91,6 +94,28 @@ def check_setup(bench):
         status, said, errors = set_up(bench, "--folder", str(folder), *wrong)
         bench.same(f"{wrong}: refused by one line", (status, said, errors.count("\n")), (1, "", 1))
     bench.same("the files after them", files_of(folder), made)
+
+
+@pytest.mark.needs("openssl")
+def check_certificate(bench):
+    """The certificate is good for its own names, and whoever trusts it trusts no other certificate that its key has signed."""
+    folder = bench.folder / "etc"
+    status, said, errors = set_up(bench, "--folder", str(folder), "--dns", "bank.example", "bank")
+    bench.same("a folder that isn't there", (status, said, errors.count("\n"), f"there is no folder {folder}: " in errors), (1, "", 1, True))
+    folder.mkdir()
+    set_up(bench, "--folder", str(folder), "--dns", "bank.example", "bank")
+    script = """set -e
+    openssl req -newkey ec -pkeyopt ec_paramgen_curve:P-256 -nodes -keyout evil.key -out evil.csr -subj /CN=evil.example
+    printf 'subjectAltName=DNS:evil.example\\nextendedKeyUsage=serverAuth\\n' > ext
+    openssl x509 -req -in evil.csr -CA bank.crt -CAkey bank.key -CAcreateserial -out evil.crt -days 2 -extfile ext"""
+    subprocess.run(["sh", "-c", script], cwd=folder, capture_output=True, check=True)
+
+    def verified(name, host):
+        words = ["openssl", "verify", "-CAfile", "bank.crt", "-purpose", "sslserver", "-verify_hostname", host, f"{name}.crt"]
+        return subprocess.run(words, cwd=folder, capture_output=True, check=False).returncode == 0
+
+    bench.same("its own name", (verified("bank", "bank.example"), verified("bank", "evil.example")), (True, False))
+    bench.same("what its key has signed", verified("evil", "evil.example"), False)
 
 
 @pytest.mark.needs("root")

@@ -232,7 +232,6 @@ def check_signatures(bench):
         bench.same(f"{what} is refused", (status, out, refusal in said, said.count("\n")), (1, "", True, 1))
     heads = bench.write("heads", "".join(json.dumps(line) + "\n" for line in (first, second)).encode())
     verified(bench, "the right ones", front.office, "--heads", heads, "--signers", machine.signers)
-    verified(bench, "the heads of such a file without the signers", front.office, "--heads", heads)
     bench.same("signers without heads", tool("record", "verify", "--office", front.office, "--signers", machine.signers)[0], 1)
 
 

@@ -184,6 +184,14 @@ def rebuild(files):
     files.replay(*[request.replace(digest, "one") for request in requests])
 
 
+def restored(files):
+    """Restores the pair from a backup of itself, as the front's operator does."""
+    backups = files.folder / "backups"
+    backups.mkdir()
+    made = tool("backup", "--office", files.office, str(backups))[1].strip()
+    tool("restore", "--office", files.office, "--by", "eve", "--reason", "none", "--replace", made)
+
+
 def other_history(files):
     """Makes a whole record of other commands, with as many entries."""
     files.set(FIRST_ACCEPTED, """request = '{"fn":"addRole","role":"thief"}'""")
@@ -297,7 +305,6 @@ REFUSED = {
     "another office in a part": lambda f: other_office(f, f.current),
     "another office in the first part": lambda f: other_office(f, f.first),
     "no office in a part": lambda f: f.sql(f.current, "UPDATE part SET office = x''"),
-    "the file of the first part removed": lambda f: f.first.unlink(),
     "the file of the first part under another range": lambda f: f.first.rename(f.record / "record-2-3.db"),
     "the file of the first part twice": lambda f: shutil.copy(f.first, f.record / "record-100-200.db"),
     "the first part in place of the second": lambda f: shutil.copy(f.first, f.current),
@@ -305,6 +312,10 @@ REFUSED = {
     "the file at hand removed": lambda f: f.current.unlink(),
     "the first part moved away and the second one as the beginning": lambda f: (f.first.unlink(), f.sql(f.current, "UPDATE part SET why = 'joins'")),
     # Files of SQLite.
+    "a journal beside the file at hand": lambda f: f.current.with_name("record.db-journal").write_bytes(b""),
+    "a journal beside an earlier part": lambda f: f.first.with_name(f"{f.first.name}-journal").write_bytes(b""),
+    "a journal beside the office": lambda f: (f.folder / "office-journal").write_bytes(b""),
+    "a trigger in the office": lambda f: f.sql(f.office, "CREATE TRIGGER more AFTER INSERT ON name_row BEGIN DELETE FROM locked_row; END"),
     "a file that ends early": lambda f: os.truncate(f.current, f.current.stat().st_size - 4096),
     "an empty file": lambda f: os.truncate(f.current, 0),
     "a file that is no database": lambda f: f.current.write_text("nothing\n" * 1000),
@@ -327,6 +338,13 @@ REFUSED = {
     "a base copy under another digest": lambda f: f.bases()[-1].rename(f.record / re.sub("[0-9a-f]{64}", OTHER_ROWS, f.bases()[-1].name)),
     "another base copy": lambda f: f.sql(f.bases()[-1], "INSERT INTO name_row VALUES (1, 'eve')"),
     "a base copy of a later entry": lambda f: (f.record / f"base-{LAST + 9}-{OTHER_ROWS}").write_bytes(f.bases()[-1].read_bytes()),
+}  # fmt: skip
+
+# What verify reports with a status of its own, since it may be honest, with the words that say what is missing.
+MISSING = {
+    "the file of the first part removed": (lambda f: f.first.unlink(), f"entries 1 to {FIRST_LAST} are not here: their part was moved away"),
+    "record and office taken back, and restored from there": (
+        lambda f: (roll_back(f, KNOWN - 1), restored(f)), f"as they are known, are not here: the restore at entry {KNOWN} gave them up"),
 }  # fmt: skip
 
 # What nobody can see. The page has these names.
@@ -356,13 +374,15 @@ def check_tamperings(bench):
     bench.same("the honest record", judged(files)[0], 0)
     before = files.digest()
     bench.judge("there are enough", [] if len(REFUSED) + len(UNSEEN) >= FEWEST else [str(len(REFUSED) + len(UNSEEN))])
-    for name, tamper in [*REFUSED.items(), *UNSEEN.items()]:
+    missing = {name: tamper for name, (tamper, _) in MISSING.items()}
+    for name, tamper in [*REFUSED.items(), *missing.items(), *UNSEEN.items()]:
         files = Files(honest, bench.path("copy"))
         tamper(files)
         bench.same(f"{name}: a file is another one", files.digest() != before, True)
         status, said = judged(files)
-        wanted = 0 if name in UNSEEN else 1
-        faults = [] if status == wanted and "goroutine" not in said else [f"{status} {said}"]
+        wanted = 0 if name in UNSEEN else 2 if name in MISSING else 1
+        says = MISSING[name][1] if name in MISSING else ""
+        faults = [] if status == wanted and says in said and "goroutine" not in said else [f"{status} {said}"]
         bench.judge(f"{name}: {'not seen' if name in UNSEEN else 'refused'}", faults)
     return {"kinds of tampering that verify refuses": len(REFUSED), "kinds that nobody can see": len(UNSEEN)}
 

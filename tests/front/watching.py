@@ -59,6 +59,7 @@ class Watch:
             if name:
                 fields[name] = value
             elif fields.get("event") == "newest":
+                self.revision = fields.get("revision")
                 yield int(fields["data"]), None
                 fields = {}
             else:
@@ -211,6 +212,10 @@ def check_watch(bench):
             number, line = next(events)
             newest += line is None and number == last
         bench.same("the newest number comes again and again", newest > 5, True)
+        own = front.connection()
+        own.request("GET", "/snapshot")
+        bench.same("the revision of the policy beside it", watch.revision, own.getresponse().headers["Policy-Revision"])
+        own.close()
         front.ask("addUser", {"user": "late"})
         while not (event := next(events))[1]:
             pass

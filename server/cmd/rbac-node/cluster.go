@@ -25,6 +25,7 @@ import (
 	"rbac-node/internal/metrics"
 	"rbac-node/internal/node"
 	"rbac-node/internal/office"
+	"rbac-node/internal/record"
 	"rbac-node/internal/web"
 )
 
@@ -110,14 +111,20 @@ func (s *clusterSettings) adoptInto(ctx context.Context, shared *ledger.Ledger, 
 	}
 	head, undo := "", func() {}
 	if about, err := os.Stat(from); err == nil && about.IsDir() {
-		if from, head, undo, err = s.common.carryRecord(ctx, from, s.Data); err != nil {
+		var c record.Carried
+		if c, undo, err = s.common.carryRecord(ctx, from, s.Data, s.leavesOut); err != nil {
 			return err
 		}
+		from, head = c.Office, c.Head.String()
+		s.sayLater(c.Later)
 	}
 	defer func() { undo() }()
 	file, err := store.Begin(from)
 	if err != nil {
 		return err
+	}
+	if filepath.Dir(from) == record.DirIn(s.Data) {
+		defer os.Remove(from)
 	}
 	defer os.Remove(file)
 	// From the moment when etcd knows of it, nodes wait for the snapshot.
@@ -129,12 +136,27 @@ func (s *clusterSettings) adoptInto(ctx context.Context, shared *ledger.Ledger, 
 		return err
 	}
 	undo = func() {} // From now on nodes need it.
-	snapshot, err := store.Finish(ctx, file, office.Snapshot{Revision: revision, Record: head})
+	beginning, err := shared.Beginning(ctx)
+	if err != nil {
+		return err
+	}
+	snapshot, err := store.Finish(ctx, file, office.Snapshot{Revision: revision, Record: head, First: beginning.First})
 	if err != nil {
 		return err
 	}
 	fmt.Fprintf(stdout, "snapshot %d has the digest %s\n", snapshot.Revision, snapshot.Digest)
 	return nil
+}
+
+// sayLater says what became of the commands that the record of a backup has after its snapshot.
+func (s *clusterSettings) sayLater(count int) {
+	switch {
+	case count == 0:
+	case s.leavesOut:
+		fmt.Fprintf(stdout, "commands of the record after the snapshot that are lost: %d\n", count)
+	default:
+		fmt.Fprintf(stdout, "commands of the record after the snapshot that were done again: %d; all sessions were ended\n", count)
+	}
 }
 
 // open checks the settings, and opens the log in etcd.
@@ -195,6 +217,8 @@ func (s *clusterSettings) serveNode(ctx context.Context, shared *ledger.Ledger, 
 		s.common.front.Refused = filepath.Join(s.Data, "refused")
 	}
 	registry := metrics.New(version, sources, proved)
+	s.peerTLS.Measure(registry, "peer")
+	s.etcdTLS.Measure(registry, "etcd")
 	f, err := front.New(ctx, s.common.frontOptions(addresses, events, registry))
 	if err != nil {
 		return err
@@ -212,6 +236,7 @@ func (s *clusterSettings) serveNode(ctx context.Context, shared *ledger.Ledger, 
 		return err
 	}
 	events.Info("started", "peer", s.peer)
+	s.common.saySessions(events)
 	return s.answer(ctx, f, n, events, registry)
 }
 
@@ -233,6 +258,7 @@ func (s *clusterSettings) answer(ctx context.Context, f *front.Front, n *node.No
 func peerHandler(n *node.Node, registry *prometheus.Registry) http.Handler {
 	mux := http.NewServeMux()
 	mux.Handle("/snapshot", n.Snapshots())
+	mux.Handle("/record", n.Records())
 	mux.HandleFunc("/healthz", func(w http.ResponseWriter, _ *http.Request) { n.Health().Reply(w) })
 	mux.Handle("/metrics", metrics.Handler(registry))
 	return mux
@@ -247,6 +273,8 @@ type clusterSettings struct {
 	partEntries              int64
 	peerTLS, etcdTLS         web.TLS
 	isPeerOpen, isEtcdOpen   bool
+	// leavesOut says that an office is adopted without the commands that the record of the backup has after its snapshot.
+	leavesOut bool
 }
 
 func (s *clusterSettings) define(flags *flag.FlagSet) {

@@ -145,6 +145,7 @@ func clusterFlag(flags *flag.FlagSet) string {
 
 func prepareAdopt(flags *flag.FlagSet) func([]string) error {
 	s := newSettings(flags)
+	flags.BoolVar(&s.cluster.leavesOut, "without-later-commands", false, "leave out the commands that the record of a backup has after its snapshot")
 	return withArguments(1, func(arguments []string) error { return s.cluster.adopt(s, arguments[0]) })
 }
 
@@ -207,7 +208,7 @@ var subjects = []subject{
 	{"Sessions", []string{"session-age", "session-idle"}},
 	{"The record", []string{"no-record", "record-verify", "record-base", "record-part"}},
 	{"Heads of the record", []string{
-		"head", "heads", "signers", "url", "ca", "token", "key", "begin", "record sign tls-cert", "record sign tls-key",
+		"head", "heads", "signers", "url", "ca", "token", "key", "begin", "restored", "record sign tls-cert", "record sign tls-key",
 	}},
 	{"Which entries, or what access", []string{
 		"at", "entry", "user", "role", "object", "operation", "set", "session", "record show reason", "function", "caller", "since", "until",
@@ -217,7 +218,7 @@ var subjects = []subject{
 	{"Who does this, why, and how", []string{"by", "reason", "replace", "unit"}},
 	{"Several machines, over etcd", []string{
 		"etcd", "etcd-user", "etcd-password-file", "etcd-cert", "etcd-key", "etcd-ca", "etcd-open", "name", "scratch", "prefix",
-		"every", "every-bytes", "peer", "advertise", "peer-cert", "peer-key", "peer-ca", "peer-open",
+		"every", "every-bytes", "peer", "advertise", "peer-cert", "peer-key", "peer-ca", "peer-open", "without-later-commands",
 	}},
 }
 

@@ -59,5 +59,6 @@ func (s *settings) serveOne(ctx context.Context) error {
 		return err
 	}
 	metrics.Flag(registry, "rbac_node_ready", "1 if the office answers.", office.IsReady)
+	s.saySessions(log)
 	return answer(ctx, f, office, failed, log, func(context.Context) {})
 }

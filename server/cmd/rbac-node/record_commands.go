@@ -19,12 +19,12 @@ const missingStatus = 2
 // recordCommand is what a command about a record needs.
 type recordCommand struct {
 	record.Tool
-	head, heads, signers string
-	by, reason           string
-	filter               record.Filter
-	access               record.AccessQuery
-	format               record.Format
-	export               record.Export
+	known      knownHeads
+	by, reason string
+	filter     record.Filter
+	access     record.AccessQuery
+	format     record.Format
+	export     record.Export
 }
 
 // ofRecords are those that work with a record here.
@@ -89,9 +89,7 @@ func (c *recordCommand) define(flags *flag.FlagSet, name string) {
 		flags.StringVar(&c.Program, "program", "rbac", "the proved `program`, a path or a name that is looked up in PATH")
 	}
 	if is("verify access") {
-		flags.StringVar(&c.head, "head", "", "a `head` N:HASH that is known from elsewhere")
-		flags.StringVar(&c.heads, "heads", "", "`file` of such heads, one in a line, or the log of a front")
-		flags.StringVar(&c.signers, "signers", "", "`file` of who may have signed these heads: as ssh-keygen(1) describes it, or public keys of minisign")
+		c.known.define(flags)
 	}
 	if is("show access") {
 		flags.Var(&c.format, "format", "`format` of the lines: text, csv or json")
@@ -145,7 +143,7 @@ func (c *recordCommand) do(ctx context.Context, name string, arguments []string)
 	case "show":
 		return c.Show(ctx, c.filter, c.format)
 	case "access":
-		return c.withHeads(ctx, func(ctx context.Context, heads []record.Head) error {
+		return c.withHeads(ctx, func(ctx context.Context, heads []record.KnownHead) error {
 			c.access.Heads, c.access.Format = heads, c.format
 			return c.Access(ctx, c.access)
 		})
@@ -165,13 +163,8 @@ func (c *recordCommand) do(ctx context.Context, name string, arguments []string)
 
 // withHeads does something with the heads that the command line may have. The error of a record that is good, but from which entries are
 // missing, gets a status of its own.
-func (c *recordCommand) withHeads(ctx context.Context, do func(ctx context.Context, heads []record.Head) error) error {
-	heads, err := c.readHeads(ctx)
-	if err == nil && c.head != "" {
-		var head record.Head
-		head, err = record.ParseHead(c.head)
-		heads = append(heads, head)
-	}
+func (c *recordCommand) withHeads(ctx context.Context, do func(ctx context.Context, heads []record.KnownHead) error) error {
+	heads, err := c.known.read(ctx)
 	if err == nil {
 		err = do(ctx, heads)
 	}
@@ -179,28 +172,4 @@ func (c *recordCommand) withHeads(ctx context.Context, do func(ctx context.Conte
 		return statusError{missingStatus, err}
 	}
 	return err
-}
-
-// readHeads reads the file of heads, if the command line names one.
-func (c *recordCommand) readHeads(ctx context.Context) (heads []record.Head, err error) {
-	if c.heads == "" && c.signers != "" {
-		return nil, errors.New("--signers needs --heads")
-	}
-	if c.heads == "" {
-		return nil, nil
-	}
-	file, err := os.Open(c.heads)
-	if err != nil {
-		return nil, err
-	}
-	defer file.Close()
-	if c.signers == "" {
-		heads, err = record.ReadHeads(file)
-	} else {
-		heads, err = record.ReadSignedHeads(ctx, file, c.signers)
-	}
-	if err != nil {
-		return nil, fmt.Errorf("%s: %w", c.heads, err)
-	}
-	return heads, nil
 }

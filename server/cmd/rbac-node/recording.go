@@ -41,10 +41,10 @@ func (s *settings) followRecord(data, office string, partEntries int64, log *log
 	})
 }
 
-// carryRecord begins the record of a node with that of a backup of a node, and returns the path of the backup's office and the head. What
-// it returns last takes that back.
-func (s *settings) carryRecord(ctx context.Context, backup, data string) (office, head string, undo func(), err error) {
+// carryRecord begins the record of a node with that of a backup of a node, and returns with what the node begins. What it returns last takes
+// that back.
+func (s *settings) carryRecord(ctx context.Context, backup, data string, leavesOut bool) (c record.Carried, undo func(), err error) {
 	dir := record.DirIn(data)
-	office, last, err := record.Carry(ctx, record.Options{Program: s.program, Dir: dir, Log: logs.New(os.Stderr)}, backup)
-	return office, last.String(), func() { _ = os.RemoveAll(dir) }, err
+	c, err = record.Carry(ctx, record.Options{Program: s.program, Dir: dir, Log: logs.New(os.Stderr)}, backup, leavesOut)
+	return c, func() { _ = os.RemoveAll(dir) }, err
 }

@@ -18,6 +18,7 @@ import (
 // restoreCommand is what `restore` needs.
 type restoreCommand struct {
 	restoring.Options
+	known                     knownHeads
 	program, by, reason, unit string
 	isUnrecorded              bool
 }
@@ -29,6 +30,7 @@ func (c *restoreCommand) define(flags *flag.FlagSet) {
 	flags.BoolVar(&c.Replaces, "replace", false, "move away the office that is there, with its record, and keep them beside it")
 	flags.StringVar(&c.unit, "unit", "", "`unit` of systemd that is stopped before and started after that, such as rbac-node@office")
 	flags.BoolVar(&c.isUnrecorded, "no-record", false, "the backup has no record, and none is begun")
+	c.known.define(flags)
 	flags.StringVar(&c.program, "program", "rbac", "the proved `program`, a path or a name that is looked up in PATH")
 }
 
@@ -46,6 +48,10 @@ func (c *restoreCommand) restore(ctx context.Context) error {
 	if c.Office == "" {
 		return errors.New("give --office the file of the office")
 	}
+	known, err := c.known.read(ctx)
+	if err != nil {
+		return err
+	}
 	c.Out = stdout
 	reason := fmt.Sprintf("restore of %s: %s", filepath.Base(c.Backup), c.reason)
 	if c.reason == "" {
@@ -53,7 +59,7 @@ func (c *restoreCommand) restore(ctx context.Context) error {
 	}
 	c.Prepare = func(ctx context.Context, office string) (string, error) {
 		t := record.Tool{Office: office, Program: c.program, Out: io.Discard, Err: os.Stderr, Log: logs.New(os.Stderr)}
-		return t.Restore(ctx, filepath.Base(c.Backup), c.by, reason, !c.isUnrecorded)
+		return t.Restore(ctx, filepath.Base(c.Backup), c.by, reason, !c.isUnrecorded, known)
 	}
 	if c.unit == "" {
 		return restoring.Run(ctx, c.Options)
@@ -62,7 +68,7 @@ func (c *restoreCommand) restore(ctx context.Context) error {
 	if err := systemctl("stop", c.unit); err != nil {
 		return err
 	}
-	err := restoring.Run(ctx, c.Options)
+	err = restoring.Run(ctx, c.Options)
 	if err != nil && !wasActive {
 		return err
 	}

@@ -40,6 +40,7 @@ func prepareSign(flags *flag.FlagSet) func([]string) error {
 	flags.StringVar(&c.Key, "key", "", "`file` of the key that signs, of minisign or ssh-keygen")
 	flags.StringVar(&c.Heads, "heads", "", "`file` of the signed heads, to which one is added")
 	flags.BoolVar(&c.IsFirst, "begin", false, "sign the first head of a new file")
+	flags.BoolVar(&c.IsRestored, "restored", false, "a backup was restored: go on from the newest signed head that the record still has")
 	return withArguments(0, func([]string) error { return c.sign() })
 }
 

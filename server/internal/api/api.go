@@ -43,6 +43,8 @@ type Point struct {
 	Newest boottime.Moment
 	// Policy is the revision of the policy after a command, or that of the state that answered a question, or 0 if it isn't known.
 	Policy int64
+	// Number is that of the last command before a question: two questions with the same are of one moment.
+	Number int64
 }
 
 // ForgetPolicy takes back what the head of an answer says of the policy.
@@ -123,10 +125,11 @@ func tooLong(most int64) Refusal {
 	return BadRequestSince(http.StatusRequestEntityTooLarge, "the body has more than %d bytes", most)
 }
 
-// whyField is the field of an answer that says what is wrong with a request.
-const whyField = "Office-Why"
+// WhyField is the field of an answer that says what is wrong with a request, or what to do.
+const WhyField = "Office-Why"
 
-// An Office does batches of calls. An error that is no Refusal is answered as Unavailable.
+// An Office does batches of calls. An error that is no Refusal is answered as Unavailable. If all are questions, it may answer only the
+// first ones, which are of one moment.
 type Office interface {
 	Do(ctx context.Context, b Batch) (Answers, error)
 }
@@ -141,7 +144,7 @@ const Allowed, Denied = `{"ok":true,"value":true}`, `{"ok":true,"value":false}`
 func Refuse(w http.ResponseWriter, refused Refusal, methods ...string) int {
 	head := w.Header()
 	if refused.Why != "" {
-		head[whyField] = []string{refused.Why}
+		head[WhyField] = []string{refused.Why}
 	}
 	switch refused.Status {
 	case http.StatusUnauthorized:

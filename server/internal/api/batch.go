@@ -6,10 +6,11 @@ import (
 	"net/http"
 )
 
-// The limits of a batch: of its lines, of those of them that are commands, and of its bytes.
+// The limits of a batch: of its lines, of those of them that are commands, of the long questions beside commands, of its bytes, and of
+// those of the answers to its questions if there are several.
 const (
-	MaxBatchLines, MaxBatchCommands = 1000, 100
-	MaxBatchBytes                   = 2_097_152
+	MaxBatchLines, MaxBatchCommands, MaxLongBeside = 1000, 100, 20
+	MaxBatchBytes, MaxAnswerBytes                  = 2_097_152, 2_097_152
 )
 
 // A Batch is some calls that an office does in their order, with nothing of others between them.
@@ -69,7 +70,7 @@ func ParseBatch(body []byte) (calls []*Call, err error) {
 	// The calls are together in memory, and so are the lines of questions, which are mostly as long as those that were read.
 	all, lines := make([]Call, most), make([]byte, 0, len(body))
 	var found Fields // Those of a line, in the memory of the one before.
-	add, commands := found.add, 0
+	add, commands, beside := found.add, 0, 0
 	calls = make([]*Call, 0, most)
 	for number := 1; len(body) > 0; number++ {
 		var line []byte
@@ -86,11 +87,18 @@ func ParseBatch(body []byte) (calls []*Call, err error) {
 		if call.Kind == Command {
 			commands++
 		}
+		if call.IsLong() || call.Function == DecideByUser {
+			beside++
+		}
 		call.Number = number
 		calls = append(calls, call)
 		if len(calls) > MaxBatchLines || commands > MaxBatchCommands {
 			why := "a batch has at most %d lines, of which at most %d are commands"
 			return nil, &LineError{number, BadRequestSince(http.StatusRequestEntityTooLarge, why, MaxBatchLines, MaxBatchCommands)}
+		}
+		if commands > 0 && beside > MaxLongBeside { // Nobody else's commands are done meanwhile.
+			why := "a batch with commands has at most %d questions that may take long"
+			return nil, &LineError{number, BadRequestSince(http.StatusRequestEntityTooLarge, why, MaxLongBeside)}
 		}
 	}
 	return calls, nil

@@ -48,6 +48,24 @@ func Others() (names []string) {
 	return names
 }
 
+// long has the questions whose answer can be long, or can take librbac long. These are the milliseconds for the worst that is known in an
+// office at the limits with names of 64 bytes, on one core of a Xeon at 2.5 GHz, and the kilobytes of that answer. Nothing else may be
+// asked of librbac meanwhile. Other calls that can take more than 5 ms there: CheckUser 100, AssignmentConflicts 460, ActivationConflicts
+// 50, CreationConflicts 5, StaticConflicts 36,000, DynamicConflicts 46,000, Load 2,000, Rows: 440, and commands that change
+// inheritances 150 or 380 or make dynamic sets 110. BenchmarkAtLimits in internal/state measures most of them.
+var long = map[string]bool{
+	"authorizedUsers":        true, // 35 ms, 1,270 KB
+	"authorizedRoles":        true, // 135 ms, 70 KB: a user who is assigned to all roles
+	"rolePermissions":        true, // 24 ms, 680 KB
+	"userPermissions":        true, // 137 ms, 680 KB
+	"sessionPermissions":     true, // 18 ms, 680 KB
+	"userOperationsOnObject": true, // 6 ms
+	"assignedUsers":          true, // 12 ms, 1,270 KB: ten times what was measured for a tenth of the users
+}
+
+// IsLong reports whether a call asks for what can be long, or can take librbac long.
+func (c *Call) IsLong() bool { return long[c.Function] }
+
 // Keys returns the keys of a function or of such an operation, in their order.
 func Keys(name string) []string {
 	if called, known := functions[name]; known {

@@ -59,8 +59,20 @@ func readTokens(path string) (map[[sha256.Size]byte]string, error) {
 	return tokens, nil
 }
 
-// identify returns who asks. An Authorization field decides alone.
+// mostNameBytes is how many bytes the name of a user may have, which the name of a caller is.
+const mostNameBytes = 64
+
+// identify returns who asks.
 func (s *Set) identify(r *http.Request) (string, error) {
+	name, err := s.shown(r)
+	if err == nil && len(name) > mostNameBytes {
+		return "", fmt.Errorf("the name of the caller has more than %d bytes", mostNameBytes)
+	}
+	return name, err
+}
+
+// shown returns whom a request shows. An Authorization field decides alone.
+func (s *Set) shown(r *http.Request) (string, error) {
 	if fields, has := r.Header["Authorization"]; has {
 		return s.ofAuthorization(fields)
 	}

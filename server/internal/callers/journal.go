@@ -11,6 +11,7 @@ import (
 	"sync"
 	"time"
 
+	"rbac-node/internal/api"
 	"rbac-node/internal/disk"
 )
 
@@ -20,8 +21,8 @@ const (
 	// mostLines is how many lines there may be in a file for one second, and mostOfCaller how many of one caller. The others are only
 	// counted.
 	mostLines, mostOfCaller = 200, 20
-	// longestTarget is how many bytes of a target are written.
-	longestTarget = 200
+	// longestTarget is how many bytes of a target or a name are written, and mostRoles how many names of a list.
+	longestTarget, mostRoles = 200, 32
 	// unknownSuffix is added to the path for the requests of those who haven't shown who they are.
 	unknownSuffix = ".unknown"
 )
@@ -56,7 +57,42 @@ type refusal struct {
 	Method  string `json:"method"`
 	Target  string `json:"target"`
 	Why     string `json:"why"`
+	Asked   *asked `json:"asked,omitempty"`
 	LeftOut int    `json:"left_out,omitempty"`
+}
+
+// An asked is the call that the caller may not do: its function, the names in it, and the reason that was given.
+type asked struct {
+	Function   string   `json:"function"`
+	User       string   `json:"user,omitempty"`
+	Role       string   `json:"role,omitempty"`
+	Roles      []string `json:"roles,omitempty"`
+	Ascendant  string   `json:"asc,omitempty"`
+	Descendant string   `json:"desc,omitempty"`
+	Object     string   `json:"object,omitempty"`
+	Operation  string   `json:"operation,omitempty"`
+	Set        string   `json:"set,omitempty"`
+	Session    string   `json:"session,omitempty"`
+	Reason     string   `json:"reason,omitempty"`
+}
+
+// askedOf returns what a call asks for, or nil if there is no call.
+func (j *Journal) askedOf(call *api.Call) *asked {
+	if call == nil {
+		return nil
+	}
+	a := &asked{
+		Function: call.Function, User: shortened(call.User), Role: shortened(call.Role), Ascendant: shortened(call.Ascendant),
+		Descendant: shortened(call.Descendant), Object: shortened(call.Object), Operation: shortened(call.Operation), Set: shortened(call.Set),
+		Reason: shortened(call.Reason),
+	}
+	for i := 0; i < len(call.Roles) && i < mostRoles; i++ {
+		a.Roles = append(a.Roles, shortened(call.Roles[i]))
+	}
+	if call.Session != "" {
+		a.Session = j.digest(call.Session)
+	}
+	return a
 }
 
 // OpenJournal opens the journal in a file, and one beside it. The digest takes the place of what nobody may read there.
@@ -84,8 +120,8 @@ func (f *journalFile) open() error {
 	return nil
 }
 
-// Write notes a refused request. Why may be nil.
-func (j *Journal) Write(r *http.Request, status int, caller string, why error) error {
+// Write notes a refused request. Why may be nil, and so may be the call that the caller may not do.
+func (j *Journal) Write(r *http.Request, status int, caller string, why error, denied *api.Call) error {
 	if j == nil {
 		return nil
 	}
@@ -93,6 +129,7 @@ func (j *Journal) Write(r *http.Request, status int, caller string, why error) e
 	line := refusal{
 		Time: now.UTC().Format("2006-01-02T15:04:05.000Z"), Status: status, Caller: shortened(caller), From: from(r),
 		Method: shortened(r.Method), Target: shortened(j.target(r.RequestURI)), Why: http.StatusText(status),
+		Asked: j.askedOf(denied),
 	}
 	if why != nil {
 		line.Why = shortened(why.Error())

@@ -39,7 +39,7 @@ func TestJournal(t *testing.T) {
 	}
 	r := httptest.NewRequest("POST", "/v1/addUser", nil)
 	r.RequestURI = "/v1/" + strings.Repeat("x", 300)
-	if err := j.Write(r, 403, "token:a\n\x00\"<b>\xff", errors.New("why\nnot")); err != nil {
+	if err := j.Write(r, 403, "token:a\n\x00\"<b>\xff", errors.New("why\nnot"), nil); err != nil {
 		t.Fatal(err)
 	}
 	text, _ := os.ReadFile(path)
@@ -53,7 +53,7 @@ func TestJournal(t *testing.T) {
 	if about, err := os.Stat(path); err != nil || about.Mode().Perm() != 0o600 {
 		t.Error(about, err)
 	}
-	if err := (*Journal)(nil).Write(r, 401, "", nil); err != nil {
+	if err := (*Journal)(nil).Write(r, 401, "", nil, nil); err != nil {
 		t.Errorf("no journal: %v", err)
 	}
 }
@@ -68,12 +68,12 @@ func TestJournalIsBounded(t *testing.T) {
 	r := httptest.NewRequest("POST", "/v1/addUser", nil)
 	for i := 0; i < 3*mostLines; i++ {
 		for _, caller := range []string{"", "token:flood"} {
-			if err := j.Write(r, 403, caller, nil); err != nil {
+			if err := j.Write(r, 403, caller, nil, nil); err != nil {
 				t.Fatal(err)
 			}
 		}
 	}
-	if err := j.Write(r, 403, "token:desk", nil); err != nil {
+	if err := j.Write(r, 403, "token:desk", nil, nil); err != nil {
 		t.Fatal(err)
 	}
 	if lines := len(linesOf(t, path+unknownSuffix)); lines > 2*mostLines || lines < mostLines { // A second may have ended meanwhile.
@@ -85,7 +85,7 @@ func TestJournalIsBounded(t *testing.T) {
 	}
 	leftOut := j.unknown.leftOut
 	j.unknown.second = 0 // Another second.
-	if err := j.Write(r, 401, "", nil); err != nil {
+	if err := j.Write(r, 401, "", nil, nil); err != nil {
 		t.Fatal(err)
 	}
 	if lines := linesOf(t, path+unknownSuffix); lines[len(lines)-1].LeftOut != leftOut || leftOut == 0 {
@@ -93,7 +93,7 @@ func TestJournalIsBounded(t *testing.T) {
 	}
 	for round := 0; round < 3; round++ {
 		j.unknown.second, j.unknown.size = 0, mostBytes
-		if err := j.Write(r, 401, "", nil); err != nil {
+		if err := j.Write(r, 401, "", nil, nil); err != nil {
 			t.Fatal(err)
 		}
 		if lines := len(linesOf(t, path+unknownSuffix)); lines != 1 {

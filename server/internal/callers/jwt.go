@@ -135,6 +135,9 @@ func (k *keyring) caller(token string, now time.Time) (string, error) {
 	if len(token) > longestJWT {
 		return "", errors.New("the JWT is too long")
 	}
+	if strings.ContainsAny(token, " \t\r\n") { // The library would leave them out.
+		return "", errors.New("the JWT has a space")
+	}
 	key, err := k.keyOf(token)
 	if err != nil {
 		return "", err

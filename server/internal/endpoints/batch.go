@@ -1,6 +1,7 @@
 package endpoints
 
 import (
+	"context"
 	"net/http"
 	"net/url"
 
@@ -19,6 +20,11 @@ func (e *Endpoints) batch(r *request) (int, error) {
 		return err
 	})
 	defer leave()
+	ctx, cancel := r.whileThere()
+	defer cancel()
+	if err == nil && hasLong(calls) {
+		err = e.enter(ctx, r)
+	}
 	if err == nil {
 		err = r.may(calls...)
 	}
@@ -30,7 +36,7 @@ func (e *Endpoints) batch(r *request) (int, error) {
 		return 0, err
 	}
 	rule.IsStopped = isStopped
-	answers, err := e.do(r, rule, calls)
+	answers, err := e.do(ctx, r, rule, calls)
 	if err != nil {
 		return 0, err
 	}
@@ -39,17 +45,14 @@ func (e *Endpoints) batch(r *request) (int, error) {
 }
 
 // do returns the answers to the lines of a batch, up to the first that is refused if that ends them.
-func (e *Endpoints) do(r *request, rule api.Rule, lines []*api.Call) ([][]byte, error) {
-	if len(lines) == 0 {
-		return nil, nil
+func (e *Endpoints) do(ctx context.Context, r *request, rule api.Rule, lines []*api.Call) (answers [][]byte, err error) {
+	switch {
+	case len(lines) == 0:
+	case api.NewBatch(r.kind, lines...).Kind == api.Command:
+		answers, err = e.doCommands(r, rule, lines)
+	default:
+		answers, _, err = e.askEach(ctx, r, rule, lines)
 	}
-	for _, line := range lines {
-		if line.Function == api.DecideByUser && rule.IsStopped && api.NewBatch(r.kind, lines...).Kind == api.Command {
-			// Several machines don't log whether such a line is refused.
-			return nil, notRead("with stop=first a batch of commands has no %s", api.DecideByUser)
-		}
-	}
-	answers, err := e.ask(r, rule, lines...)
 	if err != nil {
 		return nil, err
 	}
@@ -58,10 +61,55 @@ func (e *Endpoints) do(r *request, rule api.Rule, lines []*api.Call) ([][]byte, 
 			e.decided(r, lines[i], answer)
 		}
 		if rule.IsStopped && !api.IsAccepted(answer) {
-			return answers[:i+1], nil
+			answers = answers[:i+1]
+			break
 		}
 	}
-	return answers, nil
+	return shortened(lines, answers), nil
+}
+
+// doCommands does commands, with what is asked between them.
+func (e *Endpoints) doCommands(r *request, rule api.Rule, lines []*api.Call) (answers [][]byte, err error) {
+	for _, line := range lines {
+		if line.Function == api.DecideByUser && rule.IsStopped {
+			// Several machines don't log whether such a line is refused.
+			return nil, notRead("with stop=first a batch of commands has no %s", api.DecideByUser)
+		}
+	}
+	ask := func() (err error) {
+		answers, err = e.ask(r, rule, lines...)
+		return err
+	}
+	if r.slot == nil {
+		err = ask()
+		return answers, err
+	}
+	err = r.slot.make(r.ctx, ask)
+	return answers, err
+}
+
+func hasLong(calls []*api.Call) bool {
+	for _, call := range calls {
+		if call.IsLong() {
+			return true
+		}
+	}
+	return false
+}
+
+// shortened returns answers in which those to questions have not too many bytes together: one that is beyond that is refused by itself,
+// since the commands are done. The only answer of a batch has no limit.
+func shortened(lines []*api.Call, answers [][]byte) [][]byte {
+	size := 0
+	for i, answer := range answers {
+		if lines[i].Kind == api.Command {
+			continue
+		}
+		if size += len(answer); size > api.MaxAnswerBytes && len(answers) > 1 {
+			answers[i] = api.RefusalText(errAnswers.Code, errAnswers.Name)
+		}
+	}
+	return answers
 }
 
 // readStop reads from the target of a request whether a batch ends after the first line that is refused.

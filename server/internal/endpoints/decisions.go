@@ -14,12 +14,17 @@ const checkAccess = "checkAccess"
 // the caller.
 func deciding(asked api.Arguments) (*api.Call, error) {
 	if asked.User != "" {
-		return api.NewOther(api.DecideByUser, "user", asked.User, "operation", asked.Operation, "object", asked.Object), nil
+		return decidingByUser(asked), nil
 	}
 	return api.NewCallWith(checkAccess, asked)
 }
 
-// readAsked reads what is to be decided about what is at one of some keys, of which one has to be there.
+func decidingByUser(asked api.Arguments) *api.Call {
+	return api.NewOther(api.DecideByUser, "user", asked.User, "operation", asked.Operation, "object", asked.Object)
+}
+
+// readAsked reads what is to be decided about what is at one of some keys, of which one has to be there. What the office says of an empty
+// name is for the office to say.
 func readAsked(fields api.Fields, keys ...string) (*api.Call, error) {
 	var asked api.Arguments
 	texts := map[string]*string{"session": &asked.Session, "user": &asked.User, "operation": &asked.Operation, "object": &asked.Object}
@@ -36,13 +41,18 @@ func readAsked(fields api.Fields, keys ...string) (*api.Call, error) {
 			count++
 		}
 	}
-	if count != 1 || asked.Session+asked.User == "" {
-		return nil, notRead("one key has to be there, and not empty: %s", strings.Join(keys, " or "))
+	if count != 1 {
+		return nil, notRead("one key has to be there: %s", strings.Join(keys, " or "))
 	}
-	if err := check(asked, "operation", "object"); err != nil {
-		return nil, err
+	for _, key := range []string{"operation", "object"} {
+		if !fields.Has(key) {
+			return nil, notRead("%s is missing", key)
+		}
 	}
-	return deciding(asked)
+	if fields.Has("user") {
+		return decidingByUser(asked), nil
+	}
+	return api.NewCallWith(checkAccess, asked)
 }
 
 // check refuses what lacks an operation or an object, with the name of what is missing.
@@ -63,6 +73,9 @@ func (e *Endpoints) decideByUser(r *request) (int, error) {
 		return 0, err
 	}
 	call, err := readAsked(fields, "user")
+	if err == nil {
+		err = r.may(call) // Before the revision, as for each function.
+	}
 	if err != nil {
 		return 0, err
 	}
@@ -95,7 +108,11 @@ func (e *Endpoints) askAll(r *request, rule api.Rule, calls ...*api.Call) ([][]b
 	if err := r.may(calls...); err != nil {
 		return nil, err
 	}
-	answers, err := e.ask(r, rule, calls...)
+	ask := e.askAtOnce
+	if len(calls) == 1 {
+		ask = func(r *request, rule api.Rule, calls []*api.Call) ([][]byte, error) { return e.ask(r, rule, calls...) }
+	}
+	answers, err := ask(r, rule, calls)
 	if err != nil {
 		return nil, err
 	}

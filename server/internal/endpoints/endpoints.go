@@ -43,8 +43,8 @@ type Options struct {
 	PublicURL string
 	// LogDecision is called with each decision about access, unless it is nil.
 	LogDecision func(decided api.Decision)
-	// Denied is called if a caller may not do something.
-	Denied  func(r *http.Request, visit *callers.Visit)
+	// Denied is called if a caller may not do something: a call, or nil if its body wasn't read.
+	Denied  func(r *http.Request, visit *callers.Visit, call *api.Call)
 	Metrics prometheus.Registerer
 }
 
@@ -56,18 +56,19 @@ type Endpoints struct {
 	life   context.Context
 	office Office
 	at     map[string]endpoint
-	// tickets let reports be read, and slots large answers be made. bodies has slots for large bodies.
-	tickets       *tickets
-	slots, bodies *slots
-	snapshotted   snapshotted
-	trials        trial.Turn
+	// tickets let reports be read, and slots large answers be made. questions has slots for long questions, and bodies for large bodies.
+	tickets                  *tickets
+	slots, questions, bodies *slots
+	snapshotted              snapshotted
+	cloned                   cloned
+	trials                   trial.Turn
 }
 
 // New returns endpoints that answer until the context ends.
 func New(life context.Context, office Office, options Options) *Endpoints {
 	e := &Endpoints{
 		Options: options, figures: newFigures(options.Metrics), life: life, office: office,
-		tickets: newTickets(), slots: newSlots(), bodies: newSlots(), trials: trial.NewTurn(),
+		tickets: newTickets(), slots: newSlots(), questions: newSlots(), bodies: newSlots(), cloned: newCloned(), trials: trial.NewTurn(),
 	}
 	e.add()
 	return e
@@ -82,6 +83,15 @@ type request struct {
 	visit *callers.Visit
 	// kind is how questions are to be answered.
 	kind api.Kind
+	// denied is the last call that the caller may not do.
+	denied *api.Call
+	// slot is nil unless the request needs one.
+	slot *slot
+}
+
+// whileThere returns a context that ends when the client is gone or has ended its side of the connection, or has waited for long.
+func (r *request) whileThere() (context.Context, context.CancelFunc) {
+	return context.WithTimeout(r.Context(), askingTimeout)
 }
 
 // An endpoint is what is at a path: how a request is counted, its methods, and what answers it and returns the status, or an error
@@ -143,6 +153,7 @@ var get, post, getOrPost = []string{http.MethodGet}, []string{http.MethodPost}, 
 // Serve answers a request of a caller, or of anybody if there are no callers. What is for no endpoint is for a function.
 func (e *Endpoints) Serve(w http.ResponseWriter, r *http.Request, visit *callers.Visit) {
 	start, asked := time.Now(), &request{Request: r, w: w, ctx: e.life, visit: visit}
+	defer func() { asked.slot.leave() }()
 	status, err := 0, error(nil)
 	at, isThere := e.find(r.RequestURI)
 	if isThere {
@@ -154,7 +165,7 @@ func (e *Endpoints) Serve(w http.ResponseWriter, r *http.Request, visit *callers
 	if err != nil {
 		refused := api.RefusalOf(err)
 		if visit != nil && refused == api.Forbidden {
-			e.Denied(r, visit)
+			e.Denied(r, visit, asked.denied)
 		}
 		var line *api.LineError
 		if errors.As(err, &line) {
@@ -201,7 +212,7 @@ func (e *Endpoints) function(r *request) (kind api.Kind, status int, err error) 
 		return kind, 0, err
 	}
 	r.kind = kind
-	answers, err := e.ask(r, rule, call)
+	answers, err := e.askOne(r, rule, call)
 	if err != nil {
 		return kind, 0, err
 	}
@@ -326,11 +337,21 @@ func (r *request) may(calls ...*api.Call) error {
 			return err
 		}
 	}
-	return r.visit.May(calls...)
+	err := r.visit.May(calls...)
+	for i := 0; err != nil && i < len(calls); i++ {
+		if r.visit.May(calls[i]) != nil {
+			r.denied = calls[i]
+			break
+		}
+	}
+	return err
 }
 
 func (r *request) reply(status int, text []byte) int {
 	r.visit.Done()
+	if string(text) == noRoom {
+		r.w.Header().Set(api.WhyField, EndsSessions)
+	}
 	return api.Write(r.w, status, text)
 }
 

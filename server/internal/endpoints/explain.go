@@ -8,11 +8,11 @@ import (
 // An explanation is why something is allowed, or not. What the caller has no right to is left out.
 type explanation struct {
 	Allowed bool `json:"allowed"`
-	// Blocked has the roles with the permission that can never be activated, and By those by which it is allowed, or would be if the
-	// user weren't locked.
+	// Blocked has the roles with the permission that can't be activated: in no session, or, if a session is asked about, not beside the
+	// roles that it has. By has those by which it is allowed, or would be if the user weren't locked.
 	Blocked []blocked `json:"blocked,omitempty"`
 	By      []source  `json:"by,omitempty"`
-	// Inactive has the roles with the permission for which the user is authorized and that the session doesn't have.
+	// Inactive has the roles with the permission that the session could have, and doesn't.
 	Inactive []source `json:"inactive,omitempty"`
 	Locked   bool     `json:"locked,omitempty"`
 }
@@ -25,8 +25,10 @@ type source struct {
 	Role      string    `json:"role"`
 }
 
-// A blocked role is one that has too many members of a dynamic set among itself and its juniors.
+// A blocked role is one that has too many members of a dynamic set among itself and its juniors, and the roles that a session has. Kind is
+// that of the limit if a session has as many activated roles as it may have.
 type blocked struct {
+	Kind    string   `json:"kind,omitempty"`
 	Members []string `json:"members,omitempty"`
 	Role    string   `json:"role"`
 	Set     string   `json:"set,omitempty"`
@@ -48,14 +50,21 @@ func (e *Endpoints) explain(r *request) (int, error) {
 	if err != nil {
 		return 0, err
 	}
+	ctx, cancel := r.whileThere()
+	defer cancel()
 	at, err := e.office.Await(r.ctx, r.kind)
+	if err == nil {
+		err = e.enter(ctx, r)
+	}
 	if err != nil {
 		return 0, err
 	}
 	var seen facts
 	e.office.State().Touch([]*api.Call{call})
-	err = e.office.State().Look(func(v *state.View) {
-		seen, at.Policy, at.Revision = factsOf(v, call), v.Numbers.Policy, v.Numbers.Revision
+	err = r.slot.make(ctx, func() error {
+		return e.office.State().Look(func(v *state.View) {
+			seen, at.Policy, at.Revision = factsOf(v, call), v.Numbers.Policy, v.Numbers.Revision
+		})
 	})
 	if err != nil {
 		return 0, err
@@ -78,7 +87,7 @@ type facts struct {
 	// assigned has, for each role that has the permission, the roles that the user is assigned to and that are this role or a senior of
 	// it, and active those that were activated.
 	assigned, active map[string][]string
-	// blocked has those of the roles that can never be activated.
+	// blocked has those of the roles that can't be activated.
 	blocked  map[string]blocked
 	isLocked bool
 	user     string
@@ -92,16 +101,26 @@ func factsOf(v *state.View, call *api.Call) facts {
 		session, _ := v.Session(call.Session)
 		seen.user, seen.active = session.User, v.Above(seen.granted, session.Active)
 		seen.own = v.Names("sessionRoles", "session", call.Session)
+		seen.block(v, len(session.Active) >= state.MostActivated, seen.own)
 	} else {
 		seen.isLocked, seen.own = v.IsLocked(call.User), v.Names("authorizedRoles", "user", call.User)
-		for _, role := range seen.granted {
-			if set, members := v.Blocked(role); set != "" {
-				seen.blocked[role] = blocked{members, role, set}
-			}
-		}
+		seen.block(v, false, nil)
 	}
 	seen.assigned = v.Above(seen.granted, v.AssignedRoles(seen.user))
 	return seen
+}
+
+// block notes which of the roles can't be activated beside some others, or not at all since there is no room for another one.
+func (seen *facts) block(v *state.View, isFull bool, beside []string) {
+	for _, role := range seen.granted {
+		set, members := v.Blocked(role, beside...)
+		switch {
+		case set != "":
+			seen.blocked[role] = blocked{Members: members, Role: role, Set: set}
+		case isFull:
+			seen.blocked[role] = blocked{Kind: state.ActiveRoleKind, Role: role}
+		}
+	}
 }
 
 // explainedUser explains a decision about a user. A session in which the user may do the operation has a role to which the permission is
@@ -123,13 +142,19 @@ func (r *request) explainedUser(q api.Arguments, seen facts) *explanation {
 		case !isBlocked:
 			by := seen.assigned[role]
 			shown.By = append(shown.By, source{Assigned: &by, Role: role})
-		case hasSets:
-			shown.Blocked = append(shown.Blocked, one)
 		default:
-			shown.Blocked = append(shown.Blocked, blocked{Role: role})
+			shown.Blocked = append(shown.Blocked, one.shown(hasSets))
 		}
 	}
 	return shown
+}
+
+// shown is what of a blocked role somebody gets to know who may see the sets, or may not.
+func (b blocked) shown(hasSets bool) blocked {
+	if !hasSets {
+		b.Members, b.Set = nil, ""
+	}
+	return b
 }
 
 // explainedSession explains a decision about a session: by which roles it has a permission, and by which it might.
@@ -140,6 +165,7 @@ func (r *request) explainedSession(q api.Arguments, seen facts) *explanation {
 		return shown
 	}
 	showsRoles := r.mayAsk("assignedRoles", q) && r.mayAsk("authorizedRoles", q)
+	hasSets := r.mayAsk("dsdRoleSetRoles", q)
 	for _, role := range seen.granted {
 		assigned := append([]string{}, seen.assigned[role]...)
 		one := source{Activated: seen.active[role], Role: role}
@@ -149,7 +175,10 @@ func (r *request) explainedSession(q api.Arguments, seen facts) *explanation {
 		switch {
 		case has(seen.own, role):
 			shown.By = append(shown.By, one)
-		case showsRoles && len(assigned) > 0:
+		case !showsRoles || len(assigned) == 0:
+		case seen.blocked[role].Role != "":
+			shown.Blocked = append(shown.Blocked, seen.blocked[role].shown(hasSets))
+		default:
 			shown.Inactive = append(shown.Inactive, one)
 		}
 	}

@@ -40,13 +40,11 @@ func (e *Endpoints) list(r *request) (int, error) {
 	if err != nil {
 		return 0, err
 	}
-	leave, err := e.slot(r)
-	if err != nil {
+	if err := e.enter(over, r); err != nil {
 		return 0, err
 	}
-	defer leave()
 	var text []byte
-	err = e.slots.make(r.ctx, func() error {
+	err = r.slot.make(r.ctx, func() error {
 		found, err := e.page(r, s, query)
 		text = found.text()
 		return err
@@ -72,13 +70,11 @@ func (e *Endpoints) lists(r *request) (int, error) {
 	if err != nil {
 		return 0, err
 	}
-	leave, err := e.slot(r)
-	if err != nil {
+	if err := e.enter(over, r); err != nil {
 		return 0, err
 	}
-	defer leave()
 	before, answers := s.Numbers(), [][]byte(nil)
-	err = e.slots.make(r.ctx, func() error {
+	err = r.slot.make(r.ctx, func() error {
 		answers, err = e.pages(r, s, queries)
 		return err
 	})

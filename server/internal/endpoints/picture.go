@@ -48,10 +48,11 @@ func (e *Endpoints) picture(r *request) (int, error) {
 	if err != nil {
 		return 0, errNotHere
 	}
-	part, err := query.part(s)
+	part, numbers, err := query.part(s)
 	if err != nil {
 		return 0, err
 	}
+	r.isAt(numbers)
 	r.visit.Done()
 	drawn, err := draw(r.ctx, program, query.text(part))
 	if err != nil {
@@ -81,10 +82,11 @@ func readPictureQuery(text string) (query pictureQuery, err error) {
 	return query, err
 }
 
-// part returns the part of the role graph that is to be drawn.
-func (q pictureQuery) part(s *state.State) (part state.Part, err error) {
+// part returns the part of the role graph that is to be drawn, and the numbers of that moment.
+func (q pictureQuery) part(s *state.State) (part state.Part, numbers state.Numbers, err error) {
 	hasRole := true
 	err = s.Look(func(v *state.View) {
+		numbers = v.Numbers
 		switch hasRole = q.role == "" || v.HasRole(q.role); {
 		case !hasRole:
 		case q.role == "":
@@ -97,13 +99,13 @@ func (q pictureQuery) part(s *state.State) (part state.Part, err error) {
 	})
 	switch {
 	case err != nil:
-		return part, err
+		return part, numbers, err
 	case !hasRole:
-		return part, api.Refusal{Status: http.StatusConflict, Code: 4, Name: "NoRole"}
+		return part, numbers, api.Refusal{Status: http.StatusConflict, Code: 4, Name: "NoRole"}
 	case len(part.Roles) > mostDrawn:
-		return part, api.BadRequestSince(http.StatusRequestEntityTooLarge, "a picture has at most %d roles", mostDrawn)
+		return part, numbers, api.BadRequestSince(http.StatusRequestEntityTooLarge, "a picture has at most %d roles", mostDrawn)
 	}
-	return part, nil
+	return part, numbers, nil
 }
 
 // draw returns what Graphviz draws. It draws one picture after another.

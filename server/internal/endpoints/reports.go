@@ -13,6 +13,7 @@ import (
 	"rbac-node/internal/api"
 	"rbac-node/internal/recorded"
 	"rbac-node/internal/reports"
+	"rbac-node/internal/state"
 	"rbac-node/internal/web"
 )
 
@@ -48,11 +49,22 @@ func (e *Endpoints) report(r *request) (int, error) {
 	if err != nil {
 		return 0, err
 	}
-	office, err := e.tickets.freeze(s)
-	if err != nil {
+	if !e.tickets.hasRoom(r.visit.Name()) {
+		return 0, api.TooManyRequests
+	}
+	ctx, cancel := r.whileThere()
+	defer cancel()
+	if err := e.enter(ctx, r); err != nil {
 		return 0, err
 	}
-	made, err := reports.New(query.name, office, query.Filter)
+	var office *state.Frozen
+	var made *reports.Report
+	err = r.slot.make(ctx, func() (err error) {
+		if office, err = e.tickets.freeze(s); err == nil {
+			made, err = reports.New(query.name, office, query.Filter)
+		}
+		return err
+	})
 	if err != nil {
 		return 0, err
 	}

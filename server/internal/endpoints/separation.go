@@ -36,9 +36,14 @@ func (e *Endpoints) explainCommand(r *request, line string) (int, error) {
 	if err != nil {
 		return 0, err
 	}
+	ctx, cancel := r.whileThere()
+	defer cancel()
+	if err := e.enter(ctx, r); err != nil {
+		return 0, err
+	}
 	var found []state.Conflict
-	err = e.slots.make(r.ctx, func() (err error) {
-		found, err = s.Conflicts(call)
+	err = r.slot.make(ctx, func() (err error) {
+		found, err = e.cloned.conflicts(ctx, s, call)
 		return err
 	})
 	if err != nil {

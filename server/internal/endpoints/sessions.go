@@ -9,10 +9,20 @@ import (
 	"strings"
 
 	"rbac-node/internal/api"
+	"rbac-node/internal/state"
 )
 
 // randomBytes is how many random bytes the name of a session has. It is written with twice as many digits.
 const randomBytes = 16
+
+// noRoom is what the office answers to a login if it has as many sessions as it may have, and EndsSessions says what to do.
+const (
+	noRoom       = `{"code":32,"error":"TooMany","kind":"session"}`
+	EndsSessions = "an application ends a session at the logout, and the front ends those that nobody uses: --session-idle, --session-age"
+)
+
+// noUser is the code with which every request about a user who doesn't exist is refused.
+const noUser = 2
 
 // A made session is what is answered about one.
 type made struct {
@@ -175,7 +185,7 @@ func (o *opening) do(roles []string, before ...*api.Call) ([][]byte, error) {
 // read reads the answers to createSession and to the activation of each role. If none of several was accepted, there is no session.
 func (o *opening) read(answers [][]byte) (refused []byte, err error) {
 	if !api.IsAccepted(answers[0]) {
-		return answers[0], nil
+		return o.refusal(answers[0])
 	}
 	tried := o.made.Roles
 	o.made.Roles = []string{}
@@ -196,6 +206,27 @@ func (o *opening) read(answers [][]byte) (refused []byte, err error) {
 		return nil, nil
 	}
 	return refused, nil
+}
+
+// refusal returns how createSession refuses the last of the roles, after a refusal of a session without any. That the role doesn't exist, or
+// that the user isn't authorized for it, comes before the lock, which is reported only to callers who may assign one of the user's roles.
+func (o *opening) refusal(refused []byte) ([]byte, error) {
+	if code, _ := api.CodeOf(refused); code == noUser || len(o.made.Roles) == 0 {
+		return refused, nil
+	}
+	if _, err := o.endpoints.office.Await(o.ctx, o.kind); err != nil {
+		return nil, err
+	}
+	last := o.made.Roles[len(o.made.Roles)-1]
+	err := o.endpoints.office.State().Look(func(v *state.View) {
+		switch {
+		case !v.HasRole(last):
+			refused = api.RefusalText(4, "NoRole")
+		case !has(v.Names("authorizedRoles", "user", o.user), last):
+			refused = api.RefusalText(29, "NotAuthorized")
+		}
+	})
+	return refused, err
 }
 
 // mayGive returns those of some roles that the caller may give to a session. The others are left out. They are named if the client has

@@ -12,98 +12,120 @@ import (
 // The large answers of a caller, and of all callers together, are limited. Those of other callers are not affected.
 func TestSlots(t *testing.T) {
 	s := newSlots()
-	var leave []func()
+	var taken []*slot
 	take := func(caller string, wanted error) {
 		t.Helper()
-		one, err := s.enter(caller)
+		one, err := s.enter(over, caller)
 		if err != wanted {
 			t.Fatalf("%s: %v", caller, err)
 		}
 		if err == nil {
-			leave = append(leave, one)
+			taken = append(taken, one)
 		}
 	}
 	for i := 0; i < mostLarge; i++ {
 		take(fmt.Sprint(i/mostLargeOfOne), nil)
 	}
 	take("another", api.TooManyRequests)
-	leave[0]()
+	taken[0].leave()
 	take("1", api.TooManyRequests)
 	take("0", nil)
-	for _, one := range leave[1:] {
-		one()
+	waiting := make(chan error, 1)
+	go func() {
+		one, err := s.enter(context.Background(), "1")
+		one.leave()
+		waiting <- err
+	}()
+	for _, one := range taken[1:] {
+		one.leave()
 	}
-	if s.count != 0 || len(s.of) != 0 {
-		t.Errorf("%d are left, of %v", s.count, s.of)
+	if err := <-waiting; err != nil {
+		t.Errorf("one who waits: %v", err)
+	}
+	if len(s.places) != 0 || len(s.of) != 0 {
+		t.Errorf("%d are left, of %v", len(s.places), s.of)
 	}
 }
 
 // A caller has few snapshots at once: others of it wait, and those of another caller don't.
 func TestSnapshotSlots(t *testing.T) {
 	s, ctx := newSlots(), context.Background()
-	ended, cancel := context.WithCancel(ctx)
-	cancel()
-	var leave []func()
+	snapshot := func(ctx context.Context, caller string) (*slot, error) {
+		one, err := s.enter(ctx, caller)
+		if err == nil {
+			err = one.snapshot(ctx)
+		}
+		return one, err
+	}
+	var taken []*slot
 	for i := 0; i < mostSnapshots; i++ {
-		one, err := s.enterSnapshot(ctx, "a")
+		one, err := snapshot(ctx, "a")
 		if err != nil {
 			t.Fatal(err)
 		}
-		leave = append(leave, one)
+		taken = append(taken, one)
 	}
-	if _, err := s.enterSnapshot(ended, "a"); err != api.TooManyRequests {
+	more, err := snapshot(over, "a")
+	if more.leave(); err != api.TooManyRequests {
 		t.Errorf("one more: %v", err)
 	}
-	other, err := s.enterSnapshot(ctx, "b")
+	other, err := snapshot(ctx, "b")
 	if err != nil {
 		t.Fatal(err)
 	}
 	waiting := make(chan error, 1)
 	go func() {
-		one, err := s.enterSnapshot(ctx, "a")
-		if err == nil {
-			one()
-		}
+		one, err := snapshot(ctx, "a")
+		one.leave()
 		waiting <- err
 	}()
-	leave[0]()
+	taken[0].leave()
 	if err := <-waiting; err != nil {
 		t.Error(err)
 	}
-	leave[1]()
-	other()
-	if s.count != 0 || len(s.of) != 0 {
-		t.Errorf("%d are left, of %v", s.count, s.of)
+	taken[1].leave()
+	other.leave()
+	if len(s.places) != 0 || len(s.of) != 0 {
+		t.Errorf("%d are left, of %v", len(s.places), s.of)
 	}
 }
 
-// No more than some are made at once, and one who waits for a turn in vain is refused.
+// One is made at a time for each caller, and no more than some for all. One who waits for a turn in vain is refused.
 func TestMaking(t *testing.T) {
 	s := newSlots()
 	begun, release := make(chan struct{}, mostMaking), make(chan struct{})
 	var work sync.WaitGroup
 	for i := 0; i < mostMaking; i++ {
+		one, err := s.enter(over, fmt.Sprint(i))
+		if err != nil {
+			t.Fatal(err)
+		}
+		defer one.leave()
 		work.Add(1)
 		go func() {
 			defer work.Done()
-			_ = s.make(context.Background(), func() error {
+			_ = one.make(context.Background(), func() error {
 				begun <- struct{}{}
 				<-release
 				return nil
 			})
 		}()
-	}
-	for i := 0; i < mostMaking; i++ {
 		<-begun
+		if err := one.make(over, func() error { t.Error("a second of a caller is made"); return nil }); err != api.TooManyRequests {
+			t.Errorf("a second of caller %d: %v", i, err)
+		}
 	}
-	ended, cancel := context.WithCancel(context.Background())
-	cancel()
-	if err := s.make(ended, func() error { t.Error("it is made"); return nil }); err != api.TooManyRequests {
+	last, err := s.enter(over, "last")
+	if err != nil {
+		t.Fatal(err)
+	}
+	defer last.leave()
+	if err := last.make(over, func() error { t.Error("it is made"); return nil }); err != api.TooManyRequests {
 		t.Errorf("%v", err)
 	}
 	close(release)
 	work.Wait()
-	if err := s.make(context.Background(), func() error { return errNotRead }); err != errNotRead {
+	if err := last.make(context.Background(), func() error { return errNotRead }); err != errNotRead {
 		t.Errorf("its own error: %v", err)
 	}
 }

@@ -56,6 +56,15 @@ func (t *tickets) freeze(s *state.State) (*state.Frozen, error) {
 	return t.frozen, nil
 }
 
+// hasRoom reports whether a ticket of a caller could be kept now.
+func (t *tickets) hasRoom(owner string) bool {
+	t.mutex.Lock()
+	defer t.mutex.Unlock()
+	t.expire()
+	_, count := t.oldestOf(owner)
+	return len(t.byName) < mostTickets || count == mostOfOne
+}
+
 // add keeps a ticket, and returns its name. If its caller has too many, the oldest is no longer of use.
 func (t *tickets) add(one *ticket) (name string, err error) {
 	random := make([]byte, ticketBytes)

@@ -3,6 +3,7 @@ package endpoints
 import (
 	"bufio"
 	"context"
+	"fmt"
 	"net"
 	"net/http"
 	"strconv"
@@ -36,14 +37,15 @@ func (e *Endpoints) snapshot(r *request) (int, error) {
 	if err != nil {
 		return 0, err
 	}
-	leave, err := e.slots.enterSnapshot(r.ctx, r.visit.Name())
-	if err != nil {
+	if err := e.enter(over, r); err != nil {
 		return 0, err
 	}
-	defer leave()
+	if err := r.slot.snapshot(r.ctx); err != nil {
+		return 0, err
+	}
 	var text []byte
 	var numbers state.Numbers
-	err = e.slots.make(r.ctx, func() (err error) {
+	err = r.slot.make(r.ctx, func() (err error) {
 		text, numbers, err = e.snapshotted.of(s)
 		return err
 	})
@@ -188,9 +190,9 @@ var always = func() <-chan struct{} {
 	return closed
 }()
 
-// write writes the next commands, and once a second the newest number, if there are no more, with the time since the request: so a
-// client that knows when it has asked knows how old its copy is, however long the connection has held the event up. It returns false
-// if the watch has ended. While the office doesn't answer it writes nothing, so that clients notice.
+// write writes the next commands, and once a second the newest number, if there are no more, with the revision of the policy, so that a
+// client sees whether its copy lacks a command, and the time since the request: so a client that knows when it has asked knows how old
+// its copy is, however long the connection has held the event up. It returns false if the watch has ended. While the office doesn't answer it writes nothing, so that clients notice.
 func (w *watch) write() bool {
 	if !w.endpoints.office.IsReady() {
 		return true
@@ -215,8 +217,8 @@ func (w *watch) write() bool {
 	if !now.Before(w.due) {
 		// A tick may come a little early, and the next one isn't to be waited for then.
 		w.due = now.Add(watchInterval - watchInterval/10)
-		elapsed := strconv.FormatInt(now.Sub(w.began).Milliseconds(), 10)
-		_, _ = w.lines.WriteString("event: newest\ndata: " + strconv.FormatInt(found.Newest, 10) + "\nelapsed: " + elapsed + "\n\n")
+		elapsed := now.Sub(w.began).Milliseconds()
+		_, _ = fmt.Fprintf(w.lines, "event: newest\ndata: %d\nrevision: %d\nelapsed: %d\n\n", found.Newest, found.Policy, elapsed)
 	}
 	return w.lines.Flush() == nil
 }

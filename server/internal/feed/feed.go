@@ -2,7 +2,8 @@
 //
 // What a client asks for at once is a unit: its lines follow one another, with nothing between them. A keeper gets each unit before the
 // replay, and its answers before whoever asks. One goroutine does both and writes all lines. Answers come in the same order, to a
-// goroutine that never waits. If the replay ends, whoever waits for an answer gets none: nobody knows which of the lines were done.
+// goroutine that never waits: another one lets the observer follow them. If the replay ends, whoever waits for an answer gets none: nobody
+// knows which of the lines were done.
 package feed
 
 import (
@@ -48,7 +49,10 @@ type Options struct {
 	Metrics prometheus.Registerer
 	// Before is called before each start of a replay, except after one that has answered all. No replay runs then, and all answers of
 	// the one before have been observed and kept.
-	Before   func(ctx context.Context) error
+	Before func(ctx context.Context) error
+	// While is called after Before, while the replay opens the office, whose rows that doesn't change. The replay gets no line of a client
+	// until it has returned without an error. It may be nil.
+	While    func(ctx context.Context) error
 	Observer Observer
 	Keeper   Keeper
 }
@@ -58,11 +62,13 @@ type Feed struct {
 	Options
 	figures
 	keeping
-	// asked has the units that the keeper hasn't got, and sent those that the replay has got and not answered, in their order. There is
-	// always room in sent: the replay never has that many at once.
-	asked, sent chan *Unit
-	alive       chan struct{}
-	replay      *office.Replay
+	// asked has the units that the keeper hasn't got, and sent those that the replay has got and that aren't followed, in their order.
+	// replied has those of the latter that are answered. There is always room in both: there are never that many at once.
+	asked, sent, replied chan *Unit
+	// following counts the units in replied, and the one that is being followed.
+	following sync.WaitGroup
+	alive     chan struct{}
+	replay    *office.Replay
 	// newest is the replay that was started last, for other goroutines.
 	newest atomic.Pointer[office.Replay]
 	// reads is the most times that the replay can have read its input. Only the goroutine of Run uses it.
@@ -81,14 +87,26 @@ type Feed struct {
 
 // Open returns a feed whose replay answers.
 func Open(ctx context.Context, options Options) (*Feed, error) {
-	f := &Feed{Options: options, asked: make(chan *Unit, maxWaiting), sent: make(chan *Unit, maxWaiting), alive: make(chan struct{})}
+	f := &Feed{Options: options, alive: make(chan struct{})}
+	f.asked, f.sent, f.replied = make(chan *Unit, maxWaiting), make(chan *Unit, maxWaiting), make(chan *Unit, maxWaiting)
 	f.wake = make(chan struct{}, 1)
 	f.why.Store("")
 	f.figures = newFigures(f.Metrics, f.Name, f.waiting)
 	if err := f.start(ctx); err != nil {
 		return nil, err
 	}
+	go f.follow()
 	return f, nil
+}
+
+// follow lets the observer and the keeper have what the replay has answered. Whatever they wait for, the replay is heard meanwhile.
+func (f *Feed) follow() {
+	for u := range f.replied {
+		<-f.sent // It is this unit, since answers come in order.
+		f.Observer.Answered(u)
+		f.answered(u)
+		f.following.Done()
+	}
 }
 
 // waiting returns how many units wait for the replay, or for its answers.
@@ -146,6 +164,7 @@ func (f *Feed) IsAlive(ctx context.Context) bool {
 
 // Run passes lines until the context ends. It then answers those that it has got, and returns when the replay has ended.
 func (f *Feed) Run(ctx context.Context) error {
+	defer close(f.replied)
 	for {
 		err := f.pass(ctx)
 		if ctx.Err() != nil {
@@ -237,10 +256,9 @@ func (f *Feed) send(units []*Unit) {
 			f.reads += office.ReadsOf(line)
 			f.replay.Send(line, func(answer []byte) {
 				if u.Answers[i] = answer; i == len(u.Lines)-1 {
-					<-f.sent // It is this unit, since answers come in order.
 					f.seconds.Observe(time.Since(sent).Seconds())
-					f.Observer.Answered(u)
-					f.answered(u)
+					f.following.Add(1)
+					f.replied <- u
 				}
 			})
 		}
@@ -251,6 +269,7 @@ func (f *Feed) send(units []*Unit) {
 // halt lets the keeper have the answers of a replay that has ended, and nothing more: what waits is lost.
 func (f *Feed) halt() {
 	<-f.replay.Ended() // All answers have come.
+	f.following.Wait()
 	f.count(-f.count(0))
 	if answered := f.takeAnswered(); len(answered) > 0 {
 		f.keep(answered, nil)
@@ -283,6 +302,7 @@ func (f *Feed) Quietly(do func() error) error {
 func (f *Feed) end() error {
 	defer time.AfterFunc(endTimeout, f.replay.Kill).Stop()
 	err := f.replay.Close()
+	f.following.Wait()
 	if err != nil {
 		lose(f.sent)
 	}
@@ -325,17 +345,28 @@ func (f *Feed) start(ctx context.Context) error {
 	defer f.resting.Unlock()
 	f.life.Add(1)
 	f.isKilled.Store(false) // The replay that was killed has ended.
-	if err := f.before(ctx); err != nil {
+	if err := f.Before(ctx); err != nil {
+		lose(f.sent)
 		return err
 	}
-	return f.open(ctx)
+	read := make(chan error, 1)
+	go func() { read <- f.while(ctx) }()
+	err := f.open(ctx)
+	if failed := <-read; err == nil && failed != nil {
+		_ = f.end() // What has failed before says more.
+		err = failed
+	}
+	return err
 }
 
-// before does what comes before a start. Then it tells those who wait for the last replay that they get no answer: by then it is known
-// which of their lines were done, so nothing of them shows later that doesn't show at once.
-func (f *Feed) before(ctx context.Context) error {
+// while does what is done while the replay opens. Then it tells those who wait for the last replay that they get no answer: by then it is
+// known which of their lines were done, so nothing of them shows later that doesn't show at once.
+func (f *Feed) while(ctx context.Context) error {
 	defer lose(f.sent)
-	return f.Before(ctx)
+	if f.While == nil {
+		return nil
+	}
+	return f.While(ctx)
 }
 
 // open is start without what comes before it.

@@ -3,6 +3,7 @@ package feed
 import (
 	"bytes"
 	"context"
+	"errors"
 	"fmt"
 	"net/http"
 	"net/http/httptest"
@@ -10,6 +11,7 @@ import (
 	"path/filepath"
 	"strings"
 	"sync"
+	"sync/atomic"
 	"testing"
 	"time"
 
@@ -368,5 +370,103 @@ func TestFigures(t *testing.T) {
 		if !strings.Contains(answer.Body.String(), wanted+"\n") {
 			t.Errorf("no %s in %s", wanted, answer.Body.String())
 		}
+	}
+}
+
+// While runs as the replay opens, and no line of a client reaches the replay before While has ended. Those who waited for the earlier replay
+// learn only after that that they get no answer. If While fails, there is no replay.
+func TestWhile(t *testing.T) {
+	options := optionsOf(t, filepath.Join(t.TempDir(), "office"), time.Minute, logs.New(&bytes.Buffer{}))
+	file := options.Start
+	begun, fails := make(chan struct{}, 1), error(nil)
+	options.Start = func() (*office.Replay, error) { begun <- struct{}{}; return file() }
+	var waits, isTold atomic.Bool
+	options.While = func(context.Context) error {
+		<-begun // It would wait for ever if the replay began later.
+		if waits.Load() {
+			time.Sleep(50 * time.Millisecond)
+			if isTold.Load() {
+				t.Error("somebody was told too early")
+			}
+		}
+		return fails
+	}
+	f, err := Open(context.Background(), options)
+	if err != nil {
+		t.Fatal(err)
+	}
+	waits.Store(true)
+	lost := NewUnit()
+	lost.begin(context.Background())
+	f.sent <- lost
+	go func() { <-lost.done; isTold.Store(true) }()
+	_ = f.replay.Close()
+	if err := f.start(context.Background()); err != nil || !lost.lost.Load() {
+		t.Errorf("%v, and it was lost: %v", err, lost.lost.Load())
+	}
+	waits.Store(false)
+	fails = errors.New("no rows")
+	_ = f.replay.Close()
+	if err := f.start(context.Background()); err != fails {
+		t.Errorf("%v and not %v", err, fails)
+	}
+	select {
+	case <-f.replay.Ended():
+	default:
+		t.Error("the replay goes on")
+	}
+}
+
+// A waiting observer waits until it may go on.
+type waitingObserver struct {
+	mutex    sync.Mutex
+	seen     []string
+	goOn     chan struct{}
+	hasBegun chan struct{}
+}
+
+func (o *waitingObserver) Answered(u *Unit) {
+	o.hasBegun <- struct{}{}
+	<-o.goOn
+	o.mutex.Lock()
+	defer o.mutex.Unlock()
+	o.seen = append(o.seen, string(u.Answers[0]))
+}
+
+// While the observer waits, as for those who read the office, the replay is heard: it isn't killed, and the answers come in their order.
+func TestObserverThatWaits(t *testing.T) {
+	const hangTimeout, units = 100 * time.Millisecond, 20
+	o := &waitingObserver{goOn: make(chan struct{}), hasBegun: make(chan struct{}, units+1)}
+	b := &bench{file: filepath.Join(t.TempDir(), "office"), log: &syncBuffer{}, end: make(chan error, 1)}
+	options := optionsOf(t, b.file, hangTimeout, logs.New(b.log))
+	options.Observer = o
+	var err error
+	if b.Feed, err = Open(context.Background(), options); err != nil {
+		t.Fatal(err)
+	}
+	ctx, stop := context.WithCancel(context.Background())
+	defer stop()
+	go func() { b.end <- b.Run(ctx) }()
+	given := make(chan error, units)
+	for i := 0; i < units; i++ {
+		go func() {
+			_, err := ask(b, within(t, time.Minute), []byte("0"))
+			given <- err
+		}()
+	}
+	<-o.hasBegun
+	time.Sleep(5 * hangTimeout)
+	close(o.goOn)
+	for i := 0; i < units; i++ {
+		if err := <-given; err != nil {
+			t.Errorf("an answer is lost: %v", err)
+		}
+	}
+	if _, err := ask(b, within(t, time.Minute), []byte("0")); err != nil {
+		t.Errorf("the next answer: %v", err)
+	}
+	stop()
+	if err := <-b.end; err != nil || b.starts() != 1 || len(o.seen) != units+1 {
+		t.Errorf("%v, %d starts, %d units followed", err, b.starts(), len(o.seen))
 	}
 }

@@ -26,7 +26,7 @@ type keeping struct {
 	failed <-chan time.Time
 }
 
-// answered takes a unit that the replay has answered. It doesn't wait.
+// answered takes a unit that the replay has answered and the observer has followed. It doesn't wait.
 func (k *keeping) answered(u *Unit) {
 	k.mutex.Lock()
 	k.done = append(k.done, u)

@@ -72,8 +72,8 @@ func (u *Unit) lose() {
 
 // An Observer is told of all commands, in the one order.
 type Observer interface {
-	// Answered gets each unit that the replay has answered, before whoever asks gets the answers, and before the next unit. It is
-	// called by the goroutine that reads the answers, so it must not wait.
+	// Answered gets each unit that the replay has answered, before whoever asks gets the answers, and before the next unit. The replay
+	// goes on meanwhile.
 	Answered(u *Unit)
 }
 

@@ -115,6 +115,7 @@ func (f *Front) addMetrics() {
 	metrics.Gauge(f.Metrics, "rbac_node_callers_refused_timestamp_seconds",
 		"Since when the files of the callers are not those in force, in seconds of Unix, or 0.",
 		func() float64 { return float64(f.refusedAt.Load()) / 1e9 })
+	f.TLS.Measure(f.Metrics, "tls")
 	metrics.Gauge(f.Metrics, "rbac_node_connections", "Connections of clients.", func() float64 { return float64(f.room.Connections()) })
 }
 
@@ -211,6 +212,9 @@ func (f *Front) Serve(life context.Context, start func(func() error), office end
 		options.LogDecision = f.logged.Note
 	}
 	f.office, f.endpoints = office, endpoints.New(life, office, options)
+	rooms := newRooms(office, f.Log)
+	f.Metrics.MustRegister(rooms)
+	go rooms.watch(life)
 	f.isServing.Store(true)
 	if len(f.servers) == 0 {
 		f.Begin(start)
@@ -239,22 +243,22 @@ func (f *Front) Close() {
 	}
 }
 
-// errDenied says in the journal that a caller isn't allowed something.
 var errDenied = errors.New("the caller may not do this")
 
 func (f *Front) refuse(w http.ResponseWriter, r *http.Request, caller string, why error, refusal api.Refusal) {
 	web.Refused(r.Context())
-	f.note(r, caller, why, refusal)
+	f.note(r, caller, why, refusal, nil)
 	api.Refuse(w, refusal)
 }
 
-// note counts a request that is refused without the office, and writes it to the journal.
-func (f *Front) note(r *http.Request, caller string, why error, refusal api.Refusal) {
+// note counts a request that is refused without the office, and writes it to the journal, with the call that the caller may not do if
+// that was read.
+func (f *Front) note(r *http.Request, caller string, why error, refusal api.Refusal, denied *api.Call) {
 	f.refused.WithLabelValues(strconv.Itoa(refusal.Status)).Inc()
 	if refusal.Status == http.StatusTooManyRequests || refusal.Status == http.StatusServiceUnavailable {
 		return
 	}
-	if err := f.journal.Write(r, refusal.Status, caller, why); err != nil {
+	if err := f.journal.Write(r, refusal.Status, caller, why, denied); err != nil {
 		f.Log.Error("a refused request isn't in its file", "why", err)
 	}
 }

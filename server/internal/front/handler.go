@@ -105,7 +105,7 @@ func (f *Front) serveHealth(w http.ResponseWriter, r *http.Request) {
 
 // answer answers a request of a caller, or of anybody if there is no visit.
 func (f *Front) answer(w http.ResponseWriter, r *http.Request, visit *callers.Visit) {
-	if f.HasMetrics && r.RequestURI == "/metrics" && r.Method == http.MethodGet {
+	if f.HasMetrics && r.RequestURI == "/metrics" && (r.Method == http.MethodGet || r.Method == http.MethodHead) {
 		f.answerMetrics(w, r, visit)
 		return
 	}
@@ -113,9 +113,9 @@ func (f *Front) answer(w http.ResponseWriter, r *http.Request, visit *callers.Vi
 }
 
 // denied notes that a caller may not do what it asks for. What it still sends may come late.
-func (f *Front) denied(r *http.Request, visit *callers.Visit) {
+func (f *Front) denied(r *http.Request, visit *callers.Visit, call *api.Call) {
 	web.Refused(r.Context())
-	f.note(r, visit.Caller, errDenied, api.Forbidden)
+	f.note(r, visit.Caller, errDenied, api.Forbidden, call)
 }
 
 // answerMetrics reports the metrics to a caller who may read them.

@@ -19,6 +19,7 @@ import (
 	"path"
 	"sort"
 	"strconv"
+	"strings"
 	"sync/atomic"
 	"time"
 
@@ -49,8 +50,9 @@ const (
 	maxWatched = 20_000
 	// stallInterval is how long the log may be known to have more before it is followed anew.
 	stallInterval = time.Second
-	// firstKey has the number after which the commands are numbered.
-	firstKey = "first"
+	// firstKey has the number after which the commands are numbered, and afterKey the same number with the revision of the last entry
+	// that the log had when it got that number, and then what it had before.
+	firstKey, afterKey = "first", "after"
 	// nodesPrefix begins the keys of the nodes.
 	nodesPrefix = "nodes/"
 )
@@ -299,27 +301,71 @@ func (l *Ledger) Trim(ctx context.Context, s State, needless int64) (floor int64
 	return s.generation, nil
 }
 
-// First returns the number after which the commands of the log are numbered. The first node that asks makes it, so that it is greater
-// than all numbers of an earlier log.
-func (l *Ledger) First(ctx context.Context) (int64, error) {
+// A Beginning is how the commands of a log are numbered: after First, which no other log has. Up to the revision After an earlier log had
+// the same entries: etcd was restored then. Earlier has the same two numbers of that log, of the one before it, and so on.
+type Beginning struct {
+	First, After int64
+	Earlier      string
+}
+
+// Has reports whether the log has what an earlier one had at a revision, which numbered its commands after a number. What came before the
+// oldest log of which anything is known may have had any number.
+func (b Beginning) Has(first, revision int64) bool {
+	if first == b.First {
+		return true
+	}
+	most := b.After
+	for earlier := strings.NewReader(b.Earlier); ; {
+		var one, after int64
+		if _, err := fmt.Fscan(earlier, &one, &after); err != nil || one == first {
+			return revision <= most
+		}
+		if after < most {
+			most = after
+		}
+	}
+}
+
+// Beginning returns that of the log. The first node that asks makes it, with a number that is greater than all of an earlier log.
+func (l *Ledger) Beginning(ctx context.Context) (Beginning, error) {
 	for {
-		reply, err := l.transact(ctx, "read of the first number", clientv3.OpGet(firstKey))
+		reply, err := l.transact(ctx, "read of the first number", clientv3.OpGet(firstKey), clientv3.OpGet(afterKey), clientv3.OpGet("head"))
 		if err != nil {
-			return 0, err
+			return Beginning{}, err
 		}
 		if kvs := read(reply, 0); len(kvs) > 0 {
-			return strconv.ParseInt(string(kvs[0].Value), 10, 64)
+			return beginningOf(string(kvs[0].Value), read(reply, 1))
 		}
 		first, err := state.FirstNumber(time.Now(), 0)
 		if err != nil {
-			return 0, err
+			return Beginning{}, err
+		}
+		head, earlier := revisionOf(read(reply, 2)), ""
+		if after := read(reply, 1); len(after) > 0 {
+			earlier = " " + string(after[0].Value)
 		}
 		if _, err := l.commit(ctx, "first number", func(t clientv3.Txn) clientv3.Txn {
-			return t.If(isAt(firstKey, 0)).Then(clientv3.OpPut(firstKey, strconv.FormatInt(first, 10)))
+			return t.If(isAt(firstKey, 0), isAt("head", head)).Then(
+				clientv3.OpPut(firstKey, strconv.FormatInt(first, 10)), clientv3.OpPut(afterKey, fmt.Sprintf("%d %d%s", first, head, earlier)))
 		}); err != nil {
-			return 0, err
+			return Beginning{}, err
 		}
 	}
+}
+
+// beginningOf returns a beginning from what etcd has. A node of an earlier version writes no revision beside the number.
+func beginningOf(text string, after []*mvccpb.KeyValue) (b Beginning, err error) {
+	if b.First, err = strconv.ParseInt(text, 10, 64); err != nil || len(after) == 0 {
+		return b, err
+	}
+	var first, revision int64
+	if _, err := fmt.Sscanf(string(after[0].Value), "%d %d", &first, &revision); err != nil {
+		return b, fmt.Errorf("%s: %w", afterKey, err)
+	}
+	if first == b.First {
+		b.After, b.Earlier = revision, strings.Join(strings.Fields(string(after[0].Value))[2:], " ")
+	}
+	return b, nil
 }
 
 // Adopt makes an empty log begin after a snapshot that holds an earlier state of an office. It returns the revision of

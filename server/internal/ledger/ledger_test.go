@@ -323,10 +323,48 @@ func TestAdopt(t *testing.T) {
 	}
 }
 
-// All nodes get the same first number, and one whose key was deleted, as after etcd was restored, is another one.
-func TestFirst(t *testing.T) {
+// judgeHistory lets etcd be restored to what a first log had later than a second one went on from it.
+func judgeHistory(t *testing.T, l *Ledger, first, second Beginning) {
+	t.Helper()
+	ctx, at := context.Background(), second.After
+	// The backup is one of the first log.
+	if _, err := l.kv.Put(ctx, afterKey, fmt.Sprintf("%d 0", first.First)); err != nil {
+		t.Fatal(err)
+	}
+	if _, err := l.kv.Delete(ctx, firstKey); err != nil {
+		t.Fatal(err)
+	}
+	third, err := l.Beginning(ctx)
+	if err != nil || third.After <= at {
+		t.Fatalf("%+v, %v", third, err)
+	}
+	for what, one := range map[string]struct {
+		log         Beginning
+		first       int64
+		revision    int64
+		hasRevision bool
+	}{
+		"its own":                                       {third, third.First, third.After + 5, true},
+		"the first log":                                 {third, first.First, third.After, true},
+		"the first log later":                           {third, first.First, third.After + 1, false},
+		"a log that isn't before it":                    {third, second.First, at, false},
+		"the first log, by the second one":              {second, first.First, at, true},
+		"the first log later, by the second one":        {second, first.First, at + 1, false},
+		"the third log, by the second one":              {second, third.First, at, false},
+		"an earlier version, of which nothing is known": {Beginning{First: 9, After: 7}, 3, 7, true},
+	} {
+		if has := one.log.Has(one.first, one.revision); has != one.hasRevision {
+			t.Errorf("%s: %v", what, has)
+		}
+	}
+}
+
+// All nodes get the same first number, and one whose key was deleted, as after etcd was restored, is another one. With it the log says up
+// to which entry it is older.
+func TestBeginning(t *testing.T) {
 	l, ctx := newLedger(t), context.Background()
-	var found [3]int64
+	var found [3]Beginning
+	var last Entry
 	for i := range found {
 		if i == 2 {
 			if _, err := l.kv.Delete(ctx, firstKey); err != nil {
@@ -334,11 +372,28 @@ func TestFirst(t *testing.T) {
 			}
 		}
 		var err error
-		if found[i], err = l.First(ctx); err != nil {
+		if found[i], err = l.Beginning(ctx); err != nil {
 			t.Fatal(err)
 		}
+		if last, _, err = l.Append(ctx, fmt.Sprint(i), []Unit{{Lines: [][]byte{[]byte(`{"fn":"addUser","user":"ann"}`)}}}); err != nil {
+			t.Fatal(err)
+		}
+		if i == 1 {
+			found[1].After = last.Revision // What the next one has to say.
+		}
 	}
-	if found[0] != found[1] || found[2] == found[0] || found[0] < 1<<50 {
+	if found[0].First != found[1].First || found[2].First == found[0].First || found[0].First < 1<<50 {
 		t.Errorf("%v", found)
+	}
+	if found[0].After != 0 || found[2].After != found[1].After {
+		t.Errorf("%v", found)
+	}
+	judgeHistory(t, l, found[0], found[2])
+	// A node of an earlier version writes the number alone.
+	if _, err := l.kv.Put(ctx, firstKey, "7"); err != nil {
+		t.Fatal(err)
+	}
+	if earlier, err := l.Beginning(ctx); err != nil || earlier != (Beginning{First: 7}) {
+		t.Errorf("%v, %v", earlier, err)
 	}
 }

@@ -106,10 +106,15 @@ func TestAttempts(t *testing.T) {
 	} {
 		t.Run(one.name, func(t *testing.T) {
 			attempts := 0
-			within, cancel := context.WithTimeout(context.Background(), 200*time.Millisecond)
+			ctx, cancel := context.WithCancel(context.Background())
 			defer cancel()
-			_, err := newFake(t, func(context.Context) (int64, error) { attempts++; return 0, one.err }).Head(within, Place{})
-			if !errors.Is(err, one.err) || (attempts == 1) != one.isFinal || attempts > 5 {
+			_, err := newFake(t, func(context.Context) (int64, error) {
+				if attempts++; attempts == 2 {
+					cancel()
+				}
+				return 0, one.err
+			}).Head(ctx, Place{})
+			if !errors.Is(err, one.err) || one.isFinal && attempts != 1 || !one.isFinal && attempts != 2 {
 				t.Errorf("%d attempts: %v", attempts, err)
 			}
 		})

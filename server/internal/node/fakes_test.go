@@ -35,8 +35,8 @@ type fakeLog struct {
 	lives   []ledger.Life
 	unnamed error
 	entries chan ledger.Entry
-	// held holds up what is appended until it is closed, unless it is nil.
-	held chan struct{}
+	// held holds up what is appended until it is closed, unless it is nil. arrived gets what is held up.
+	held, arrived chan struct{}
 }
 
 func newFakeLog() *fakeLog { return &fakeLog{entries: make(chan ledger.Entry, 100)} }
@@ -45,6 +45,7 @@ var errFull = errors.New("no space")
 
 func (l *fakeLog) Append(_ context.Context, id string, units []ledger.Unit) (entry ledger.Entry, before int64, err error) {
 	if l.held != nil {
+		l.arrived <- struct{}{}
 		<-l.held
 	}
 	l.mutex.Lock()
@@ -84,7 +85,9 @@ func (l *fakeLog) State(context.Context) (ledger.State, error) {
 
 func (l *fakeLog) Trim(context.Context, ledger.State, int64) (int64, error) { return 0, nil }
 
-func (l *fakeLog) First(context.Context) (int64, error) { return 1000, nil }
+func (l *fakeLog) Beginning(context.Context) (ledger.Beginning, error) {
+	return ledger.Beginning{First: 1000}, nil
+}
 
 func (l *fakeLog) Register(_ context.Context, member ledger.Member) error {
 	l.mutex.Lock()

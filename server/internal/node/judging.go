@@ -103,7 +103,7 @@ func majorityAgainst(s office.Snapshot, members []ledger.Member) string {
 		}
 	}
 	for _, one := range members {
-		witness, isThere := snapshotAt(one, s.Revision)
+		witness, isThere := snapshotAt(one, s)
 		if isThere && !witness.IsSame(s) && 2*makers(witness, trusted) > len(members) {
 			return one.Name
 		}
@@ -134,7 +134,7 @@ func difference(name string, own []office.Snapshot, members []ledger.Member) str
 			agree = 1
 		}
 		for _, member := range members {
-			witness, isThere := snapshotAt(member, s.Revision)
+			witness, isThere := snapshotAt(member, s)
 			switch {
 			case member.Name == name || !isThere:
 			case !witness.IsSame(s):
@@ -173,11 +173,12 @@ func otherSettings(own ledger.Life, lives []ledger.Life) string {
 		own.Name, own.Settings, differ[0].Name, differ[0].Settings)
 }
 
-func snapshotAt(member ledger.Member, revision int64) (office.Snapshot, bool) {
+// snapshotAt returns the snapshot that a node has of the place of another one: one that isn't the same, if there is one.
+func snapshotAt(member ledger.Member, place office.Snapshot) (found office.Snapshot, is bool) {
 	for _, s := range member.Snapshots {
-		if s.Revision == revision {
-			return s, true
+		if s.IsOfPlace(place) && (!is || !s.IsSame(place)) {
+			found, is = s, true
 		}
 	}
-	return office.Snapshot{}, false
+	return found, is
 }

@@ -27,8 +27,8 @@ type frozen struct {
 	snapshot office.Snapshot
 }
 
-// takeSnapshot keeps what is in the office. What takes long is done in the background. If an earlier place still waits for that, there is
-// no snapshot of it: the newest place always has one, since there may be no later command for a long time.
+// takeSnapshot freezes the office; a goroutine writes the file. A pending snapshot is replaced: the newest place always gets one, since
+// there may be no later command for a long time.
 func (n *Node) takeSnapshot() {
 	if why := n.options.Record.Why(); why != "" {
 		n.noteSnapshot(n.revision, errors.New(why)) // It would take up room that a start needs.
@@ -49,7 +49,7 @@ func (n *Node) takeSnapshot() {
 
 // freeze returns what is in the office after the last entry that was done, with its digest.
 func (n *Node) freeze() (one frozen, err error) {
-	one.snapshot = office.Snapshot{Revision: n.revision, Count: n.count, Record: n.head(), Policy: n.state.Numbers().Policy}
+	one.snapshot = office.Snapshot{Revision: n.revision, Count: n.count, Record: n.head(), Policy: n.state.Numbers().Policy, First: n.beginning.First}
 	if one.snapshot.Digest, err = n.state.Digest(); err != nil {
 		return one, err
 	}

@@ -20,8 +20,9 @@ import (
 const (
 	// identityName is the file in the folder of a node that tells the folder from all others.
 	identityName = "identity"
-	// takenTimeout is how long a start waits for the end of a node with its name, which may have lost its folder a moment ago.
-	takenTimeout = (2*ledger.LifeSeconds + 1) * time.Second
+	// takenTimeout is how long a start waits for the end of a node with its name, which may have lost its folder a moment ago. Each new
+	// leader of etcd prolongs what it has said of itself.
+	takenTimeout = 6 * ledger.LifeSeconds * time.Second
 	// leaveTimeout is how long it may take to say that the node ends.
 	leaveTimeout = time.Second
 )

@@ -42,7 +42,7 @@ type Log interface {
 	Follow(ctx context.Context, after int64, deliver func(ledger.Entry) error) error
 	State(ctx context.Context) (ledger.State, error)
 	Trim(ctx context.Context, state ledger.State, needless int64) (floor int64, err error)
-	First(ctx context.Context) (int64, error)
+	Beginning(ctx context.Context) (ledger.Beginning, error)
 	Register(ctx context.Context, member ledger.Member) error
 	Live(ctx context.Context, life ledger.Life) error
 	Leave(ctx context.Context)
@@ -93,9 +93,9 @@ type Node struct {
 	frozen chan frozen
 	// pending has the batches of this node that may come from the log, by their names.
 	pending sync.Map
-	// state is the office, and first the number before that of the first command of the log.
-	state *state.State
-	first int64
+	// state is the office, and beginning how the log numbers its commands.
+	state     *state.State
+	beginning ledger.Beginning
 
 	// tasks has what the goroutine that does entries has to do. The other fields belong to that goroutine: held has the tasks that wait
 	// until entries are done. revision and count are those of what was done, bytes counts since the last place of a snapshot, and err

@@ -140,7 +140,7 @@ func (n *Node) apply(entry ledger.Entry) {
 // change does the parts of an entry with nothing of others between them. The number of commands is that before the entry.
 func (n *Node) change(revision int64, parts []part, before int64) ([]reply, error) {
 	replies := make([]reply, len(parts))
-	return replies, n.state.Change(revision, n.first+n.count, func(c state.Change) (err error) {
+	return replies, n.state.Change(revision, n.beginning.First+n.count, func(c state.Change) (err error) {
 		for i := 0; i < len(parts) && err == nil; i++ {
 			replies[i], err = n.do(c, &parts[i], before)
 			replies[i].answers.Revision = revision
@@ -158,7 +158,7 @@ func (n *Node) do(c state.Change, p *part, before int64) (reply, error) {
 	texts, err := p.rule.Run(p.calls, func(calls ...*api.Call) ([][]byte, error) {
 		texts := make([][]byte, len(calls))
 		for i, call := range calls {
-			text, err := n.answer(c, p.unit, call, n.first+before+int64(p.places[next])+1)
+			text, err := n.answer(c, p.unit, call, n.beginning.First+before+int64(p.places[next])+1)
 			if err != nil {
 				return nil, err
 			}
@@ -192,12 +192,8 @@ func (n *Node) answer(c state.Change, unit ledger.Unit, call *api.Call, number i
 	return text, err
 }
 
-// begin sets the numbers of a snapshot. The number before that of the first command of the log is given.
-func (n *Node) begin(s office.Snapshot, first int64) {
-	n.first = first
-	numbers := state.Numbers{All: first + s.Count, Policy: s.Policy, Revision: s.Revision}
-	if s.Policy == 0 { // Nothing is known of the commands before, of which an empty log has none.
-		numbers.Policy = numbers.All
-	}
-	n.state.Advance(numbers)
+// begin sets the numbers of a snapshot.
+func (n *Node) begin(s office.Snapshot) {
+	first := n.beginning.First
+	n.state.Advance(state.Numbers{All: first + s.Count, Policy: s.PolicyIn(first), Revision: s.Revision})
 }

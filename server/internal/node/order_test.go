@@ -67,7 +67,8 @@ func TestRules(t *testing.T) {
 	} {
 		t.Run(test.name, func(t *testing.T) {
 			n := withOffice(t)
-			n.begin(office.Snapshot{Policy: first}, first)
+			n.beginning.First = first
+			n.begin(office.Snapshot{Policy: first})
 			var given reply
 			parts := n.partsOf(ledger.Entry{Units: []ledger.Unit{{Rule: test.rule, Lines: test.lines}}}, nil)
 			err := n.state.Change(1, first+int64(len(test.lines)), func(c state.Change) (err error) {
@@ -97,7 +98,8 @@ func TestSameNumbers(t *testing.T) {
 	}
 	numbers := func(s office.Snapshot) (after []state.Numbers) {
 		n := withOffice(t)
-		n.begin(s, 1000)
+		n.beginning.First = 1000
+		n.begin(s)
 		n.revision, n.count = s.Revision, s.Count
 		for _, entry := range entries {
 			if n.apply(entry); entry.Revision > 4 {
@@ -107,7 +109,10 @@ func TestSameNumbers(t *testing.T) {
 		return after
 	}
 	wanted := []state.Numbers{{All: 1005, Policy: 1005, Revision: 5}, {All: 1006, Policy: 1005, Revision: 6}}
-	for _, s := range []office.Snapshot{{}, {Revision: 2, Count: 2, Policy: 1001}, {Revision: 3, Count: 3, Policy: 1003}, {Revision: 4, Count: 4, Policy: 1003}} {
+	for _, s := range []office.Snapshot{
+		{}, {Revision: 2, Count: 2, Policy: 1001}, {Revision: 3, Count: 3, Policy: 1003}, {Revision: 4, Count: 4, Policy: 1003},
+		{Revision: 4, Count: 4, Policy: 1003, First: 1000}, {Revision: 4, Count: 4, Policy: 503, First: 500}, // The log was restored.
+	} {
 		if given := numbers(s); !reflect.DeepEqual(given, wanted) {
 			t.Errorf("from %+v: %+v", s, given)
 		}

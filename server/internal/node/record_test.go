@@ -64,7 +64,7 @@ func TestNote(t *testing.T) {
 	other, _ := newNode(t)
 	read := &keptRecord{}
 	other.options.Record = read
-	other.first = n.first
+	other.beginning = n.beginning
 	other.apply(ledger.Entry{Place: ledger.Place{Revision: 1}, Units: []ledger.Unit{{Lines: users("a")}}})
 	unit := ledger.Unit{Caller: "token:boss", Reason: "ticket 7", At: own.added[1].At, Bounds: true, Lines: [][]byte{[]byte(ended)}}
 	other.apply(ledger.Entry{Place: ledger.Place{Revision: 2}, Units: []ledger.Unit{unit}})

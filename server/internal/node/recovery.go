@@ -17,22 +17,23 @@ import (
 // recoverOffice makes the office from the newest snapshot that is good. It writes nothing to etcd, which may be full,
 // but the number of the first command, if the log has none yet.
 func (n *Node) recoverOffice(ctx context.Context) error {
+	beginning, err := n.shared.Beginning(ctx)
+	if err != nil {
+		return err
+	}
+	n.beginning = beginning
 	base, err := n.startSnapshot(ctx)
 	if err != nil {
 		return err
 	}
 	n.isRecorded = base.Record != ""
-	if err := n.options.Record.Resume(ctx, base.Record, base.Copied); err != nil {
+	if err := n.options.Record.Resume(ctx, base.Record, base.Copied, n.fetchRecord); err != nil {
 		return err
 	}
-	first, err := n.shared.First(ctx)
 	if faults.Has(faults.NumbersByItself) {
-		first, err = n.start.UnixNano(), nil
+		n.beginning.First = n.start.UnixNano()
 	}
-	if err != nil {
-		return err
-	}
-	n.begin(base, first)
+	n.begin(base)
 	if err := n.state.Load(ctx, n.options.File()); err != nil {
 		return err
 	}
@@ -78,6 +79,11 @@ func (n *Node) startSnapshot(ctx context.Context) (base office.Snapshot, err err
 		return base, fmt.Errorf("the snapshot is at revision %d and etcd only at %d: etcd was restored to an earlier time, "+
 			"so move the snapshots of all nodes that are newer away", found[0].Revision, state.Revision)
 	}
+	for _, one := range found {
+		if err := n.refuseOther(one); err != nil {
+			return base, err
+		}
+	}
 	for _, base = range append(found, office.Snapshot{}) {
 		switch {
 		case base.Record == office.NoRecord && n.keepsRecord():
@@ -101,6 +107,16 @@ func (n *Node) startSnapshot(ctx context.Context) (base office.Snapshot, err err
 		return base, err
 	}
 	return base, n.makeOffice(ctx, base)
+}
+
+// refuseOther refuses a snapshot of a log that etcd no longer has, unless the log of now had it too. Another node may have gone on from
+// where etcd was restored, and have other commands at the same revisions.
+func (n *Node) refuseOther(s office.Snapshot) error {
+	if s.First == 0 || n.beginning.Has(s.First, s.Revision) {
+		return nil
+	}
+	return fmt.Errorf("the snapshot at revision %d is of a log that etcd no longer has: etcd was restored to revision %d; keep this folder as "+
+		"evidence, and start the node with an empty one", s.Revision, n.beginning.After)
 }
 
 // fetch returns a snapshot that it has fetched from another node. It asks all nodes until one has a snapshot that will
@@ -166,6 +182,9 @@ func (n *Node) accept(ctx context.Context, name string, offered office.Snapshot)
 	if offered.Record == office.NoRecord && n.keepsRecord() {
 		return errNotRecorded
 	}
+	if err := n.refuseOther(offered); err != nil {
+		return err
+	}
 	if offered.Revision < state.Floor {
 		return fmt.Errorf("the snapshot is at revision %d, and the log begins after %d", offered.Revision, state.Floor)
 	}
@@ -175,7 +194,7 @@ func (n *Node) accept(ctx context.Context, name string, offered office.Snapshot)
 	}
 	isRegistered, right := false, except(state.Members, out)
 	for _, member := range right {
-		s, isThere := snapshotAt(member, offered.Revision)
+		s, isThere := snapshotAt(member, offered)
 		if !isThere {
 			continue
 		}
@@ -188,7 +207,7 @@ func (n *Node) accept(ctx context.Context, name string, offered office.Snapshot)
 		if why := difference(name, member.Snapshots, right); why != "" && !sharedByContesting(offered, member, right) {
 			return errors.New(why)
 		}
-		isRegistered = s.Count == offered.Count
+		isRegistered = true
 	}
 	if !isRegistered {
 		return fmt.Errorf("the snapshot at revision %d is not registered in etcd", offered.Revision)
@@ -201,11 +220,11 @@ func (n *Node) accept(ctx context.Context, name string, offered office.Snapshot)
 func sharedByContesting(s office.Snapshot, member ledger.Member, others []ledger.Member) bool {
 	for _, other := range others {
 		for _, own := range member.Snapshots {
-			witness, is := snapshotAt(other, own.Revision)
+			witness, is := snapshotAt(other, own)
 			if !is || witness.IsSame(own) {
 				continue
 			}
-			if shared, has := snapshotAt(other, s.Revision); !has || !shared.IsSame(s) {
+			if shared, has := snapshotAt(other, s); !has || !shared.IsSame(s) {
 				return false
 			}
 		}
@@ -216,7 +235,7 @@ func sharedByContesting(s office.Snapshot, member ledger.Member, others []ledger
 // makers returns how many nodes have made a snapshot themselves.
 func makers(s office.Snapshot, members []ledger.Member) (count int) {
 	for _, member := range members {
-		if made, is := snapshotAt(member, s.Revision); is && !made.Copied && made.IsSame(s) {
+		if made, is := snapshotAt(member, s); is && !made.Copied && made.IsSame(s) {
 			count++
 		}
 	}

@@ -66,7 +66,7 @@ func (n *Node) Do(ctx context.Context, b api.Batch) (api.Answers, error) {
 	if faults.Has(faults.TakesAnswersForNew) {
 		newest = boottime.Now()
 	}
-	return api.Answers{Texts: texts, Point: api.Point{Revision: at.Revision, Newest: newest, Policy: at.Policy}}, err
+	return api.Answers{Texts: texts, Point: api.Point{Revision: at.Revision, Newest: newest, Policy: at.Policy, Number: at.All}}, err
 }
 
 func (n *Node) command(ctx context.Context, b api.Batch) (api.Answers, error) {

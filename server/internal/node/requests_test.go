@@ -83,10 +83,13 @@ func TestGatherReasons(t *testing.T) {
 // What nobody waits for any more is in the log, or never comes there, when the node has settled.
 func TestSettle(t *testing.T) {
 	n, log := newNode(t)
-	log.held = make(chan struct{})
+	log.held, log.arrived = make(chan struct{}), make(chan struct{}, 10)
 	running(t, n.feed, n.appendCommands)
-	soon, cancel := context.WithTimeout(context.Background(), 20*time.Millisecond)
-	defer cancel()
+	soon, cancel := context.WithCancel(context.Background())
+	go func() {
+		<-log.arrived
+		cancel()
+	}()
 	if _, err := n.Do(soon, of(api.Command, `{"fn":"addUser","user":"ann"}`)); err != error(api.Unavailable) {
 		t.Fatalf("a log that is held up: %v", err)
 	}

@@ -92,9 +92,9 @@ func (r *Replay) read(output *bufio.Reader) {
 	defer close(r.ended)
 	answer, err := output.ReadBytes('\n')
 	for ; err == nil; answer, err = output.ReadBytes('\n') {
-		(<-r.waiting)(answer[:len(answer)-1])
 		r.answered.Add(1)
 		r.heard.Store(int64(time.Since(r.began)))
+		(<-r.waiting)(answer[:len(answer)-1])
 	}
 	err = r.command.Wait()
 	if err == nil && len(r.waiting) > 0 {

@@ -10,6 +10,7 @@ import (
 	"hash"
 	"net/url"
 	"os"
+	"path/filepath"
 	"sort"
 	"strconv"
 	"strings"
@@ -164,6 +165,7 @@ func IsRowBefore(one, other *rbacoffice.Row) bool {
 
 var (
 	errNoRows     = errors.New("it has a row that no office has")
+	errTrigger    = errors.New("it has a trigger, which no office has")
 	errOldVersion = errors.New("it is an office of version 1, which has no digest: `rbac migrate` makes one of version 2 of it")
 )
 
@@ -199,6 +201,9 @@ func eachRow(ctx context.Context, path, options string, hasClosure bool, do func
 		version, err = versionOf(ctx, db)
 	}
 	if err == nil {
+		err = refuseTriggers(ctx, db)
+	}
+	if err == nil {
 		for _, query := range queriesOf(version, hasClosure) {
 			if err = eachOf(ctx, db, query, do); err != nil {
 				break
@@ -221,6 +226,16 @@ func versionOf(ctx context.Context, db *sql.DB) (version int64, err error) {
 	return version, err
 }
 
+// refuseTriggers refuses an office with a trigger, as the program does: a command would do something else there.
+func refuseTriggers(ctx context.Context, db *sql.DB) error {
+	var count int
+	err := db.QueryRowContext(ctx, "SELECT count(*) FROM sqlite_master WHERE type = 'trigger'").Scan(&count)
+	if err == nil && count > 0 {
+		err = errTrigger
+	}
+	return err
+}
+
 // eachOf calls a function with the rows that a query gives.
 func eachOf(ctx context.Context, db *sql.DB, query string, do func(row *rbacoffice.Row)) error {
 	rows, err := db.QueryContext(ctx, query)
@@ -241,8 +256,12 @@ func eachOf(ctx context.Context, db *sql.DB, query string, do func(row *rbacoffi
 	return rows.Err()
 }
 
-// walSuffix is added to the path of an office for its log.
-const walSuffix = "-wal"
+const (
+	// walSuffix is added to the path of an office for its log.
+	walSuffix = "-wal"
+	// spareRoom is how much room there has to be besides the log of an office.
+	spareRoom = 64 << 20
+)
 
 // Copy copies the file of an office that no program writes now, and the log beside it if there is one: SQLite would change them.
 func Copy(path, copied string) error {
@@ -258,6 +277,28 @@ func Copy(path, copied string) error {
 		RemoveCopy(copied)
 	}
 	return err
+}
+
+// RefuseLog refuses the file of an office whose log could not be merged, since the disk is full: alone it isn't the office.
+func RefuseLog(path string) error {
+	log, err := os.Stat(path + walSuffix)
+	if errors.Is(err, os.ErrNotExist) || err == nil && log.Size() == 0 {
+		return nil
+	}
+	if err == nil {
+		err = fmt.Errorf("%s: its log can't be merged: make room on the disk", path)
+	}
+	return err
+}
+
+// HasRoom reports whether there is room for what a program writes when it opens an office, which merges the log.
+func HasRoom(path string) bool {
+	needed := int64(spareRoom)
+	if about, err := os.Stat(path + walSuffix); err == nil {
+		needed += about.Size()
+	}
+	free, err := disk.Free(filepath.Dir(path))
+	return err == nil && free > needed
 }
 
 // RemoveCopy removes a copy and what SQLite has made beside it.

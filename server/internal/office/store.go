@@ -28,8 +28,8 @@ const (
 	unfinishedPrefix = "making-"
 	// damagedPrefix is the prefix of the name of a snapshot that was set aside.
 	damagedPrefix = "damaged-"
-	// policyMark is before the revision of the policy in the name of a snapshot.
-	policyMark = "-policy"
+	// policyMark is before the revision of the policy in the name of a snapshot, and firstMark before the first number of its log.
+	policyMark, firstMark = "-policy", "-first"
 	// recordMark is before the head of the record in the name of a snapshot.
 	recordMark = "-record"
 	// copiedSuffix ends the name of a snapshot that another node has made.
@@ -61,6 +61,9 @@ type Snapshot struct {
 	Record string `json:"record,omitempty"`
 	// Policy is the revision of the policy, or 0 if nothing is known of the commands before, as of an office that was adopted.
 	Policy int64 `json:"policy,omitempty"`
+	// First is the number after which the log numbers its commands. Each log has another one, also one that was restored. It is 0 in a
+	// snapshot of an earlier version.
+	First int64 `json:"first,omitempty"`
 	// Copied says that another node has made it, so that it is no second witness for its rows.
 	Copied bool `json:"copied,omitempty"`
 }
@@ -75,11 +78,35 @@ func other(s Snapshot, digest string) error {
 // NoRecord is in place of the head of a record that a node doesn't keep.
 const NoRecord = "none"
 
-// IsSame reports whether two snapshots of one revision have the same rows, the same revision of the policy, and the same record if both
+// IsSame reports whether two snapshots are of one place, with the same rows, the same revision of the policy, and the same record if both
 // have one.
 func (s Snapshot) IsSame(other Snapshot) bool {
-	return s.Digest == other.Digest && s.Policy == other.Policy &&
+	return s.Revision == other.Revision && s.Count == other.Count && s.Digest == other.Digest && s.hasPolicyOf(other) &&
 		(s.Record == other.Record || s.Record == NoRecord || other.Record == NoRecord)
+}
+
+// hasPolicyOf reports whether two snapshots have the same revision of the policy. After a restore the same command has another number.
+func (s Snapshot) hasPolicyOf(other Snapshot) bool {
+	if s.First == 0 || other.First == 0 {
+		return s.Policy == other.Policy
+	}
+	return s.Policy-s.First == other.Policy-other.First
+}
+
+// PolicyIn returns the revision of the policy in a log that numbers its commands after another number.
+func (s Snapshot) PolicyIn(first int64) int64 {
+	switch {
+	case s.Policy == 0: // Nothing is known of the commands before, of which an empty log has none.
+		return first + s.Count
+	case s.First == 0:
+		return s.Policy
+	}
+	return s.Policy - s.First + first
+}
+
+// IsOfPlace reports whether two snapshots have the same revision or as many commands. In one log they have both or neither.
+func (s Snapshot) IsOfPlace(other Snapshot) bool {
+	return s.Revision == other.Revision || s.Count == other.Count && s.Count > 0
 }
 
 // A Store is a folder of snapshots. Each is the file of an office, and its name has what is known about it.
@@ -122,6 +149,9 @@ func nameOf(s Snapshot) string {
 	if s.Policy > 0 {
 		name += policyMark + strconv.FormatInt(s.Policy, 10)
 	}
+	if s.First > 0 {
+		name += firstMark + strconv.FormatInt(s.First, 10)
+	}
 	if s.Record != "" {
 		name += recordMark + s.Record
 	}
@@ -132,16 +162,16 @@ func nameOf(s Snapshot) string {
 }
 
 // nameForm is the form of these names. What SQLite puts beside a file that somebody reads has another one, such as NAME-wal.
-var nameForm = regexp.MustCompile(`^(\d+)-(\d+)-([0-9a-f]+)(?:` + policyMark + `(\d+))?(?:` + recordMark + `(` + NoRecord +
-	`|\d+:[0-9a-f]+))?(` + copiedSuffix + `)?$`)
+var nameForm = regexp.MustCompile(`^(\d+)-(\d+)-([0-9a-f]+)(?:` + policyMark + `(\d+))?(?:` + firstMark + `(\d+))?(?:` +
+	recordMark + `(` + NoRecord + `|\d+:[0-9a-f]+))?(` + copiedSuffix + `)?$`)
 
 func parse(name string) (s Snapshot, err error) {
 	parts := nameForm.FindStringSubmatch(name)
 	if parts == nil {
 		return s, fmt.Errorf("%q is not the name of a snapshot", name)
 	}
-	s.Digest, s.Record, s.Copied = parts[3], parts[5], parts[6] != ""
-	for i, number := range map[int]*int64{1: &s.Revision, 2: &s.Count, 4: &s.Policy} {
+	s.Digest, s.Record, s.Copied = parts[3], parts[6], parts[7] != ""
+	for i, number := range map[int]*int64{1: &s.Revision, 2: &s.Count, 4: &s.Policy, 5: &s.First} {
 		if parts[i] == "" {
 			continue
 		}

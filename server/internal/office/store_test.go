@@ -70,6 +70,7 @@ func TestNames(t *testing.T) {
 		{Revision: 12, Count: 7, Digest: "0a"},
 		{Revision: 12, Count: 7, Digest: "0a", Copied: true},
 		{Revision: 12, Count: 7, Digest: "0a", Policy: 9, Record: "5:0b"},
+		{Revision: 12, Count: 7, Digest: "0a", Policy: 9, First: 8, Record: "5:0b", Copied: true},
 		{Revision: 12, Count: 7, Digest: "0a", Record: NoRecord, Copied: true},
 	} {
 		if found, err := parse(nameOf(s)); err != nil || found != s {

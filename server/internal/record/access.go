@@ -14,7 +14,7 @@ type AccessQuery struct {
 	At    string
 	Entry int64
 	// Heads are known from elsewhere.
-	Heads  []Head
+	Heads  []KnownHead
 	Format Format
 }
 
@@ -46,6 +46,10 @@ func (t *Tool) Access(ctx context.Context, query AccessQuery) error {
 	case (query.At == "") == (query.Entry == 0):
 		return errPlaceUsage
 	}
+	heads, err := newKnownLinks(query.Heads)
+	if err != nil {
+		return err
+	}
 	p, err := t.placeOf(ctx, query)
 	if err != nil {
 		return err
@@ -54,7 +58,7 @@ func (t *Tool) Access(ctx context.Context, query AccessQuery) error {
 	judged.Out = t.Err // What verify prints isn't what is asked for.
 	var found []way
 	notes, isReached := p.notes(), false
-	verified := judged.verify(ctx, query.Heads, &stop{p.n, func(again *rerun, e *entry) error {
+	verified := judged.verify(ctx, heads, &stop{p.n, func(again *rerun, e *entry) error {
 		if e.ch != p.link {
 			return fmt.Errorf("somebody has written entry %d meanwhile", e.n)
 		}

@@ -17,6 +17,8 @@ import (
 	"syscall"
 	"time"
 
+	sqlite3 "github.com/mattn/go-sqlite3"
+
 	"rbac-node/internal/disk"
 	"rbac-node/internal/office"
 )
@@ -174,20 +176,11 @@ func (t *Tool) begin(ctx context.Context, path, to string) (*keptPair, error) {
 
 // copyTo writes the record to a file, and the base beside it.
 func (k *keptPair) copyTo(ctx context.Context, path string) error {
-	db, err := openFile(path, "_txlock=immediate")
+	db, err := openFile(path, "")
 	if err != nil {
 		return err
 	}
-	err = inTransaction(db, func(tx *sql.Tx) error {
-		_, err := tx.ExecContext(ctx, schema)
-		for _, table := range []string{"part", "entry"} {
-			if err == nil {
-				err = copyTable(ctx, k.tx, tx, table)
-			}
-		}
-		return err
-	})
-	if err = disk.Close(db, err); err != nil {
+	if err = disk.Close(db, k.copyPages(ctx, db)); err != nil {
 		return err
 	}
 	if k.base == nil {
@@ -307,32 +300,24 @@ func isPaused(pid int) bool {
 	return len(tasks) > 0
 }
 
-func copyTable(ctx context.Context, from querier, to *sql.Tx, table string) error {
-	rows, err := from.QueryContext(ctx, "SELECT * FROM "+table)
+// copyPages copies the pages that the file has in the transaction that is open.
+func (k *keptPair) copyPages(ctx context.Context, to *sql.DB) error {
+	target, err := to.Conn(ctx)
 	if err != nil {
 		return err
 	}
-	defer rows.Close()
-	names, err := rows.Columns()
-	if err != nil {
-		return err
-	}
-	insert, err := to.PrepareContext(ctx, "INSERT INTO "+table+" VALUES (?"+strings.Repeat(", ?", len(names)-1)+")")
-	if err != nil {
-		return err
-	}
-	defer insert.Close()
-	values, places := make([]any, len(names)), make([]any, len(names))
-	for i := range values {
-		places[i] = &values[i]
-	}
-	for rows.Next() {
-		if err := rows.Scan(places...); err != nil {
+	defer target.Close()
+	return target.Raw(func(into any) error {
+		return k.conn.Raw(func(from any) error {
+			copying, err := into.(*sqlite3.SQLiteConn).Backup("main", from.(*sqlite3.SQLiteConn), "main")
+			if err != nil {
+				return err
+			}
+			_, err = copying.Step(-1)
+			if failed := copying.Finish(); err == nil {
+				err = failed
+			}
 			return err
-		}
-		if _, err := insert.ExecContext(ctx, values...); err != nil {
-			return err
-		}
-	}
-	return rows.Err()
+		})
+	})
 }

@@ -10,6 +10,7 @@ import (
 
 	"rbac-node/internal/disk"
 	"rbac-node/internal/office"
+	"rbac-node/internal/pause"
 )
 
 const (
@@ -66,6 +67,72 @@ func mapped(ctx context.Context, program, path string) (rows string, err error) 
 	return o.sums().Digest, office.Run(ctx, program, "check", path)
 }
 
+// A baseError reports a base that isn't what the entries up to it give.
+type baseError struct{ base base }
+
+func (e *baseError) Error() string {
+	return fmt.Sprintf("the base copy %s is not what the record gives at entry %d: delete it, and compare the office", e.base.name(), e.base.n)
+}
+
+// verifyBases does the commands of the part at hand again, slowly, and compares the bases: a start trusts them, and no entry has their
+// digests.
+func (r *Record) verifyBases(ctx context.Context) error {
+	bases, err := basesIn(r.dir)
+	if err != nil || len(bases) == 0 {
+		return err
+	}
+	scratch, end, err := newScratch(r.Office, r.dir)
+	if err != nil {
+		return err
+	}
+	defer end()
+	path := filepath.Join(r.dir, fileName)
+	var p part
+	var again *rerun
+	err = withView(ctx, path, func(v *view) (err error) {
+		p = v.parts[len(v.parts)-1]
+		again, err = p.rerun(ctx, r.Program, v.tx, scratch)
+		return err
+	})
+	if err != nil {
+		return err
+	}
+	defer again.close()
+	at := p.first
+	for i := len(bases) - 1; i >= 0; i-- {
+		if bases[i].n < p.first {
+			continue
+		}
+		if err := again.slowly(ctx, path, at, bases[i].n); err != nil {
+			return err
+		}
+		at = bases[i].n
+		if given, err := again.sums(); err != nil || given.Digest != bases[i].rows {
+			return &baseError{bases[i]}
+		}
+	}
+	return nil
+}
+
+// slowly does the entries of a file after one, up to another one, and rests now and then.
+func (r *rerun) slowly(ctx context.Context, path string, after, last int64) error {
+	for after < last {
+		to := after + mostVerified
+		if to > last {
+			to = last
+		}
+		err := withView(ctx, path, func(v *view) error { return r.each(ctx, entriesAfter(ctx, v.tx, after, to)) })
+		if err == nil {
+			err = pause.For(ctx, restVerifying)
+		}
+		if err != nil {
+			return err
+		}
+		after = to
+	}
+	return nil
+}
+
 // addBase makes a mapped copy of the office after the entry n a base, and deletes the oldest ones.
 func addBase(dir, copied string, b base) error {
 	making := filepath.Join(dir, makingName)
@@ -89,7 +156,7 @@ func addBase(dir, copied string, b base) error {
 	return err
 }
 
-const walSuffix = "-wal"
+const walSuffix, journalSuffix = "-wal", "-journal"
 
 func scratchOf(file, dir string) office.Scratch { return office.ScratchOf("record", file, dir) }
 

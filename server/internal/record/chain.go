@@ -88,7 +88,7 @@ func withAdvice(err error) error {
 	return err
 }
 
-// verifyAgain verifies the whole chain again and again, slowly, while the front runs.
+// verifyAgain verifies the whole chain and the bases again and again, slowly, while the front runs.
 func (r *Record) verifyAgain() {
 	if r.VerifyEvery <= 0 {
 		return
@@ -102,6 +102,9 @@ func (r *Record) verifyAgain() {
 			return
 		}
 		last, err := r.verifyWhole(r.life)
+		if err == nil {
+			err = r.verifyBases(r.life)
+		}
 		if r.life.Err() != nil {
 			return
 		}
@@ -159,10 +162,11 @@ func verifyFile(ctx context.Context, path string, before entry, to int64) (last 
 	return last, nil
 }
 
-// noteBreak notes whether the chain was broken when it was last verified.
+// noteBreak notes whether the chain was broken, or a base was another one, when they were last verified.
 func (r *Record) noteBreak(err error) {
 	var broken *breakError
+	var other *baseError
 	r.mutex.Lock()
 	defer r.mutex.Unlock()
-	r.isBroken = errors.As(err, &broken)
+	r.isBroken = errors.As(err, &broken) || errors.As(err, &other)
 }

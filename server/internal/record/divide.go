@@ -261,7 +261,7 @@ func tidyParts(dir string) error {
 	}
 	part, ctx := parts[len(parts)-1], context.Background()
 	_, named, _ := namesOf(part)
-	db, err := openFile(part, "mode=ro&_busy_timeout="+busy)
+	db, err := openFile(part, readingOf(part)+"&_busy_timeout="+busy)
 	if err != nil {
 		return err
 	}

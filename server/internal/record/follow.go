@@ -7,6 +7,7 @@ import (
 	"fmt"
 	"os"
 	"path/filepath"
+	"strings"
 	"sync"
 	"time"
 
@@ -42,6 +43,8 @@ type Follower struct {
 	writing  sync.Mutex
 	checked  entry
 	checking sync.WaitGroup
+	// sending is held by whoever sends the record to another node.
+	sending sync.Mutex
 
 	mutex sync.Mutex // for what follows
 	// room says that entries were written, or that writing has failed.
@@ -76,16 +79,17 @@ func NewFollower(options Options) *Follower {
 }
 
 // Resume goes on after the head that a snapshot has, from which the office in the file was made. No head means that nothing was recorded
-// before it. A record that ends before a fetched snapshot becomes an earlier part.
-func (f *Follower) Resume(ctx context.Context, head string, isFetched bool) error {
-	if err := f.resume(ctx, head, isFetched); err != nil {
+// before it. If entries before the head are missing, the record of another node takes the place of this one. If no node gives one, a record
+// that ends before a fetched snapshot becomes an earlier part.
+func (f *Follower) Resume(ctx context.Context, head string, isFetched bool, from recorded.Fetch) error {
+	if err := f.resume(ctx, head, isFetched, from); err != nil {
 		return fmt.Errorf("record %s: %w", f.dir, err)
 	}
 	go f.announce()
 	return nil
 }
 
-func (f *Follower) resume(ctx context.Context, text string, isFetched bool) error {
+func (f *Follower) resume(ctx context.Context, text string, isFetched bool, from recorded.Fetch) error {
 	has, err := hasRecord(f.dir)
 	if errors.Is(err, errNoFile) {
 		has, err = false, nil // A crash has left earlier parts alone, or somebody has moved the file away.
@@ -103,10 +107,8 @@ func (f *Follower) resume(ctx context.Context, text string, isFetched bool) erro
 	if err != nil {
 		return err
 	}
-	if has && isFetched {
-		if has, err = f.closeBefore(head.N); err != nil {
-			return err
-		}
+	if has, err = f.complete(ctx, head, has, isFetched, from); err != nil {
+		return err
 	}
 	if !has {
 		f.Log.Warn("the record begins with a snapshot: earlier entries are not here", "first", head.N+1)
@@ -119,6 +121,41 @@ func (f *Follower) resume(ctx context.Context, text string, isFetched bool) erro
 }
 
 var errMoveAway = errors.New("restore the record of this node, or move it away")
+
+// complete fetches the record of another node if this one lacks entries before a head. It reports whether there is a file to go on with.
+func (f *Follower) complete(ctx context.Context, head Head, has, isFetched bool, from recorded.Fetch) (bool, error) {
+	if !has {
+		files, _ := os.ReadDir(f.dir) // There is mostly no folder.
+		for _, file := range files {
+			if strings.HasPrefix(file.Name(), partPrefix) {
+				return false, nil // Earlier parts stay.
+			}
+		}
+		return f.fetch(ctx, head, nil, from), nil
+	}
+	if !isFetched {
+		return true, nil
+	}
+	var own Head
+	var begin entry
+	err := withView(ctx, f.path(), func(v *view) error { own = v.answered.head(); return nil })
+	if err != nil || own.N >= head.N {
+		return true, err
+	}
+	files, err := filesOf(f.dir)
+	if err == nil {
+		begin, err = beginOf(ctx, files[0])
+	}
+	if err != nil {
+		return true, err
+	}
+	if begin.n == 0 || own.N == begin.n {
+		if f.fetch(ctx, head, &own, from) {
+			return true, nil
+		}
+	}
+	return f.closeBefore(head.N)
+}
 
 // closeBefore makes a file that ends before an entry an earlier part, and reports whether there is still a file.
 func (f *Follower) closeBefore(n int64) (has bool, err error) {

@@ -13,6 +13,8 @@ import (
 	"strings"
 	"testing"
 
+	"rbac/clients/go/rbacoffice"
+
 	"rbac-node/internal/api"
 	"rbac-node/internal/disk"
 	"rbac-node/internal/logs"
@@ -69,7 +71,7 @@ func (m *machine) start(snapshot string) {
 
 func (m *machine) resume(head string, isFetched bool) {
 	m.Helper()
-	if err := m.Resume(context.Background(), head, isFetched); err != nil {
+	if err := m.Resume(context.Background(), head, isFetched, nobody); err != nil {
 		m.Fatal(err)
 	}
 }
@@ -146,9 +148,9 @@ func (m *machine) entries() string {
 // verify returns what verify says, and its error. It may know a head from elsewhere.
 func (m *machine) verify(head *Head) (string, error) {
 	out := &bytes.Buffer{}
-	var heads []Head
+	var heads []KnownHead
 	if head != nil {
-		heads = append(heads, *head)
+		heads = known(*head)
 	}
 	err := (&Tool{Data: m.data, Program: m.Program, Out: out}).Verify(context.Background(), heads)
 	return out.String(), err
@@ -349,12 +351,22 @@ func TestCarry(t *testing.T) {
 	}
 	data := t.TempDir()
 	options := Options{Program: m.Program, Dir: DirIn(data), Log: logs.New(io.Discard)}
-	snapshot, head, err := Carry(context.Background(), options, backup)
-	if err != nil || head.N != 6 || filepath.Dir(filepath.Dir(snapshot)) != backup {
-		t.Fatalf("%s, %v, %v", snapshot, head, err)
+	c, err := Carry(context.Background(), options, backup, true)
+	snapshot, head := c.Office, c.Head
+	if err != nil || head.N != 6 || filepath.Dir(filepath.Dir(snapshot)) != backup || c.Later != 2 {
+		t.Fatalf("%+v, %v", c, err)
 	}
-	if _, _, err := Carry(context.Background(), options, backup); !errors.Is(err, errHasRecord) {
+	if _, err := Carry(context.Background(), options, backup, true); !errors.Is(err, errHasRecord) {
 		t.Errorf("again: %v", err)
+	}
+	// The role was assigned after the snapshot, and so was the session made.
+	whole, err := Carry(context.Background(), Options{Program: m.Program, Dir: DirIn(t.TempDir()), Log: logs.New(io.Discard)}, backup, false)
+	if err != nil || whole.Head.N != 6 || whole.Later != 2 {
+		t.Fatalf("%+v, %v", whole, err)
+	}
+	rows, err := readRows(context.Background(), whole.Office, office.OfCopy, true)
+	if err != nil || rows.sums().Counts[rbacoffice.Assignments] != 1 || rows.sums().Counts[rbacoffice.Sessions] != 0 {
+		t.Errorf("%+v, %v", rows, err)
 	}
 	first := &machine{T: t, data: data}
 	first.start(snapshot)
@@ -373,7 +385,7 @@ func TestCarry(t *testing.T) {
 	first.flush("NORMAL")
 	first.snapshot(9)
 	said, err := first.verify(&head)
-	if err != nil || !strings.Contains(said, "entry 6 begins anew over the office of a backup") ||
+	if err != nil || !strings.Contains(said, fmt.Sprintf("entry 6 begins anew over the backup %q, which was restored", filepath.Base(backup))) ||
 		!strings.Contains(said, "the newest snapshot has the rows that the record gives at entry 7") {
 		t.Errorf("%s%v", said, err)
 	}
@@ -434,7 +446,7 @@ func TestWrittenRecord(t *testing.T) {
 				change()
 			}
 			m.start(path)
-			err := m.Resume(context.Background(), head, false)
+			err := m.Resume(context.Background(), head, false, nobody)
 			if (err == nil) != one.starts {
 				t.Errorf("the start: %v", err)
 			}
@@ -599,4 +611,9 @@ func TestFollowMany(t *testing.T) {
 	if !reflect.DeepEqual(given, want) {
 		t.Errorf("%d entries", len(given))
 	}
+}
+
+// nobody is where no record can be fetched.
+func nobody(context.Context, int64, func(io.Reader) error) error {
+	return errors.New("no other node has a record")
 }

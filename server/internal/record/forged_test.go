@@ -172,7 +172,7 @@ func TestVersion(t *testing.T) {
 }
 
 // twoParts returns a record of two parts, a tool for it, and its head.
-func twoParts(t *testing.T) (*bench, *Tool, []Head) {
+func twoParts(t *testing.T) (*bench, *Tool, []KnownHead) {
 	t.Helper()
 	b, ctx := open(t), context.Background()
 	b.answered(addAnn, `{"fn":"addUser","user":"bob"}`)
@@ -182,12 +182,20 @@ func twoParts(t *testing.T) (*bench, *Tool, []Head) {
 	}
 	b.reopen(b.Office)
 	b.answered(`{"fn":"addUser","user":"carol"}`, `{"fn":"deleteUser","user":"bob"}`)
-	heads := []Head{b.Head()}
+	heads := known(b.Head())
 	tool, out := b.tool()
 	if err := tool.Verify(ctx, heads); err != nil {
 		t.Fatalf("before: %v, %s", err, out)
 	}
 	return b, tool, heads
+}
+
+// known returns heads as those that are known from elsewhere.
+func known(heads ...Head) (known []KnownHead) {
+	for _, head := range heads {
+		known = append(known, KnownHead{Head: head})
+	}
+	return known
 }
 
 // chainAnew computes the links of a file anew from a link.
@@ -254,7 +262,7 @@ func TestMovedAway(t *testing.T) {
 	if err := alone.Show(ctx, Filter{User: "bob"}, Text); err != nil || strings.Count(out.String(), "\n") != 1 {
 		t.Errorf("show: %v, %s", err, out)
 	}
-	if err := alone.Verify(ctx, []Head{{2, strings.Repeat("0", linkBytes)}}); err == nil || !strings.Contains(err.Error(), "computed anew") {
+	if err := alone.Verify(ctx, known(Head{2, strings.Repeat("0", linkBytes)})); err == nil || !strings.Contains(err.Error(), "computed anew") {
 		t.Errorf("another head: %v", err)
 	}
 }
@@ -268,10 +276,10 @@ func TestHeads(t *testing.T) {
 	}
 	text := "7:" + link + "\n\n" + `{"msg":"the head of the record","entry":8,"chain":"` + link + `"}` + "\n" + `{"msg":"other"}` + "\n"
 	heads, err := ReadHeads(strings.NewReader(text))
-	if err != nil || len(heads) != 2 || heads[0] != (Head{7, link}) || heads[1] != (Head{8, link}) {
+	if err != nil || len(heads) != 2 || heads[0].Head != (Head{7, link}) || heads[1].Head != (Head{8, link}) {
 		t.Errorf("%v, %v", heads, err)
 	}
-	for _, text := range []string{"", "\n", "7:x\n", `{"entry":0,"chain":"` + link + `"}`} {
+	for _, text := range []string{"", "\n", "7:x\n", `{"entry":0,"chain":"` + link + `"}`, `{"entry":8,"chain":"` + link + `","signature":"x"}`} {
 		if heads, err := ReadHeads(strings.NewReader(text)); err == nil {
 			t.Errorf("%q has the heads %v", text, heads)
 		}
@@ -298,15 +306,15 @@ func TestVerifyHeads(t *testing.T) {
 		t.Fatal(err)
 	}
 	newer := Head{last.n, last.ch}
-	for _, heads := range [][]Head{{newer, older}, {older, newer}} {
+	for _, heads := range [][]KnownHead{known(newer, older), known(older, newer)} {
 		if err := tool.Verify(context.Background(), heads); err == nil || !strings.Contains(err.Error(), "computed anew") {
 			t.Errorf("%v: %v", heads, err)
 		}
 	}
-	if err := tool.Verify(context.Background(), []Head{newer}); err != nil {
+	if err := tool.Verify(context.Background(), known(newer)); err != nil {
 		t.Errorf("the newer head alone: %v", err)
 	}
-	if err := tool.Verify(context.Background(), []Head{newer, {newer.N, older.Chain}}); err == nil || !strings.Contains(err.Error(), "two known links") {
+	if err := tool.Verify(context.Background(), known(newer, Head{newer.N, older.Chain})); err == nil || !strings.Contains(err.Error(), "two known links") {
 		t.Errorf("two heads of one entry: %v", err)
 	}
 }

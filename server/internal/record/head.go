@@ -25,6 +25,31 @@ type Head struct {
 
 func (h Head) String() string { return fmt.Sprintf("%d:%s", h.N, h.Chain) }
 
+// A KnownHead is a head that is known from elsewhere. If the record was restored before it was signed, After is the newest earlier head
+// that the record still had: the restore gave up what the heads between the two have signed.
+type KnownHead struct {
+	Head
+	After Head
+}
+
+// standing returns the heads that stand, in the order in which they were noted, and how many don't since a restore gave them up.
+func standing(known []KnownHead) (heads []Head, givenUp int) {
+	for _, one := range known {
+		if one.After.N > 0 {
+			var kept []Head
+			for _, head := range heads {
+				if head.N <= one.After.N {
+					kept = append(kept, head)
+				}
+			}
+			givenUp += len(heads) - len(kept)
+			heads = append(kept, one.After)
+		}
+		heads = append(heads, one.Head)
+	}
+	return heads, givenUp
+}
+
 // linkBytes is how long a link is as text.
 const linkBytes = 64
 
@@ -40,17 +65,22 @@ func ParseHead(text string) (Head, error) {
 }
 
 // ReadHeads reads heads from a file, one in a line. A line may also be one of the log of a front: those without a head are passed over.
-func ReadHeads(file io.Reader) (heads []Head, err error) {
+// A signed head is refused, since its signature would count for nothing.
+func ReadHeads(file io.Reader) (heads []KnownHead, err error) {
 	lines := bufio.NewScanner(file)
 	for number := 1; lines.Scan(); number++ {
 		line := strings.TrimSpace(lines.Text())
 		if strings.HasPrefix(line, "{") {
 			var said struct {
-				Entry int64
-				Chain string
+				Entry     int64
+				Chain     string
+				Signature *string
 			}
 			if json.Unmarshal([]byte(line), &said) != nil || said.Chain == "" {
 				continue
+			}
+			if said.Signature != nil {
+				return nil, fmt.Errorf("line %d: %w", number, errSigned)
 			}
 			line = Head{said.Entry, said.Chain}.String()
 		}
@@ -61,13 +91,15 @@ func ReadHeads(file io.Reader) (heads []Head, err error) {
 		if err != nil {
 			return nil, fmt.Errorf("line %d: %w", number, err)
 		}
-		heads = append(heads, head)
+		heads = append(heads, KnownHead{Head: head})
 	}
 	if len(heads) == 0 && lines.Err() == nil {
 		return nil, errNoHead
 	}
 	return heads, lines.Err()
 }
+
+var errSigned = errors.New("it is a signed head: name those who may have signed it with --signers")
 
 // Head returns the head.
 func (r *Record) Head() Head {
@@ -146,13 +178,16 @@ func (r *Record) addMetrics() {
 		return
 	}
 	r.Metrics.MustRegister(r.headGauge)
+	metrics.Gauge(r.Metrics, "rbac_node_record_first", "The number of the first entry of the record that is here.", func() float64 {
+		return float64(r.firstHere())
+	})
 	metrics.Flag(r.Metrics, "rbac_node_record_failing", "1 if the record can't be written: one machine refuses commands then.", func() bool {
 		return r.Why() != ""
 	})
 	if r.VerifyEvery <= 0 {
 		return
 	}
-	metrics.Flag(r.Metrics, "rbac_node_record_broken", "1 if the chain of the record was broken when it was last verified.", func() bool {
+	metrics.Flag(r.Metrics, "rbac_node_record_broken", "1 if the chain of the record was broken, or a base copy was another one, when they were last verified.", func() bool {
 		r.mutex.Lock()
 		defer r.mutex.Unlock()
 		return r.isBroken

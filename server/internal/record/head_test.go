@@ -3,6 +3,7 @@ package record
 import (
 	"fmt"
 	"io"
+	"strings"
 	"sync"
 	"testing"
 
@@ -77,5 +78,33 @@ func TestHeadGauge(t *testing.T) {
 	}
 	if found := heads(); len(found) != 1 || found[0] != last {
 		t.Errorf("at the end: %v", found)
+	}
+}
+
+// A head of after a restore shows which heads that were noted later can't be of what the restore gave up. The same ones again change nothing.
+func TestOrderOfHeads(t *testing.T) {
+	link := func(text string) string { return strings.Repeat(text, linkBytes) }
+	gone, since, newest := Head{7, link("a")}, Head{6, link("b")}, Head{9, link("c")}
+	for what, one := range map[string]struct {
+		heads []Head
+		isBad bool
+	}{
+		"as they were noted":           {[]Head{gone, since, newest}, false},
+		"the same ones twice":          {[]Head{gone, since, newest, gone, since, newest}, false},
+		"of what came since":           {[]Head{since, gone, newest}, true},
+		"of what came since, twice":    {[]Head{since, gone, newest, since}, true},
+		"of what came since and later": {[]Head{since, newest, gone}, true},
+	} {
+		k, err := newKnownLinks(known(one.heads...))
+		if err != nil {
+			t.Fatal(err)
+		}
+		k.restored = 5
+		if err := k.compare(since.N, since.Chain); err != nil {
+			t.Errorf("%s: %v", what, err)
+		}
+		if err := k.compare(7, link("d")); (err != nil) != one.isBad {
+			t.Errorf("%s: %v", what, err)
+		}
 	}
 }

@@ -97,7 +97,7 @@ func makeFile(dir string, p part, at, copied string) error {
 // makeNext makes such a file, which has some later entries, beside the one at hand. It returns its path.
 func makeNext(dir string, p part, at, copied string, later []entry) (making string, err error) {
 	making = filepath.Join(dir, fileName+".making")
-	for _, left := range []string{making, making + "-journal"} {
+	for _, left := range []string{making, making + journalSuffix, making + walSuffix} {
 		if err := os.RemoveAll(left); err != nil {
 			return "", err
 		}
@@ -115,6 +115,10 @@ func makeNext(dir string, p part, at, copied string, later []entry) (making stri
 		}
 		return insertAll(tx, later, "NORMAL")
 	})
+	if err == nil {
+		// Under its final name the file never has a journal.
+		_, err = db.Exec("PRAGMA journal_mode = WAL")
+	}
 	err = disk.Close(db, err)
 	if err == nil {
 		err = disk.Sync(making)
@@ -157,8 +161,9 @@ func partPath(dir string, first, last int64) string {
 
 // namesOf returns the first and the last entry that the name of the file of an earlier part says, if it is one.
 func namesOf(path string) (first, last int64, is bool) {
-	_, err := fmt.Sscanf(filepath.Base(path), partPrefix+"%d-%d.db", &first, &last)
-	return first, last, err == nil
+	name := filepath.Base(path)
+	_, err := fmt.Sscanf(name, partPrefix+"%d-%d.db", &first, &last)
+	return first, last, err == nil && name == filepath.Base(partPath("", first, last)) // Sscanf passes over what comes after that.
 }
 
 const (

@@ -34,6 +34,8 @@ const (
 	announcing = time.Minute
 	// busy is how long SQLite waits for another program that reads or writes the record, in milliseconds.
 	busy = "5000"
+	// closeTimeout is how long base copies may take while the record is closed.
+	closeTimeout = 5 * time.Second
 )
 
 // Options are what a record needs.
@@ -77,7 +79,7 @@ type Record struct {
 	based    int64
 	isMaking bool
 	making   sync.WaitGroup
-	// failing says why nothing can be kept, or is empty. isBroken says that the chain was broken when it was last verified.
+	// failing says why nothing can be kept, or is empty. isBroken says that the chain or a base was wrong when they were last verified.
 	failing  string
 	isBroken bool
 	stop     context.CancelFunc
@@ -100,7 +102,7 @@ var (
 // hasRecord reports whether there is a record in a folder, or a part of one.
 func hasRecord(dir string) (bool, error) {
 	if _, err := os.Stat(filepath.Join(dir, fileName)); err == nil {
-		return true, nil
+		return true, refuseJournals(dir)
 	}
 	files, err := os.ReadDir(dir)
 	if errors.Is(err, os.ErrNotExist) {
@@ -128,7 +130,10 @@ func CheckOffice(office string) error {
 	if errors.Is(err, os.ErrNotExist) || err == nil && about.Mode().IsRegular() && about.Size() == 0 {
 		err = fmt.Errorf("office %s: %w", office, errNoOffice)
 	}
-	return err
+	if err != nil {
+		return err
+	}
+	return refuseJournal(office)
 }
 
 func (r *Record) say(stage string) {
@@ -435,12 +440,18 @@ func (r *Record) addBase(copied, rows string, n int64) error {
 	return err
 }
 
-// Close ends the record. If the replay has ended in order, it leaves a base copy, so that the next start has nothing to do again.
+// Close ends the record. If the replay has ended in order, and there is time, it leaves a base copy, so that the next start has nothing to do
+// again.
 func (r *Record) Close(isInOrder bool) error {
+	defer time.AfterFunc(closeTimeout, r.stop).Stop()
 	r.making.Wait()
 	err := r.write(r.late, nil)
 	if isInOrder && err == nil && len(r.open) == 0 && r.head.n > r.newestBase() {
 		err = r.withCopy(r.life, r.Office, func(copied, rows string) error { return r.addBase(copied, rows, r.head.n) })
+		if err != nil && r.life.Err() != nil {
+			r.Log.Info("there was no time for a base copy of the office: the next start does the last commands again", "why", err)
+			err = nil
+		}
 	}
 	// After a start that was refused nothing is said about the head.
 	r.announces.Do(func() {

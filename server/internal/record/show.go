@@ -78,7 +78,7 @@ func (f *Filter) where() (string, []any) {
 			values = append(values, value)
 		}
 	}
-	const inImport = " OR import_has(coalesce(request ->> 'csv', ''), ?, "
+	const inImport = " OR instr(request, '\"csv\":') > 0 AND import_has(coalesce(request ->> 'csv', ''), ?, "
 	add(f.User, "request ->> 'user' = ?"+inImport+"0)")
 	add(f.Role, "? IN (request ->> 'role', request ->> 'asc', request ->> 'desc') OR "+
 		"EXISTS (SELECT 1 FROM json_each(coalesce(request -> 'roles', '[]')) WHERE value = ?)"+inImport+"1)")

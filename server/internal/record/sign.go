@@ -26,20 +26,23 @@ type Signer struct {
 	// URL is that of the front, and Client asks it. Token shows who asks, or is empty.
 	URL, Token string
 	Client     *http.Client
-	// Key is the file of the key, of minisign or ssh-keygen, and Heads that of the signed heads. IsFirst says that there is none yet.
-	Key, Heads string
-	IsFirst    bool
-	Out        io.Writer
+	// Key is the file of the key, of minisign or ssh-keygen, and Heads that of the signed heads. IsFirst says that there is none yet, and
+	// IsRestored that a backup of the record was restored.
+	Key, Heads          string
+	IsFirst, IsRestored bool
+	Out                 io.Writer
 }
 
 // ErrNotContinued is returned for a record that doesn't continue the last head that was signed.
 var ErrNotContinued = errors.New("the record does not continue the last signed head, so nothing was signed: somebody has changed it, cut " +
 	"it off, or restored it. Keep the file of heads and a backup of the record as they are, and run " +
-	"`rbac-node record verify --heads FILE --signers FILE` on that backup; if you know why, begin another file with --begin")
+	"`rbac-node record verify --heads FILE --signers FILE` on that backup; if a backup was restored, and you know why, go on with --restored")
 
 var (
 	errIsThere = errors.New("it has heads already: leave out --begin, or name another file")
 	errIsEmpty = errors.New("it has no head: to sign the first one, give --begin")
+	// errNotRestored is returned if the record has another history, and doesn't say that it was restored.
+	errNotRestored = fmt.Errorf("no entry after the newest signed head that the record has says that a backup was restored: %w", ErrNotContinued)
 )
 
 // Sign signs the head of the record after it has computed all links from the last signed head to it, and appends it to the file.
@@ -66,21 +69,24 @@ func (s *Signer) sign(ctx context.Context, file *os.File) error {
 	if err := syscall.Flock(int(file.Fd()), syscall.LOCK_EX|syscall.LOCK_NB); err != nil {
 		return fmt.Errorf("another program signs: %w", err)
 	}
-	last, end, err := lastSigned(file)
+	known, end, err := knownIn(file)
 	if err != nil {
 		return err
 	}
 	switch {
-	case s.IsFirst && last.N > 0:
+	case s.IsFirst && len(known) > 0:
 		return errIsThere
-	case !s.IsFirst && last.N == 0:
+	case !s.IsFirst && len(known) == 0:
 		return errIsEmpty
 	}
-	head, err := s.follow(ctx, last)
+	head, err := s.next(ctx, known)
 	if err != nil {
 		return err
 	}
 	signed := &signedHead{Entry: head.N, Chain: head.Chain, At: time.Now().UTC().Format(time.RFC3339)}
+	if head.After.N > 0 {
+		signed.After = head.After.String()
+	}
 	if err := signed.sign(ctx, s.Key); err != nil {
 		return err
 	}
@@ -97,66 +103,98 @@ func (s *Signer) sign(ctx context.Context, file *os.File) error {
 	if err := file.Sync(); err != nil {
 		return err
 	}
-	fmt.Fprintln(s.Out, head)
+	fmt.Fprintln(s.Out, head.Head)
 	return nil
 }
 
-// lastSigned returns the last head of a file, and where its lines end. A crash may have left a part of a line after them.
-func lastSigned(file io.Reader) (last Head, end int64, err error) {
+// knownIn returns the heads of a file, and where its lines end. A crash may have left a part of a line after them.
+func knownIn(file io.Reader) (known []KnownHead, end int64, err error) {
 	lines := bufio.NewReaderSize(file, longestSigned)
 	for {
 		line, err := lines.ReadSlice('\n')
 		if errors.Is(err, io.EOF) {
-			return last, end, nil
+			return known, end, nil
 		}
 		if err != nil {
-			return last, end, err
+			return nil, end, err
 		}
-		signed, err := readSigned(bytes.TrimSpace(line))
+		_, head, err := readSigned(bytes.TrimSpace(line))
 		if err != nil {
-			return last, end, fmt.Errorf("after %d bytes: %w", end, err)
+			return nil, end, fmt.Errorf("after %d bytes: %w", end, err)
 		}
-		last, end = signed.head(), end+int64(len(line))
+		known, end = append(known, head), end+int64(len(line))
 	}
 }
 
-// follow computes the links from a head to the one that the record has now, which it returns. It keeps one answer at a time.
-func (s *Signer) follow(ctx context.Context, last Head) (Head, error) {
+// next returns the head that the record has now, if it continues the last one that was signed. If a backup was restored, it may continue
+// an earlier one, which the head then says.
+func (s *Signer) next(ctx context.Context, known []KnownHead) (next KnownHead, err error) {
+	heads, _ := standing(known)
+	if len(heads) == 0 {
+		next.Head, _, err = s.follow(ctx, Head{})
+		return next, err
+	}
+	next.Head, _, err = s.follow(ctx, heads[len(heads)-1])
+	for i := len(heads) - 2; s.IsRestored && errors.Is(err, ErrNotContinued) && i >= 0; i-- {
+		var isRestored bool
+		next.After = heads[i]
+		if next.Head, isRestored, err = s.follow(ctx, next.After); err == nil && !isRestored {
+			err = errNotRestored
+			break
+		}
+	}
+	return next, err
+}
+
+// follow computes the links from a head to the one that the record has now, which it returns, and whether an entry between them says that a
+// backup was restored. It keeps one answer at a time.
+func (s *Signer) follow(ctx context.Context, last Head) (head Head, isRestored bool, err error) {
 	given, err := s.ask(ctx, last.N)
 	if err != nil {
-		return Head{}, err
+		return head, false, err
 	}
-	head, err := ParseHead(given.Head)
-	if err != nil {
-		return Head{}, fmt.Errorf("the front: %w", err)
+	if head, err = ParseHead(given.Head); err != nil {
+		return head, false, fmt.Errorf("the front: %w", err)
 	}
 	if head.N < last.N {
-		return Head{}, fmt.Errorf("the record ends at entry %d, and entry %d was signed: %w", head.N, last.N, ErrNotContinued)
+		return head, false, fmt.Errorf("the record ends at entry %d, and entry %d was signed: %w", head.N, last.N, ErrNotContinued)
 	}
 	for at := last; ; {
 		if given.First > at.N+1 && last.N == 0 {
-			return head, nil // Nothing was signed, and what came before isn't there.
+			return head, false, nil // Nothing was signed, and what came before isn't there.
 		}
 		if given.First > at.N+1 {
-			return Head{}, fmt.Errorf("entries %d to %d were moved away before a head after them was signed: put their part back, or "+
+			return head, false, fmt.Errorf("entries %d to %d were moved away before a head after them was signed: put their part back, or "+
 				"begin another file with --begin: %w", at.N+1, given.First-1, ErrMissing)
 		}
 		before := at.N
 		if at, err = advance(at, given.Entries, head.N); err != nil {
-			return Head{}, err
+			return head, false, err
+		}
+		for _, fields := range given.Entries {
+			isRestored = isRestored || saysRestored(fields)
 		}
 		switch {
 		case at == head:
-			return head, nil
+			return head, isRestored, nil
 		case at.N == head.N:
-			return Head{}, fmt.Errorf("entry %d has another link than what leads from entry %d to it: %w", head.N, last.N, ErrNotContinued)
+			return head, false, fmt.Errorf("entry %d has another link than what leads from entry %d to it: %w", head.N, last.N, ErrNotContinued)
 		case at.N == before:
-			return Head{}, fmt.Errorf("entry %d is not there: %w", at.N+1, ErrNotContinued)
+			return head, false, fmt.Errorf("entry %d is not there: %w", at.N+1, ErrNotContinued)
 		}
 		if given, err = s.ask(ctx, at.N); err != nil {
-			return Head{}, err
+			return head, false, err
 		}
 	}
+}
+
+// requestField is which of the fields of an entry has the request.
+const requestField = 4
+
+// saysRestored reports whether the fields of an entry say that a backup was restored.
+func saysRestored(fields []string) bool {
+	var text beginningText
+	return len(fields) > requestField && json.Unmarshal([]byte(fields[requestField]), &text) == nil && text.Record == adopted && text.Restored != ""
 }
 
 // advance returns the head that entries lead to from another one, at most up to a number.

@@ -22,17 +22,32 @@ const (
 	longestSigned = 64 << 10
 )
 
-// A signedHead is a line of a file of heads: a head, when it was signed, and the signature of both.
+// A signedHead is a line of a file of heads: a head, when it was signed, and the signature of both. After a restore it also has the
+// newest earlier head that the record still had, which is signed too.
 type signedHead struct {
 	Entry     int64  `json:"entry"`
 	Chain     string `json:"chain"`
 	At        string `json:"at"`
+	After     string `json:"after,omitempty"`
 	Signature string `json:"signature"`
 }
 
 func (s *signedHead) head() Head { return Head{s.Entry, s.Chain} }
 
-func (s *signedHead) text() string { return fmt.Sprintf("%s %s\n", s.head(), s.At) }
+func (s *signedHead) text() string {
+	if s.After != "" {
+		return fmt.Sprintf("%s %s after %s\n", s.head(), s.At, s.After)
+	}
+	return fmt.Sprintf("%s %s\n", s.head(), s.At)
+}
+
+// known returns the head and what is said of a restore before it.
+func (s *signedHead) known() (known KnownHead, err error) {
+	if known.Head, err = ParseHead(s.head().String()); err == nil && s.After != "" {
+		known.After, err = ParseHead(s.After)
+	}
+	return known, err
+}
 
 // sign signs the head with a key of minisign or of ssh-keygen. The latter may be in an agent if the file has its public half.
 func (s *signedHead) sign(ctx context.Context, key string) error {
@@ -109,7 +124,7 @@ func (s *signatures) verify(ctx context.Context, signed *signedHead) error {
 }
 
 // ReadSignedHeads reads heads from a file that `rbac-node record sign` has written, and refuses one that no signer has signed.
-func ReadSignedHeads(ctx context.Context, file io.Reader, signers string) (heads []Head, err error) {
+func ReadSignedHeads(ctx context.Context, file io.Reader, signers string) (heads []KnownHead, err error) {
 	folder, err := os.MkdirTemp("", "rbac-heads")
 	if err != nil {
 		return nil, err
@@ -122,14 +137,14 @@ func ReadSignedHeads(ctx context.Context, file io.Reader, signers string) (heads
 	lines := bufio.NewScanner(file)
 	lines.Buffer(nil, longestSigned)
 	for number := 1; lines.Scan(); number++ {
-		signed, err := readSigned(lines.Bytes())
+		signed, known, err := readSigned(lines.Bytes())
 		if err == nil {
 			err = checked.verify(ctx, signed)
 		}
 		if err != nil {
 			return nil, fmt.Errorf("line %d has no head with a good signature: %w", number, err)
 		}
-		heads = append(heads, signed.head())
+		heads = append(heads, known)
 	}
 	if len(heads) == 0 && lines.Err() == nil {
 		return nil, errNoHead
@@ -140,13 +155,12 @@ func ReadSignedHeads(ctx context.Context, file io.Reader, signers string) (heads
 var errNoHead = errors.New("it has no head")
 
 // readSigned reads a line of a file of signed heads.
-func readSigned(line []byte) (*signedHead, error) {
-	signed := &signedHead{}
-	if err := json.Unmarshal(line, signed); err != nil {
-		return nil, err
+func readSigned(line []byte) (signed *signedHead, known KnownHead, err error) {
+	signed = &signedHead{}
+	if err = json.Unmarshal(line, signed); err == nil {
+		known, err = signed.known()
 	}
-	_, err := ParseHead(signed.head().String())
-	return signed, err
+	return signed, known, err
 }
 
 const (

@@ -2,6 +2,7 @@ package record
 
 import (
 	"context"
+	"encoding/json"
 	"errors"
 	"fmt"
 	"os"
@@ -19,18 +20,22 @@ type verifier struct {
 	// of the record.
 	want *office.Sums
 	at   Head
-	// heads has the links that are known from elsewhere, by the numbers of their entries, and known is the newest of these.
-	heads map[int64]string
-	known int64
+	// heads are known from elsewhere.
+	heads *knownLinks
 	// bases are the base copies that were there before the file at hand was opened, the newest first.
 	bases []base
 	// newest is the last entry of the file that was read, which may have no answer.
 	newest int64
 	// isMissing says that entries aren't here.
 	isMissing bool
-	// last is the last entry that was read, and rows are those after it, if a rerun has led there.
+	// last is the last entry that was read, and rows is the digest of those after it, if a rerun has led there.
 	last entry
 	rows string
+	// keepsRows says that the rows at the end of the part at hand are wanted, since the next one adopts an office. They are in before then,
+	// and changed is what differs from them in that office.
+	keepsRows bool
+	before    *officeRows
+	changed   *changes
 	// stop may be nil.
 	stop *stop
 }
@@ -38,10 +43,16 @@ type verifier struct {
 // Verify reports whether the chain holds, whether librbac gives the same answers, and whether the office has the rows that the
 // record gives. While a front has the office its rows are not compared. Heads that are known from elsewhere show whether the end
 // was cut off, or whether the chain was computed anew. It returns ErrMissing if that is all that is wrong.
-func (t *Tool) Verify(ctx context.Context, heads []Head) error { return t.verify(ctx, heads, nil) }
+func (t *Tool) Verify(ctx context.Context, known []KnownHead) error {
+	heads, err := newKnownLinks(known)
+	if err != nil {
+		return err
+	}
+	return t.verify(ctx, heads, nil)
+}
 
 // verify is Verify, which may do something after an entry.
-func (t *Tool) verify(ctx context.Context, heads []Head, at *stop) error {
+func (t *Tool) verify(ctx context.Context, heads *knownLinks, at *stop) error {
 	if t.Data == "" && t.Part == "" {
 		if err := CheckOffice(t.Office); err != nil {
 			return err
@@ -57,24 +68,15 @@ func (t *Tool) verify(ctx context.Context, heads []Head, at *stop) error {
 		return err
 	}
 	defer end()
-	v := &verifier{Tool: t, scratch: scratch, heads: map[int64]string{}, stop: at}
-	for _, head := range heads {
-		if link, has := v.heads[head.N]; has && link != head.Chain {
-			return fmt.Errorf("entry %d has two known links: the chain was computed anew", head.N)
-		}
-		if v.heads[head.N] = head.Chain; head.N > v.known {
-			v.known = head.N
-		}
-	}
+	heads.isPart = t.Part != ""
+	v := &verifier{Tool: t, scratch: scratch, heads: heads, stop: at}
 	if err := v.files(ctx, files); err != nil {
 		return err
 	}
 	if err := syncLog(files[len(files)-1]); err != nil {
 		return err
 	}
-	if v.known > 0 && v.known < v.last.n {
-		fmt.Fprintf(v.Out, "entries %d to %d come after the newest known head: it doesn't protect them\n", v.known+1, v.last.n)
-	}
+	v.isMissing = heads.report(t.Out, v.last.n) || v.isMissing
 	fmt.Fprintf(t.Out, "head %s\n", v.last.head())
 	if v.isMissing {
 		return ErrMissing
@@ -113,8 +115,8 @@ func (v *verifier) files(ctx context.Context, files []string) error {
 
 // end refuses a record that ends before a known head, or before a base copy.
 func (v *verifier) end() error {
-	if v.last.n < v.known {
-		return fmt.Errorf("the record ends at entry %d: those from there to %d are missing", v.last.n, v.known)
+	if err := v.heads.end(v.last.n); err != nil {
+		return err
 	}
 	if len(v.bases) > 0 && v.bases[0].n > v.newest {
 		return fmt.Errorf("the base copy %s is of an entry that is not here", v.bases[0].name())
@@ -212,6 +214,7 @@ func (v *verifier) read(ctx context.Context, opened *view, isLast bool) error {
 		if !isEnd {
 			end = opened.parts[i+1].first - 1
 		}
+		v.keepsRows = !isEnd && opened.parts[i+1].why == adopted
 		if err := v.part(ctx, opened, p, end, isLast && isEnd); err != nil {
 			return err
 		}
@@ -232,6 +235,9 @@ func (v *verifier) part(ctx context.Context, opened *view, p part, end int64, is
 	}
 	defer again.close()
 	again.stop = v.stop
+	if err := v.change(again); err != nil {
+		return err
+	}
 	if err := v.compareNode(ctx, opened, p, end, again); err != nil {
 		return err
 	}
@@ -253,10 +259,30 @@ func (v *verifier) part(ctx context.Context, opened *view, p part, end int64, is
 	if isLast && v.want != nil && v.Data == "" {
 		return v.compare(ctx, opened, again)
 	}
+	if v.keepsRows {
+		if v.before, err = again.rows(); err != nil {
+			return err
+		}
+	}
 	s, err := again.sums()
 	v.rows = s.Digest
 	if isLast && v.Data == "" {
 		fmt.Fprintln(v.Out, "a front has the office: its rows are not compared")
+	}
+	return err
+}
+
+// change compares the rows with which a part begins with those before it, if these were kept.
+func (v *verifier) change(again *rerun) error {
+	before := v.before
+	v.before, v.changed = nil, nil
+	if before == nil {
+		return nil
+	}
+	after, err := again.rows()
+	if err == nil {
+		v.changed = &changes{Rows: [][]any{}}
+		v.changed.compare(before.rows, after.rows)
 	}
 	return err
 }
@@ -278,19 +304,39 @@ func (v *verifier) join(p part) error {
 	case p.first > next && v.Part != "" && v.last.n == 0:
 		fmt.Fprintf(v.Out, "entry %d follows the head %s\n", p.first, Head{p.first - 1, p.before})
 		v.last = entry{n: p.first - 1, ch: p.before}
+		return v.heads.compare(v.last.n, v.last.ch)
 	case p.first > next:
 		fmt.Fprintln(v.Out, missing(next, p))
-		for n := range v.heads {
-			if next <= n && n < p.first {
-				return fmt.Errorf("entry %d, whose link is known, is not here", n)
-			}
-		}
 		v.last, v.isMissing = entry{n: p.first - 1, ch: p.before}, true
+		return v.heads.compare(v.last.n, v.last.ch)
 	case p.before != v.last.ch:
 		return fmt.Errorf("the part that begins with entry %d does not follow entry %d", p.first, v.last.n)
 	case (p.why == continued || p.why == joined) && p.rows != v.rows:
 		return fmt.Errorf("the part that begins with entry %d has other rows than entry %d leaves", p.first, v.last.n)
 	}
+	return nil
+}
+
+// judgeAdopted refuses a part that says other changes of the office than there were.
+func (v *verifier) judgeAdopted(p *part) error {
+	if p.adoption.Restored != "" {
+		v.heads.restored = p.first
+	}
+	if v.changed == nil {
+		return nil
+	}
+	says, err := json.Marshal(p.adoption.Changed)
+	if err != nil {
+		return err
+	}
+	has, err := json.Marshal(v.changed)
+	if err != nil {
+		return err
+	}
+	if p.adoption.Changed != nil && string(says) != string(has) {
+		return fmt.Errorf("entry %d says of the office that was adopted: %s, and it has %s", p.first, printed(string(says)), printed(string(has)))
+	}
+	p.adoption.Changed = v.changed
 	return nil
 }
 
@@ -324,7 +370,6 @@ func (v *verifier) checked(ctx context.Context, opened *view, p part, to int64) 
 // check refuses an entry that can't be the next one of a part.
 func (v *verifier) check(e *entry, p *part) error {
 	isFirst := p.why != joined && e.n == p.first
-	link, isKnown := v.heads[e.n]
 	switch {
 	case e.n != v.last.n+1:
 		return fmt.Errorf("entry %d is missing", v.last.n+1)
@@ -332,17 +377,18 @@ func (v *verifier) check(e *entry, p *part) error {
 		return fmt.Errorf("entry %d has no answer", e.n)
 	case chained(v.last.ch, e) != e.ch:
 		return fmt.Errorf("the chain breaks at entry %d: it or the one before it was changed", e.n)
-	case isKnown && link != e.ch:
-		return fmt.Errorf("entry %d has another link than the one that is known: the chain was computed anew", e.n)
 	case v.last.answer == unknown && e.answer != unknown && !(isFirst && p.why == adopted):
 		return fmt.Errorf("nobody knows the answer to entry %d, and no part begins anew after it", v.last.n)
 	case isFirst && !p.begins(e) || !isFirst && !e.isCommand() && !e.isReview() && !e.isBounded():
 		return fmt.Errorf("entry %d is not what its part says", e.n)
 	}
 	if isFirst && p.why == adopted {
+		if err := v.judgeAdopted(p); err != nil {
+			return err
+		}
 		v.sayAdopted(p)
 	}
-	return nil
+	return v.heads.compare(e.n, e.ch)
 }
 
 // compare compares the rows of the office with those that the record gives. The last entries may have no answer yet.
@@ -454,7 +500,7 @@ func (v *verifier) compareBases(ctx context.Context, opened *view, p part, end i
 			continue // A newer one has taken its place meanwhile.
 		}
 		if err != nil || o.sums() != given || b.rows != given.Digest {
-			return fmt.Errorf("the base copy %s is not what the record gives at entry %d: delete it, and compare the office", b.name(), b.n)
+			return &baseError{b}
 		}
 	}
 	return nil

@@ -6,13 +6,17 @@ import (
 	"errors"
 	"fmt"
 	"os"
+	"path/filepath"
 	"strings"
+
+	"rbac-node/internal/disk"
 )
 
 // A view is a state of a file of a record, which does not change while others write the file.
 type view struct {
 	path string
 	db   *sql.DB
+	conn *sql.Conn
 	tx   *sql.Tx
 	// parts are those of the file, at least one. answered is the last entry with an answer, and last the last one.
 	parts          []part
@@ -21,7 +25,10 @@ type view struct {
 
 // openView opens a file as it is now.
 func openView(ctx context.Context, path string) (*view, error) {
-	v, err := openViewBy(ctx, path, "mode=ro&_busy_timeout="+busy)
+	if err := refuseJournal(path); err != nil {
+		return nil, err
+	}
+	v, err := openViewBy(ctx, path, readingOf(path)+"&_busy_timeout="+busy)
 	if err != nil && (strings.Contains(err.Error(), "unable to open") || strings.Contains(err.Error(), "readonly database")) {
 		// A file beside which SQLite can't make its own, as in a backup that can't be written, isn't written by others either. Opened
 		// in this way it is read without its log.
@@ -33,17 +40,60 @@ func openView(ctx context.Context, path string) (*view, error) {
 	return v, err
 }
 
+// readingOf returns how a file is opened that isn't written. SQLite makes two files beside it. Unless the log has something, they are
+// deleted again if the file is opened as one that may be written.
+func readingOf(path string) string {
+	if log, err := os.Stat(path + walSuffix); err == nil && log.Size() > 0 {
+		return "mode=ro"
+	}
+	return "mode=rw&_query_only=1"
+}
+
+// refuseJournal refuses a file with a journal beside it: no record and no office has one, and a program that opens the file by SQLite
+// plays it back, so that it reads something else than what is verified.
+func refuseJournal(path string) error {
+	real, err := filepath.EvalSymlinks(path)
+	if err != nil {
+		real = path // It isn't there.
+	}
+	for _, beside := range []string{path + journalSuffix, real + journalSuffix} { // SQLite looks beside what a link leads to.
+		if _, err := os.Lstat(beside); !errors.Is(err, os.ErrNotExist) {
+			return fmt.Errorf("%s: there is a file %s beside it, which would change what it has: somebody has put it there", path, filepath.Base(beside))
+		}
+	}
+	return nil
+}
+
+// refuseJournals refuses a folder of a record in which one of the files has a journal.
+func refuseJournals(dir string) error {
+	for _, suffix := range []string{"", journalSuffix} {
+		found, err := filepath.Glob(filepath.Join(disk.EscapeGlob(dir), "*.db"+suffix))
+		if err != nil {
+			return err
+		}
+		for _, path := range found {
+			if err := refuseJournal(strings.TrimSuffix(path, suffix)); err != nil {
+				return err
+			}
+		}
+	}
+	return nil
+}
+
 func openViewBy(ctx context.Context, path, options string) (*view, error) {
 	db, err := openFile(path, options)
 	if err != nil {
 		return nil, err
 	}
 	v := &view{path: path, db: db}
-	if v.tx, err = db.BeginTx(ctx, nil); err == nil {
-		if err = v.read(ctx); err == nil {
-			return v, nil
+	if v.conn, err = db.Conn(ctx); err == nil {
+		if v.tx, err = v.conn.BeginTx(ctx, nil); err == nil {
+			if err = v.read(ctx); err == nil {
+				return v, nil
+			}
+			_ = v.tx.Rollback()
 		}
-		_ = v.tx.Rollback()
+		_ = v.conn.Close()
 	}
 	_ = db.Close()
 	return nil, fmt.Errorf("%s: %w", path, err)
@@ -75,6 +125,7 @@ func (v *view) read(ctx context.Context) error {
 
 func (v *view) Close() {
 	_ = v.tx.Rollback() // Nothing was written.
+	_ = v.conn.Close()
 	_ = v.db.Close()
 }
 

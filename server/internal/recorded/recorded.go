@@ -5,6 +5,8 @@ import (
 	"context"
 	"encoding/json"
 	"errors"
+	"io"
+	"net/http"
 	"strings"
 	"time"
 
@@ -102,11 +104,23 @@ type Reader interface {
 	Links(ctx context.Context, after int64) (Links, error)
 }
 
+// A Fetch gives the records of other nodes that begin with an entry up to a number to a function, until that accepts one.
+type Fetch func(ctx context.Context, most int64, accept func(text io.Reader) error) error
+
+// ErrLater is returned by a Fetch if a node may give its record later.
+var ErrLater = errors.New("another node may give its record later")
+
+// FirstField is the field in the head of a reply that has the number of the first entry of a record that is sent.
+const FirstField = "Record-First"
+
 // A Follower is the record of a node, which gets the commands of the log in their order.
 type Follower interface {
 	Reader
-	// Resume goes on after the head that the office in the file has, which a snapshot gave. That may have been fetched from another node.
-	Resume(ctx context.Context, head string, isFetched bool) error
+	// Resume goes on after the head that the office in the file has, which a snapshot gave. That may have been fetched from another node,
+	// and so may be what is missing before it.
+	Resume(ctx context.Context, head string, isFetched bool, from Fetch) error
+	// ServeHTTP sends the record to another node.
+	http.Handler
 	// HasBegun reports whether there is a record, and Begin begins one with the office as it was at Resume.
 	HasBegun() bool
 	Begin(ctx context.Context, at string) error

@@ -52,10 +52,11 @@ func (o Options) selfSigned(key *ecdsa.PrivateKey) ([]byte, error) {
 	}
 	names, addresses := o.hosts()
 	begins := time.Now().Add(-time.Minute)
+	// It is no authority: whoever trusts it trusts this key for these names alone.
 	wanted := &x509.Certificate{
 		SerialNumber: number, Subject: pkix.Name{CommonName: o.Hosts[0]}, DNSNames: names, IPAddresses: addresses,
-		NotBefore: begins, NotAfter: begins.Add(lasts), BasicConstraintsValid: true, IsCA: true,
-		KeyUsage: x509.KeyUsageDigitalSignature | x509.KeyUsageCertSign, ExtKeyUsage: []x509.ExtKeyUsage{x509.ExtKeyUsageServerAuth},
+		NotBefore: begins, NotAfter: begins.Add(lasts), BasicConstraintsValid: true,
+		KeyUsage: x509.KeyUsageDigitalSignature, ExtKeyUsage: []x509.ExtKeyUsage{x509.ExtKeyUsageServerAuth},
 	}
 	coded, err := x509.CreateCertificate(rand.Reader, wanted, wanted, &key.PublicKey, key)
 	if err != nil {

@@ -27,6 +27,7 @@ func (o Options) explain(out io.Writer, files []file, tokens map[string]string) 
 		line("\nLet your authority sign %s, and save the certificate as %s.", o.path("csr"), o.path("crt"))
 	}
 	line("\nStart the front:\n  %s", o.start())
+	line("\nA session ends after %s in which nobody uses it, and %s after it was made. %s has these options.", sessionIdle, sessionAge, o.path("conf"))
 	if url := o.url(); url != "" {
 		line("\nThe console is %s/console/", url)
 		line("\nThe token of the administrator, who may do everything. It is shown this once:\n  %s", tokens[Administrator])

@@ -27,6 +27,8 @@ const (
 	Administrator, Monitor = "administrator", "prometheus"
 	// root is the caller who may do everything without a token, over a socket of this machine.
 	root = "unix:0"
+	// sessionIdle and sessionAge end the sessions of people who close a browser without a logout: an office has room for 1,000.
+	sessionIdle, sessionAge = "8h", "24h"
 )
 
 // Options say what is made.
@@ -74,6 +76,9 @@ func Run(o Options, out io.Writer) error {
 	if err := o.check(); err != nil {
 		return err
 	}
+	if about, err := os.Stat(o.Folder); err != nil || !about.IsDir() {
+		return fmt.Errorf("there is no folder %s: make it first, or name another one by --folder", o.Folder)
+	}
 	group, err := o.groupID()
 	if err != nil {
 		return err
@@ -116,7 +121,7 @@ func (o Options) optionWords() []string {
 	if len(o.Hosts) > 0 {
 		words = append(words, "--tls-cert", o.path("crt"), "--tls-key", o.path("key"))
 	}
-	return words
+	return append(words, "--session-idle", sessionIdle, "--session-age", sessionAge)
 }
 
 // check refuses names of hosts that no certificate can have, and options that the front would get in another form.

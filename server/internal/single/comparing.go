@@ -59,13 +59,7 @@ func (o *Office) compare(ctx context.Context) error {
 	if err != nil {
 		return err
 	}
-	rest := own[:0]
-	for _, row := range own {
-		if row.Table != rbacoffice.ClosurePairs { // They follow from the others.
-			rest = append(rest, row)
-		}
-	}
-	if differing := difference(rest, rows); differing != nil {
+	if differing := difference(own, rows); differing != nil {
 		return o.feed.Quietly(func() error { // A replay that starts would not be killed.
 			o.beginAgain(differing)
 			return nil

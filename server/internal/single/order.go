@@ -9,6 +9,7 @@ import (
 
 	"rbac-node/internal/api"
 	"rbac-node/internal/feed"
+	"rbac-node/internal/office"
 	"rbac-node/internal/pause"
 	"rbac-node/internal/state"
 )
@@ -21,40 +22,68 @@ type order struct {
 	state *state.State
 	// gate is passed by each command until it has been done, and by a turn alone. Nobody overtakes one who waits.
 	gate *semaphore.Weighted
-	// unread says why the state couldn't be read at the first start.
+	// unread says why the state couldn't be read at the first start, and isUnread that the copy of the file wasn't read yet.
 	unread    error
+	isUnread  bool
 	numbering numbering
 }
 
-// before finds out what the file has, which no replay has open. If that isn't known, nothing is answered from memory.
+// before finds out which commands the file has, which no replay has open, and copies it. If that fails, nothing is answered from memory.
 func (o *Office) before(ctx context.Context) error {
-	err := o.read(ctx)
+	err := o.record.Before(ctx)
+	if err == nil {
+		err = pause.For(ctx, o.rereading.rest(time.Now()))
+	}
 	if err != nil {
-		o.state.Forget()
-		o.state.Skip() // Some commands may not be known, so watches end.
+		o.forget()
+		return err
+	}
+	o.Say("the rows of the office are read")
+	if err := state.Copy(o.File); err != nil {
+		return o.isRead(err)
+	}
+	if o.isUnread = office.HasRoom(o.File); o.isUnread {
+		return nil
+	}
+	return o.load(ctx) // A replay that opens the office may need the room of the copy.
+}
+
+// while reads the rows of the copy, which are those of the file, since a replay that opens it changes none.
+func (o *Office) while(ctx context.Context) error {
+	if !o.isUnread {
+		return nil
+	}
+	o.isUnread = false
+	return o.load(ctx)
+}
+
+// load reads the rows of the copy.
+func (o *Office) load(ctx context.Context) error {
+	err := o.isRead(o.state.LoadCopy(ctx, o.File))
+	if err == nil && o.feed != nil {
+		o.rereading.isOver()
 	}
 	o.numbering.keepAhead(o.numbers().All)
 	return err
 }
 
-// read is before without its end.
-func (o *Office) read(ctx context.Context) error {
-	if err := o.record.Before(ctx); err != nil {
-		return err
-	}
-	if err := pause.For(ctx, o.rereading.rest(time.Now())); err != nil {
-		return err
-	}
-	o.Say("the rows of the office are read")
-	err := o.state.Load(ctx, o.File)
-	if o.feed == nil {
+// isRead notes how the rows were read, and returns an error after which no replay may be used.
+func (o *Office) isRead(err error) error {
+	switch {
+	case o.feed == nil:
 		o.unread = err // If the office doesn't open either, that says more.
 		return nil
-	}
-	if err == nil {
-		o.rereading.isOver()
+	case err != nil:
+		o.forget()
 	}
 	return err
+}
+
+// forget says that it isn't known what is in the office. Some commands may not be known, so watches end.
+func (o *Office) forget() {
+	o.state.Forget()
+	o.state.Skip()
+	o.numbering.keepAhead(o.numbers().All)
 }
 
 // Answered follows the commands of a unit. The feed calls it in the one order.
@@ -79,7 +108,7 @@ func (o *Office) State() *state.State { return o.state }
 func (o *Office) Do(ctx context.Context, b api.Batch) (api.Answers, error) {
 	if b.Kind != api.Command {
 		texts, numbers, err := o.state.Ask(b.Calls...)
-		return api.Answers{Texts: texts, Point: api.Point{Policy: numbers.Policy}}, err
+		return api.Answers{Texts: texts, Point: api.Point{Policy: numbers.Policy, Number: numbers.All}}, err
 	}
 	if b.Rule != (api.Rule{}) {
 		return o.doInTurn(ctx, b)
@@ -170,8 +199,7 @@ func (o *Office) inTurn(ctx context.Context, do func(*turn) error) error {
 func (t *turn) ask(calls ...*api.Call) ([][]byte, error) {
 	o := t.office
 	if api.NewBatch(api.Question, calls...).Kind != api.Command {
-		answers, _, err := o.state.Ask(calls...)
-		return answers, err
+		return t.askState(calls)
 	}
 	u, err := o.admit(calls)
 	if err != nil {
@@ -180,4 +208,14 @@ func (t *turn) ask(calls ...*api.Call) ([][]byte, error) {
 	t.asked.Add(1)
 	u.Finally, u.Life = t.asked.Done, t.life
 	return o.feed.Do(t.ctx, u)
+}
+
+// askState returns the answers of the state to questions. Those of one moment may be only some, but the moment is the same for all.
+func (t *turn) askState(calls []*api.Call) (answers [][]byte, err error) {
+	for len(answers) < len(calls) && err == nil {
+		var some [][]byte
+		some, _, err = t.office.state.Ask(calls[len(answers):]...)
+		answers = append(answers, some...)
+	}
+	return answers, err
 }

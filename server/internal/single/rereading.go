@@ -9,7 +9,7 @@ import (
 )
 
 const (
-	// An office that differs from its file again within calmInterval is read again after a pause, which grows from firstPause to longestPause.
+	// Pauses grow from firstPause to longestPause if the office differs from its file again within calmInterval.
 	firstPause, longestPause = time.Second, 15 * time.Second
 	calmInterval             = 5 * time.Minute
 )

@@ -94,7 +94,7 @@ func (o *Office) open(ctx context.Context) error {
 		return err
 	}
 	options := feed.Options{
-		Name: "office", Before: o.before, Observer: o, Keeper: o.record,
+		Name: "office", Before: o.before, While: o.while, Observer: o, Keeper: o.record,
 		// The replay inherits the lock. So whoever gets it knows that no replay of an earlier front writes the file any more.
 		Start: func() (*office.Replay, error) {
 			if faults.Has(faults.Unlocked) {
@@ -125,6 +125,9 @@ func makeIfMissing(ctx context.Context, program, path string) error {
 	making := path + ".making"
 	office.RemoveCopy(making)
 	err := office.Run(ctx, program, "init", making)
+	if err == nil {
+		err = office.RefuseLog(making)
+	}
 	if err == nil {
 		err = os.Rename(making, path)
 	}

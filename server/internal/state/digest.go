@@ -37,13 +37,29 @@ func (s *State) Digest() (string, error) {
 	return sums.Sums().Digest, err
 }
 
+// readingSuffix is added to the path of an office for the copy of which its rows are read.
+const readingSuffix = ".reading"
+
 // Load makes the office of the file of one that no program writes now, as Begin does. Commands that were kept are forgotten.
 func (s *State) Load(ctx context.Context, path string) error {
-	copied := path + ".reading"
-	defer office.RemoveCopy(copied)
-	if err := office.Copy(path, copied); err != nil {
+	if err := Copy(path); err != nil {
+		return err
+	}
+	return s.LoadCopy(ctx, path)
+}
+
+// Copy copies the file of an office that no program writes now, for LoadCopy.
+func Copy(path string) error {
+	if err := office.Copy(path, path+readingSuffix); err != nil {
 		return fmt.Errorf("rows: %w", err)
 	}
+	return nil
+}
+
+// LoadCopy is Load of the copy of a file, which it removes. The file itself may be in use.
+func (s *State) LoadCopy(ctx context.Context, path string) error {
+	copied := path + readingSuffix
+	defer office.RemoveCopy(copied)
 	rows, version, err := office.ReadRows(ctx, copied, office.OfCopy, false)
 	if err != nil {
 		return err

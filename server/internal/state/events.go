@@ -70,8 +70,8 @@ const gap = 1 << 20
 // Watched is what somebody who watches gets next.
 type Watched struct {
 	Events []Event
-	// Newest is the number of now.
-	Newest int64
+	// Newest is the number of now, and Policy the revision of the policy.
+	Newest, Policy int64
 	// Changed is closed when there are more.
 	Changed <-chan struct{}
 }
@@ -80,7 +80,7 @@ type Watched struct {
 func (s *State) After(number int64, most int) (Watched, bool) {
 	s.mutex.RLock()
 	defer s.mutex.RUnlock()
-	found := Watched{Newest: s.numbers.All, Changed: s.changed}
+	found := Watched{Newest: s.numbers.All, Policy: s.numbers.Policy, Changed: s.changed}
 	if number > s.numbers.All || number < s.forgotten {
 		return found, false
 	}

@@ -89,25 +89,40 @@ func (v *View) Above(list, others []string) map[string][]string {
 	return found
 }
 
-// Blocked returns the first dynamic set of which a role with its juniors has too many members, and these, or nothing. Such a role can
-// never be activated.
-func (v *View) Blocked(role string) (set string, members []string) {
+// Blocked returns the first dynamic set of which a role with its juniors and some other roles has too many members, and these, or nothing.
+// Such a role can't be activated in a session that has these others.
+func (v *View) Blocked(role string, beside ...string) (set string, members []string) {
 	below := v.Below(role)
+	for _, one := range beside {
+		below[one] = true
+	}
 	return v.Graph().Violated(func(role string) bool { return below[role] })
 }
 
-// juniors returns, for each role of a list that has all in their order, it and its juniors: a bit for each place in the list.
-func (v *View) juniors(roles []Row) []*big.Int {
-	places, below := make(map[string]int, len(roles)), make([]*big.Int, len(roles))
+// juniors returns, for each role of a list that has all in their order, it and its juniors: a bit for each place in the list. Without the
+// closure pairs, of which there may be half a million, nobody has to wait for that.
+func (g *Graph) juniors(roles []Row) []*big.Int {
+	places, direct, below := make(map[string]int, len(roles)), make([][]int, len(roles)), make([]*big.Int, len(roles))
 	for i, row := range roles {
 		places[row[0]] = i
-		below[i] = new(big.Int).SetBit(new(big.Int), i, 1)
 	}
-	v.scan(rbacoffice.ClosurePairs, 0, func(row Row) bool {
-		one := below[places[row[0]]]
-		one.SetBit(one, places[row[1]], 1)
-		return true
-	})
+	for _, edge := range g.Edges {
+		senior := places[edge[0]]
+		direct[senior] = append(direct[senior], places[edge[1]])
+	}
+	var find func(role int) *big.Int
+	find = func(role int) *big.Int {
+		if below[role] == nil {
+			below[role] = new(big.Int).SetBit(new(big.Int), role, 1)
+			for _, junior := range direct[role] {
+				below[role].Or(below[role], find(junior))
+			}
+		}
+		return below[role]
+	}
+	for i := range roles {
+		find(i)
+	}
 	return below
 }
 

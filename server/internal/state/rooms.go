@@ -9,33 +9,50 @@ type Room struct {
 	Limit int    `json:"limit"`
 }
 
+// The kinds of which the front says more: sessions, and those that are counted for a single set or session.
+const sessionKind, memberKind, ActiveRoleKind = "session", "member", "activeRole"
+
+// MostActivated is how many roles may be activated in a session.
+const MostActivated = 32
+
+// IsOfOne reports whether a room is that of a single set or session, and not of the whole office.
+func (r Room) IsOfOne() bool { return r.Kind == memberKind || r.Kind == ActiveRoleKind }
+
+// IsOfSessions reports whether a room is that of sessions.
+func (r Room) IsOfSessions() bool { return r.Kind == sessionKind }
+
 // Rooms returns how many there are of each kind that an office of version 2 limits. Members are counted for the set that has most, and
-// activated roles for the session that has most.
+// activated roles for the session that has most. No large table is read for that.
 func (v *View) Rooms() []Room {
+	statics, dynamics := firsts(v.all(rbacoffice.StaticCardinalities)), firsts(v.all(rbacoffice.DynamicCardinalities))
+	members := v.most(rbacoffice.StaticMembers, statics)
+	if most := v.most(rbacoffice.DynamicMembers, dynamics); most > members {
+		members = most
+	}
 	return []Room{
 		{v.count(rbacoffice.Users), "user", 20_000}, {v.count(rbacoffice.Roles), "role", 1_024},
 		{v.count(rbacoffice.Objects), "object", 2_000}, {v.count(rbacoffice.Permissions), "permission", 5_000},
 		{v.count(rbacoffice.Grants), "grant", 20_000}, {v.count(rbacoffice.Assignments), "assignment", 20_000},
-		{v.count(rbacoffice.Inheritances), "edge", 4_096}, {v.count(rbacoffice.StaticCardinalities), "ssdSet", 64},
-		{v.count(rbacoffice.DynamicCardinalities), "dsdSet", 64},
-		{v.longest(rbacoffice.StaticMembers, rbacoffice.DynamicMembers), "member", 32},
-		{v.count(rbacoffice.Sessions), "session", 1_000}, {v.longest(rbacoffice.ActivatedRoles), "activeRole", 32},
+		{v.count(rbacoffice.Inheritances), "edge", 4_096}, {len(statics), "ssdSet", 64}, {len(dynamics), "dsdSet", 64},
+		{members, memberKind, 32}, {v.count(rbacoffice.Sessions), sessionKind, 1_000}, {v.mostActivated(), ActiveRoleKind, MostActivated},
 	}
 }
 
-// longest returns the most rows of some tables that have the same first name.
-func (v *View) longest(tables ...rbacoffice.Table) (most int) {
-	for _, table := range tables {
-		first, count := "", 0
-		v.scan(table, 0, func(row Row) bool {
-			if row[0] != first {
-				first, count = row[0], 0
-			}
-			if count++; count > most {
-				most = count
-			}
-			return true
-		})
+// most returns how many rows a table has at most with one of some first names.
+func (v *View) most(table rbacoffice.Table, names []string) (most int) {
+	for _, name := range names {
+		if start, end := v.places(table, name); end-start > most {
+			most = end - start
+		}
 	}
 	return most
+}
+
+// mostActivated returns how many roles are activated in the session that has most.
+func (v *View) mostActivated() int {
+	names := make([]string, 0, len(v.state.sessions))
+	for name := range v.state.sessions {
+		names = append(names, name)
+	}
+	return v.most(rbacoffice.ActivatedRoles, names)
 }

@@ -81,7 +81,7 @@ func (s *State) touch(calls ...*api.Call) {
 	}
 }
 
-// A Session is one of the office.
+// A Session is what is known of one session at a moment. Whoever knows its name can use it; its digest may be shown.
 type Session struct {
 	Name, Digest, User string
 	// Active has the activated roles in their order.

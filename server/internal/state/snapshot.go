@@ -120,13 +120,14 @@ func (s *State) Freeze() (*Frozen, error) {
 	return f, s.Look(func(v *View) { v.freeze(f) })
 }
 
-// FreezeWithJuniors returns what is in the office now. There may be half a million pairs of a role and a junior.
+// FreezeWithJuniors returns what is in the office now.
 func (s *State) FreezeWithJuniors() (*Frozen, error) {
-	f := &Frozen{At: s.clock.Now()}
-	return f, s.Look(func(v *View) {
-		v.freeze(f)
-		f.Juniors = v.juniors(f.Roles)
-	})
+	f, err := s.Freeze()
+	if err != nil {
+		return nil, err
+	}
+	f.Juniors = f.Graph.juniors(f.Roles)
+	return f, nil
 }
 
 func (v *View) freeze(f *Frozen) {

@@ -1,7 +1,7 @@
 // Package state has the office in this process, by librbac. It begins with the rows of the office's file, and does each command that
 // the program has accepted, or that the log of several machines has, in the one order. So it answers the questions of the office, and
 // lists what no function of the office lists. Beside it are kept the numbers of the order, the newest commands for those who watch, and
-// the times of sessions: nothing else is known twice.
+// the times of sessions.
 //
 // Which sets a command on users, sessions or inheritances would violate librbac says. What it concludes itself is who holds their
 // members (Conflicts), what a command on a set would violate, and what sets forbid a role, for explanations and reports (Graph).
@@ -23,8 +23,8 @@ import (
 
 // A State is what is in an office after the last command whose answer was read.
 type State struct {
-	// reading is held while rows are read or several questions are answered, and mutex while a single one is. Both are locked while the
-	// office changes: so a decision doesn't wait for a command that waits for one who reads.
+	// reading is held while rows are read, or questions answered that may take long, and mutex while a single short one is. Both are
+	// locked while the office changes: so a decision doesn't wait for a command that waits for one who reads.
 	reading, mutex sync.RWMutex
 	// office is nil while it isn't known what is in the office. hasLocks is false for one of version 1, which has other limits than librbac.
 	office             *rbacoffice.Office
@@ -116,7 +116,7 @@ func (s *State) HasLocks() bool {
 	return s.hasLocks
 }
 
-// Numbers returns how many commands have been accepted.
+// Numbers returns how far the order of commands has come.
 func (s *State) Numbers() Numbers {
 	s.mutex.RLock()
 	defer s.mutex.RUnlock()
@@ -141,7 +141,9 @@ func (s *State) Answered(calls []*api.Call, answers [][]byte) (numbers Numbers, 
 	before := s.numbers.All
 	for i, call := range calls {
 		if call.Function == api.DecideByUser {
+			s.mutex.Unlock() // Other decisions go on.
 			answers[i], _ = s.answer(call)
+			s.mutex.Lock()
 		}
 		if call.Kind != api.Command || !api.IsAccepted(answers[i]) {
 			continue

@@ -4,6 +4,7 @@ import (
 	"errors"
 	"fmt"
 	"sort"
+	"time"
 
 	"rbac/clients/go/rbacoffice"
 
@@ -28,10 +29,14 @@ func rowOf(names []string) (row Row) {
 	return row
 }
 
-// Ask returns the answers to some questions, which are all of one moment, and the numbers of that.
+// mostHeld is after how much time the office isn't held any longer for the next of several questions.
+const mostHeld = 20 * time.Millisecond
+
+// Ask returns the answers to some questions, which are all of one moment, and the numbers of that. If they take long it answers only the
+// first ones, so that commands wait for little more than one answer.
 func (s *State) Ask(calls ...*api.Call) (answers [][]byte, numbers Numbers, err error) {
 	held := &s.reading
-	if len(calls) == 1 {
+	if len(calls) == 1 && !calls[0].IsLong() && calls[0].Function != api.DecideByUser {
 		held = &s.mutex
 	}
 	held.RLock()
@@ -40,11 +45,13 @@ func (s *State) Ask(calls ...*api.Call) (answers [][]byte, numbers Numbers, err 
 		return nil, numbers, api.Unavailable
 	}
 	s.touch(calls...)
-	answers = make([][]byte, len(calls))
-	for i, call := range calls {
-		if answers[i], err = s.answer(call); err != nil {
+	answers = make([][]byte, 0, len(calls))
+	for start := time.Now(); len(answers) < len(calls) && (len(answers) == 0 || time.Since(start) < mostHeld); {
+		answer, err := s.answer(calls[len(answers)])
+		if err != nil {
 			return nil, numbers, err
 		}
+		answers = append(answers, answer)
 	}
 	return answers, s.numbers, nil
 }
@@ -213,10 +220,16 @@ func (v *View) of(table rbacoffice.Table, first string) (names []string) {
 	return names
 }
 
-// Rows returns the rows of all tables.
-func (v *View) Rows() []rbacoffice.Row {
-	rows, err := v.state.office.Rows()
-	v.fail(err)
+// Rows returns the rows of all tables but the closure pairs. These follow from the inheritances, and there may be half a million.
+func (v *View) Rows() (rows []rbacoffice.Row) {
+	for table := rbacoffice.Users; table <= rbacoffice.Locks; table++ {
+		if table != rbacoffice.ClosurePairs {
+			v.each(table, 0, func(row *rbacoffice.Row) bool {
+				rows = append(rows, *row)
+				return true
+			})
+		}
+	}
 	return rows
 }
 
@@ -243,7 +256,8 @@ func firsts(rows []Row) []string {
 	return names
 }
 
-// Clone returns an office of its own, which follows no program, with what is in this one. Forget frees it.
+// Clone returns an office of its own, which follows no program, with what is in this one. Forget frees it. At the limits that takes
+// seconds, but this office is only held while its rows are read.
 func (s *State) Clone() (*State, error) {
 	clone := New(Numbers{})
 	var rows []rbacoffice.Row
@@ -251,7 +265,7 @@ func (s *State) Clone() (*State, error) {
 	if err != nil {
 		return nil, err
 	}
-	if err := clone.Begin(rows, true); err != nil {
+	if err := clone.Begin(append(rows, rbacoffice.Closure(rows)...), true); err != nil {
 		return nil, fmt.Errorf("a clone of the office: %w", err)
 	}
 	return clone, nil

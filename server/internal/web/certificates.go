@@ -6,8 +6,14 @@ import (
 	"crypto/rsa"
 	"crypto/tls"
 	"crypto/x509"
+	"encoding/pem"
 	"errors"
 	"fmt"
+	"os"
+	"time"
+
+	"github.com/prometheus/client_golang/prometheus"
+	"github.com/prometheus/client_golang/prometheus/promauto"
 )
 
 const (
@@ -99,4 +105,53 @@ func verifyServer(config *tls.Config, known []string) {
 		}
 		return err
 	}
+}
+
+// Measure registers gauges with when the certificates in the files end, by the names of their options, which begin with a prefix. The files
+// are read when somebody asks: they may be others by then.
+func (t TLS) Measure(registry prometheus.Registerer, prefix string) {
+	for option, path := range map[string]string{prefix + "-cert": t.Cert, prefix + "-ca": t.CA} {
+		if path == "" {
+			continue
+		}
+		path := path
+		promauto.With(registry).NewGaugeFunc(prometheus.GaugeOpts{
+			Name: "rbac_node_certificate_not_after_seconds", ConstLabels: prometheus.Labels{"option": option},
+			Help: "When the first of the certificates in the file of an option ends, in seconds of Unix, or 0 if it can't be read.",
+		}, func() float64 {
+			end, err := firstEnd(path)
+			if err != nil {
+				return 0
+			}
+			return float64(end.Unix())
+		})
+	}
+}
+
+// firstEnd returns when the first of the certificates in a file ends.
+func firstEnd(path string) (end time.Time, err error) {
+	rest, err := os.ReadFile(path)
+	if err != nil {
+		return end, err
+	}
+	for {
+		var block *pem.Block
+		if block, rest = pem.Decode(rest); block == nil {
+			break
+		}
+		if block.Type != "CERTIFICATE" {
+			continue
+		}
+		one, err := x509.ParseCertificate(block.Bytes)
+		if err != nil {
+			return end, err
+		}
+		if end.IsZero() || one.NotAfter.Before(end) {
+			end = one.NotAfter
+		}
+	}
+	if end.IsZero() {
+		return end, fmt.Errorf("%s has no certificate", path)
+	}
+	return end, nil
 }
