@@ -37,6 +37,15 @@ printf '[Service]\nWatchdogSec=2s\n' > /etc/systemd/system/rbac-node.service.d/w
 systemctl daemon-reload; systemctl restart rbac-node; ready; hung=$(process); kill -STOP "$hung"
 for turn in $(seq 200); do [ "$(process)" = "$hung" ] || break; sleep 0.1; done
 sleep 0.5; ready; ask addUser; of_node NRestarts
+of_node MemoryMax
+install -m 640 -g rbac deploy/callers.jsonl /etc/rbac-node.callers
+socket=/var/lib/rbac-node/socket
+sed -i "s|--listen $ME:8080|--listen unix:$socket --callers /etc/rbac-node.callers --etcd-open|" /etc/default/rbac-node
+own() { curl -s -o /dev/null -w '%{http_code}\n' --unix-socket "$socket" -d '{"user":"ann"}' http://localhost/v1/assignedRoles; }
+own_is() { for turn in $(seq 300); do [ "$(own)" != "$1" ] || break; sleep 0.1; done; own; }
+systemctl restart rbac-node; own_is 200
+echo '{"fn":"fly"}' >> /etc/rbac-node.callers; systemctl reload rbac-node 2> /dev/null || echo 'not reloaded'; own_is 200
+sed -i '/fly/d; /unix:0/d' /etc/rbac-node.callers; systemctl reload rbac-node; own_is 403
 systemctl stop rbac-node; of_node Result; of_node ExecMainStatus
 systemctl stop etcd; systemctl start rbac-node; systemctl stop rbac-node; of_node Result
 """
@@ -51,6 +60,11 @@ SAID = f"""{{"ok":true}}
 NRestarts=1
 {EXISTS}
 NRestarts=1
+MemoryMax=3221225472
+200
+not reloaded
+200
+403
 Result=success
 ExecMainStatus=0
 Result=success
@@ -60,7 +74,7 @@ Result=success
 @pytest.mark.timeout(2 * BOOTED_SECONDS)
 @pytest.mark.needs("root", "boots", "systemd-nspawn", "curl", "units of etcd")
 def check_unit(bench):
-    """The commands of the page make a node that systemd runs: it is started again, and ends with status 0."""
+    """The commands of the page make a node that systemd runs: it is started again, reads its callers again, and ends with status 0."""
     installing, starting = markdown.blocks(markdown.page("howto/cluster.md"), "text")
     built = next(number for number, line in enumerate(installing) if line.startswith("bin/node --build"))
     own_way = " ".join(installing[:built]).replace("\\", "").split()

@@ -180,12 +180,13 @@ def shared(cluster, i, made=False):
 
 
 def evens(cluster):
-    """Adds commands, and returns whether the newest snapshots of all nodes then are of one place, and registered."""
+    """Adds commands, and returns whether the newest snapshots of all nodes then are of the last place, and registered."""
+    before = cluster.status(0).get("revision", 0)
     add_users(cluster, f"w{time.monotonic_ns()}-", EVERY)
     deadline = time.monotonic() + 10
     while time.monotonic() < deadline:
         newest = {max(revisions(cluster, i), default=0) for i in range(3)}
-        if len(newest) == 1 and newest <= shared(cluster, 2):
+        if len(newest) == 1 and min(newest) > before and newest <= shared(cluster, 2):
             return True
         time.sleep(0.1)
     return False

@@ -13,7 +13,7 @@ from .faults import OFTEN
 from .keeping import EVERY, add_users, evens, floor, log_of, make_wrong, registered, tamper_from
 from .machines import PREFIX, Cluster, Process
 from .networks import MACHINES
-from .records import MISSING, tool
+from .records import tool
 from .rights import token
 from .rows import snapshots_of
 from .running import build
@@ -167,7 +167,7 @@ def check_no_majority(bench):
         bench.same("nobody is outvoted", [why for why in whys if why is None or "empty folder" in why], [])
         found = {i: tool(cluster.node, "verify", "--data", cluster.data(f"node{i}")) for i in range(MACHINES)}
         bench.same("verify of node 0", found[0][::2], (0, ""))
-        bench.same("verify of node 1", found[1][::2], (2, MISSING))
+        bench.same("verify of node 1, which has fetched the record too", found[1][::2], (0, ""))
         bench.judge("verify of node 2", [] if "the newest snapshot is not what the record gives" in found[2][2] else [str(found[2])])
         cluster.lose_node(1)
         outvotes(cluster, 2)

@@ -72,6 +72,8 @@ def runs(lines):
 # when it starts; systemd starts it again, and a shell doesn't.
 MEMBER_READY = "until curl -f http://$ME:2379/health > /dev/null; do sleep 0.1; done"
 READY = "until curl -f http://$ME:8080/healthz > /dev/null; do sleep 0.1; done"
+# After a restore more commands than there are places of snapshots whose rows nodes compare.
+MORE = """for i in $(seq 50); do curl -f http://$ME:8080/v1/addPermObj -d "{\\"object\\":\\"$1 $i\\"}" > /dev/null || echo "$i"; done"""
 
 
 def check_commands(bench):
@@ -111,6 +113,8 @@ def check_commands(bench):
                     start(member)
                 if "rbac-node adopt" in command or "del rbac/first" in command:
                     start(node)
+                    bench.same("more commands", machines["c"].type(f"set -- {command.split()[0]}; {MORE}"), "")
+                    everywhere(READY)
     finally:
         for machine in machines.values():
             machine.close()

@@ -358,20 +358,15 @@ def judge_backup(bench, cluster, asker):
 
 
 def judge_joined(bench, cluster, asker):
-    """A node without its folder has the entries since the snapshot that it has fetched, and says which are missing."""
+    """A node without its folder has the record of another node, from its first entry on."""
     cluster.until(lambda: asker.ask(EVERY) or cluster.read_log()[1], "the log is trimmed")
     cluster.lose_node(1)
     cluster.until(cluster.ready, "the node is ready")
     asker.ask(5)
     cluster.until(lambda: same_head(cluster), "all have the same head")
     data = cluster.data("node1")
-    found, whole = entries_of(data), entries_of(cluster.data("node0"))
-    first = whole[-len(found)].n
-    bench.same("what it has", (found, first > 1), (whole[-len(found) :], True))
-    says = f"entries 1 to {first - 1} are not here: this part begins with a snapshot\n"
-    bench.same("show says it", tool(cluster.node, "show", "--data", data)[::2], (0, says))
-    status, out, said = tool(cluster.node, "verify", "--data", data)
-    bench.same("verify says it", (status, out.startswith(says), said), (2, True, MISSING))
+    bench.same("what it has", entries_of(data), entries_of(cluster.data("node0")))
+    bench.same("verify", tool(cluster.node, "verify", "--data", data)[::2], (0, ""))
 
 
 # What is done to the record of a node, whether the links are computed anew, and what the node says then.

@@ -3,6 +3,7 @@
 import json
 import os
 import pickle
+import random
 import shutil
 import signal
 import subprocess
@@ -15,7 +16,7 @@ import pytest
 
 from program.bench import PROGRAM, Bench
 
-from . import wentback
+from . import disasters, wentback
 from .faults import OFTEN, Faults
 from .histories import COMMAND, LINEARIZABLE, Client
 from .judged import CLIENTS, EVERY, Trial
@@ -217,6 +218,13 @@ class AllFaults(Faults):
                 self.did("leaders of etcd killed")
                 return
 
+    def replace_all(self, _):
+        """All nodes are replaced in turn, as all machines of a cluster are in some years."""
+        for i in self.random.sample(range(MACHINES), MACHINES):
+            self.lose_node(i)
+            self.cluster.heal()
+        self.did("all nodes replaced in turn")
+
     # The record.
 
     def cut_record(self, i):
@@ -248,6 +256,7 @@ RARE = [
     Faults.cut, Faults.lose_node, Faults.lose_member, AllFaults.mute, AllFaults.slow, AllFaults.lossy, AllFaults.flap,
     AllFaults.fill_node, AllFaults.fill_nodes, AllFaults.fill_member, AllFaults.old_folder, AllFaults.old_snapshots, AllFaults.remove_node,
     AllFaults.compact, AllFaults.kill_leader, AllFaults.cut_record, AllFaults.back_up, AllFaults.old_folder_again,
+    AllFaults.replace_all,
 ]  # fmt: skip
 
 
@@ -305,15 +314,25 @@ def keep(cluster, trial):
         pickle.dump((trial.recorder.entries, [client.history for client in trial.clients]), file)
 
 
-def went_back(folder):
-    """etcd is restored under nodes that run: what is wrong with what they do."""
+def tried(folder, check):
+    """What is wrong with what nodes do by themselves in a folder of their own."""
+    folder.mkdir()
     inner = Bench(folder)
     inner.shared, inner.is_long, inner.is_gate = folder, False, False
     try:
-        wentback.check_went_back(inner, PATIENCE)
+        check(inner)
     except Exception:
         inner.faults.append(traceback.format_exc())
     return inner.faults
+
+
+# What operators do after a disaster, one of it in each round, by how it is counted.
+DISASTERS = {
+    "etcd restored with one machine away": lambda bench, _: disasters.check_away(bench),
+    "backups of etcd and a node restored": lambda bench, drawn: disasters.judge_restored(bench, drawn.randrange(11, 300), disasters.EVERY),
+    "backups of nodes adopted": lambda bench, drawn: disasters.check_adopted(bench, drawn.random() < 0.7),
+    "all machines replaced": lambda bench, _: disasters.check_replaced(bench),
+}
 
 
 @pytest.mark.long
@@ -330,10 +349,12 @@ def check_soak(bench, seed):
             done, counts, found = soaked(bench, folder, node, seed + rounds)
         except Exception:
             found = [traceback.format_exc()]
-        back = folder / "back"
-        back.mkdir()
-        found += went_back(back)
+        found += tried(folder / "back", lambda inner: wentback.check_went_back(inner, PATIENCE))
         done["etcd restored under nodes that run"] += 1
+        drawn = random.Random(seed + rounds)
+        for what, check in DISASTERS.items():
+            found += tried(folder / str(len(done)), lambda inner, check=check: check(inner, drawn))
+            done[what] += 1
         kinds, sums, wrong, rounds = kinds + done, sums + Counter(counts), wrong + found, rounds + 1
         result = {"round": rounds, "seed": seed + rounds - 1, "seconds": round(time.monotonic() - began), "faults": done, **counts, "wrong": found[:20]}
         if RESULTS:
