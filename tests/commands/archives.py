@@ -325,6 +325,16 @@ def check_left_out(bench):
         said.splitlines(),
         [*lines, "left out: the address of the project in the clients, since --url doesn't name it"],
     )
+    bench.write("without", b'#!/bin/sh\nexec /usr/bin/python3 -S "$@"\n')
+    os.chmod(bench.path("without"), 0o755)
+    lacking = {**os.environ, "PATH": str(bench.folder / "commands"), "PYTHON": bench.path("without")}
+    (bench.folder / "commands").mkdir()
+    (bench.folder / "commands/cc").symlink_to(shutil.which("cc"))
+    line = "left out: the client for Python, since there is no setuptools, wheel or Python.h: bin/setup installs it"
+    said = run(bench, "a Python without setuptools", [PYTHON, ROOT / "bin/archives", "--url", URL, bench.folder / "third"], env=lacking)
+    bench.same("it is left out", (said.splitlines()[0], os.listdir(bench.folder / "third")), (line, [f"rbac-client-{VERSION}.tgz"]))
+    said = run(bench, "only what is missing", [PYTHON, ROOT / "bin/archives", "--missing", "--url", URL], env=lacking)
+    bench.same("it is said", said.splitlines()[0], line)
     for words in (["--go-path", "rbac"], ["--url", "rbac.example"], ["--java-group", "a/b"]):
         run(bench, f"{words} is refused", [ROOT / "bin/archives", *words, bench.folder / "other"], status=1)
 

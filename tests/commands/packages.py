@@ -28,7 +28,6 @@ MOVED = {
     "usr/share/fish/vendor_completions.d/rbac.fish": "deploy/completions/rbac.fish",
     "usr/lib/sysusers.d/rbac.conf": "deploy/debian/rbac.sysusers",
     "usr/lib/tmpfiles.d/rbac.conf": "deploy/debian/rbac.tmpfiles",
-    "etc/rbac/default.conf": "deploy/default.conf",
     "lib/systemd/system/rbac-serve@.service": "deploy/rbac-serve@.service",
     "lib/systemd/system/rbac-init@.service": "deploy/rbac-init@.service",
     "lib/systemd/system/rbac-backup@.service": "deploy/rbac-backup@.service",
@@ -226,13 +225,12 @@ def check_files(bench, packages):
 
 
 def check_sums(bench, packages):
-    """The sums of the package are those of its files, except the settings, which may be changed."""
+    """The sums of the package are those of its files. The settings are none of them, so no upgrade replaces them."""
     run(["dpkg-deb", "-e", packages.deb("out"), packages.folder / "control"])
     listed = (packages.folder / "control/md5sums").read_text(encoding="utf-8")
     files = sorted(path for path in packages.root.rglob("*") if path.is_file() and not path.is_symlink())
-    files = [path for path in files if path != packages.root / "etc/rbac/default.conf"]
-    kept = (packages.folder / "control/conffiles").read_text(encoding="utf-8")
-    bench.same("the settings, which an upgrade keeps", kept, "/etc/rbac/default.conf\n")
+    kept = [(packages.folder / "control/conffiles").exists(), (packages.root / "etc").exists()]
+    bench.same("settings of the package", kept, [False, False])
     wanted = [f"{hashlib.md5(path.read_bytes()).hexdigest()}  {path.relative_to(packages.root)}" for path in files]
     bench.same("the sums", sorted(listed.splitlines()), sorted(wanted))
 

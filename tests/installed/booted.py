@@ -89,6 +89,7 @@ stat -c '%n %U:%G %a' /etc/rbac /var/lib/rbac/office /var/lib/rbac/office/office
 systemctl is-enabled rbac-node@office rbac-backup@office.timer
 systemctl is-active rbac-backup@office.timer
 of rbac-backup@office.timer NextElapseUSecRealtime | grep -c .
+of rbac-node@office MemoryMax
 """
 
 # The front of the second office sees neither the first one nor what others have in memory.
@@ -287,6 +288,7 @@ enabled
 enabled
 active
 1
+3221225472
 """,
     "files": """2
 /usr/share/man/man1/rbac.1.gz
