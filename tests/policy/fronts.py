@@ -3,6 +3,7 @@
 import json
 import random
 import threading
+from unittest.mock import patch
 
 import pytest
 
@@ -113,6 +114,10 @@ def check_amid_others(bench):
         ends(bench, "plan", policy(bench, "plan", "many.toml", *at), 0, "No difference.\n")
 
 
+# What is said if a repeated command line would be refused again.
+UNTIL_ALLOWED = "The same command line is refused again, until the front allows what it refuses."
+
+
 def check_rights(bench):
     """A caller without the right to lists reads nothing; one without the right to a command changes nothing, and is told so."""
     bench.write("good.toml", GOOD.encode())
@@ -132,9 +137,23 @@ def check_rights(bench):
         desk = [*at, "--token-file", "secret.token"]
         ends(bench, "the desk plans", policy(bench, "plan", "good.toml", *desk), 1)
         done = policy(bench, "apply", "good.toml", *desk, "--yes")
-        ends(bench, "the desk applies", done, 1, err=["403 63 Forbidden", "0 changes are done"])
+        ends(bench, "the desk applies", done, 1, err=["403 63 Forbidden", "0 changes are done", UNTIL_ALLOWED])
         admin = [*at, "--token-file", "another.token"]
         ends(bench, "the administrator applies", policy(bench, "apply", "good.toml", *admin, "--yes"), 0, "Done: 12 changes.\n")
+        bench.write(
+            "people.csv",
+            "\n".join(["user,roles", "ann,teller", *(f"p{number}," for number in range(200)), "p200,teller"]).encode(),
+        )
+        told = people(bench, "apply", "people.csv", *desk, "--yes")
+        ends(
+            bench,
+            "the desk applies people",
+            told,
+            1,
+            "Done: 200 changes. Refused: 0.",
+            ["403 63 Forbidden", "2 changes are left", UNTIL_ALLOWED],
+        )
+        bench.same("it would help to repeat it", b"does the rest" in told.err, False)
         bench.same("no token is shown", b"another" in done.out + done.err or b"secret\n" in done.out + done.err, False)
 
 
@@ -153,9 +172,9 @@ def check_people(bench):
         done = people(bench, "apply", "people.csv", *at, "--yes")
         refused = [
             "people.csv:2: refused: assign the user ann to the role auditor: 24 StaticSeparation set audit",
-            "people.csv:4: refused: assign the user cat to the role nobody: 4 NoRole",
+            "people.csv:4: refused: assign the user cat to the role nobody: 4 NoRole (1 more of this line not done)",
         ]
-        ends(bench, "apply", done, 1, "Done: 503 changes. Refused: 2.\n", refused)
+        ends(bench, "apply", done, 1, "Done: 502 changes. Refused: 3.\n", refused)
         said = done.err.decode().splitlines()  # It also says how far it is, if that takes long.
         bench.same("the lines of refusals", [line for line in said if not line.startswith("changes: ")], refused)
         pulled = policy(bench, "pull", "--users", *at).out.decode()
@@ -164,3 +183,27 @@ def check_people(bench):
         bench.write("people.csv", b"user,locked\nbob,yes\n")
         wanted = f"Changes: 1 lockUserAccount\n  lock the user bob\nSessions that end:\n  {digest('bob 1')} of bob\n"
         ends(bench, "the sessions that end", people(bench, "plan", "people.csv", *at), 1, wanted)
+
+
+def check_together(bench):
+    """What one person loses and gets is in one batch, with which the front does nothing of others between."""
+    from rbac_policy.front import Front as OverFront
+
+    with good_front(bench) as front:
+        at = ["--front", f"http://{HOST}:{front.port}", "--yes"]
+        names = [f"p{number:03}" for number in range(160)]
+        for roles in ("teller", "auditor"):
+            sent = []
+
+            def noted(self, commands, do=OverFront._batch):
+                sent.append([command["user"] for command in commands])
+                return do(self, commands)
+
+            bench.write(
+                "people.csv", "\n".join(["user,roles", *(f"{name},{roles}" for name in names), f"new {roles},"]).encode()
+            )
+            with patch.object(OverFront, "_batch", noted):
+                ends(bench, roles, people(bench, "apply", "people.csv", *at), 0, "Done: 321 changes. Refused: 0.\n")
+            bench.same(f"{roles}: several batches", len(sent) > 3, True)
+            split = [name for name in names if sum(name in batch for batch in sent) > 1]
+            bench.same(f"{roles}: people in two batches", split, [])

@@ -44,7 +44,7 @@ def watched(path, start, judge):
     class Watched(InFile):
         """The model follows each command."""
 
-        def apply(self, commands, judging):
+        def apply(self, commands, judging, starts=()):
             state = start
 
             def both(command, refusal):
@@ -53,7 +53,7 @@ def watched(path, start, judge):
                 judge(command, state, code, refusal)
                 return judging(command, refusal)
 
-            super().apply(commands, both)
+            super().apply(commands, both, starts)
 
     return Watched(path)
 

@@ -5,6 +5,7 @@ import random
 import re
 import shlex
 import subprocess
+from pathlib import Path
 
 import pytest
 
@@ -15,6 +16,9 @@ from . import drawing
 from .commands import BIN, BUFFERED, PYTHON, ends, people, policy
 from .pairs import make_office
 from .plans import good_office
+
+# How many assignments an office may have, and the kind of their rows.
+LIMITS, ASSIGNMENT = {"assignment": 20_000}, 2
 
 # Files that say the same.
 SAME = {
@@ -166,6 +170,155 @@ def check_sessions(bench):
         "people.csv:2: refused: assign the user ann to the role nobody: 4 NoRole",
     )
     bench.same("no session ends", "Sessions that end" in done.out.decode(), False)
+
+
+def full_office(bench):
+    """An office with as many assignments as it may have, of people with three or four roles each, and the lines of a file that says so."""
+    roles = ["employee", *(f"dept {number:02}" for number in range(16)), "badge", "lead"]
+    lines, rows, count = [{"fn": "addRole", "role": role} for role in roles], [], 0
+    for number in range(1, 6_071):
+        own = ["employee", f"dept {number % 16:02}", "badge", *["lead"] * (number > 6_070 - 1_790)]
+        count += len(own)
+        lines += [
+            {"fn": "addUser", "user": f"u{number:06}"},
+            *({"fn": "assignUser", "user": f"u{number:06}", "role": role} for role in own),
+        ]
+        rows.append((f"u{number:06}", own))
+    bench.same("the assignments", count, LIMITS["assignment"])
+    bench.ends(["init", "full"], makes=["full"])
+    answers = bench.run(["replay", "full"], "".join(json.dumps(line) + "\n" for line in lines).encode()).out
+    bench.same("answers other than ok", set(answers.split()) - {b'{"ok":true}'}, set())
+    return rows
+
+
+def roles_of(bench, *users):
+    """The roles of some users of the full office."""
+    pairs = [(user, role) for kind, user, role in read_rows(bench.path("full"))["pair_row"] if kind == ASSIGNMENT]
+    return len(pairs), {user: sorted(role for other, role in pairs if other == user) for user in users}
+
+
+def check_at_the_limit(bench):
+    """At the limit of assignments nobody loses a role to make room for somebody else: who exchanges roles does so, who would have more than
+    before stays as before, and so does who is new. What becomes free by those who lose a role is given to the next in the file.
+    """
+    rows = full_office(bench)
+    people_of = {user: roles for user, roles in rows} | {
+        "u000005": ["employee", "badge", "dept 15"], "u000006": ["employee", "badge", "dept 15", "lead"],
+        "u000007": ["employee", "badge", "dept 07", "lead"],
+    }  # fmt: skip
+    first = [("u006071", ["employee"]), ("u006072", ["employee", "badge"])]
+    bench.write("two.csv", csv_of([*first, *people_of.items()]))
+    words = ["two.csv", "--file", "full"]
+    said = "two.csv: an office has room for 20,000 assignments: 4 people of the file have none (lines 2, 3, 9, 10), and stay as they are\n"
+    for name, done in (("plan", people(bench, "plan", *words)), ("apply", people(bench, "apply", *words, "--yes"))):
+        bench.same(f"{name}: what can't be done", (done.status, said_by(done)), (1, said))
+    bench.same("what is done", done.out.decode().splitlines()[-1], "Done: 2 changes. Refused: 9.")
+    before = {user: sorted(roles) for user, roles in rows}
+    wanted = {
+        "u000005": ["badge", "dept 15", "employee"],
+        "u000006": before["u000006"],
+        "u000007": before["u000007"],
+        "u006071": [],
+        "u006072": [],
+    }
+    bench.same("the roles", roles_of(bench, *wanted), (LIMITS["assignment"], wanted))
+    people_of |= {"u000009": ["employee", "badge"], "u000010": ["badge"]}
+    bench.write("two.csv", csv_of([*first, *people_of.items()]))
+    done = people(bench, "apply", *words, "--yes")
+    wanted |= {
+        "u000006": ["badge", "dept 06", "employee"],
+        "u000009": ["badge", "employee"],
+        "u000010": ["badge"],
+        "u006071": ["employee"],
+        "u006072": ["badge", "employee"],
+    }
+    bench.same("with room for three", roles_of(bench, *wanted), (LIMITS["assignment"], wanted))
+    bench.same("what is left", (done.status, "2 people of the file have none (lines 9, 10)" in done.err.decode()), (1, True))
+
+
+def said_by(done):
+    """What a command has printed on standard error, but for how far it was."""
+    return "".join(
+        line for line in done.err.decode().splitlines(True) if not re.match(r"(changes|answers of the program): ", line)
+    )
+
+
+def csv_of(rows):
+    """A file with these users and their roles."""
+    return "\n".join(["user,roles", *(f"{user},{';'.join(roles)}" for user, roles in rows)]).encode()
+
+
+def check_too_many(bench):
+    """A list that fits in no office is refused in one line, and nothing is done; one that fits but for a few isn't."""
+    good_office(bench)
+    before = Path(bench.path("office")).read_bytes()
+    one = [(f"user {number}", ["employee"]) for number in range(30_000)]
+    for what, rows, said in (
+        ("users", one, "30,000 people with 30,000 assignments are in the file"),
+        (
+            "assignments",
+            [(user, ["employee", "teller", "auditor"]) for user, _ in one[:8_000]],
+            "8,000 people with 24,000 assignments are in the file",
+        ),
+    ):
+        bench.write("people.csv", csv_of(rows))
+        for name in ("plan", "apply"):
+            done = people(bench, name, "people.csv", "--file", "office", *["--yes"] * (name == "apply"))
+            line = f"rbac-people: people.csv: {said}, and an office has room for 20,000 users and 20,000 assignments: nothing was done\n"
+            bench.same(f"{what}: {name}", (done.status, done.out.decode(), said_by(done)), (2, "", line))
+    bench.same("the office", Path(bench.path("office")).read_bytes() == before, True)
+
+
+def check_together(bench):
+    """What one person loses and gets is done together: if a part is refused, the others of the line stay away too, and the person keeps the
+    roles of before. A separation of duty set is no hindrance to an exchange. Locks, and what only takes something away, are done anyway.
+    """
+    good_office(bench)
+    bench.write("people.csv", b"user,roles\nann,teller\nbob,teller\ncat,teller\ndan,teller;employee\neve,teller\n")
+    ends(bench, "all", people(bench, "apply", "people.csv", "--file", "office", "--yes"), 0)
+    bench.run(["replay", "office"], create("bob", "b1", "teller") + create("ann", "a1", "teller"))
+    lines = [
+        "user,roles,locked",
+        "ann,auditor,",
+        "bob,auditor;nobody,",
+        "cat,auditor;teller,yes",
+        "dan,teller,",
+        "eve,nobody,",
+        "new,teller;nobody,",
+    ]
+    bench.write("people.csv", "\n".join(lines).encode())
+    refusals = [
+        "people.csv:3: refused: assign the user bob to the role nobody: 4 NoRole (2 more of this line not done)",
+        "people.csv:4: refused: assign the user cat to the role auditor: 24 StaticSeparation set audit",
+        "people.csv:6: refused: assign the user eve to the role nobody: 4 NoRole (1 more of this line not done)",
+        "people.csv:7: refused: assign the user new to the role nobody: 4 NoRole (2 more of this line not done)",
+    ]
+    plan = people(bench, "plan", "people.csv", "--file", "office")
+    bench.same("the plan", sorted(plan.err.decode().splitlines()), refusals)
+    shown = plan.out.decode().partition("Sessions that end:\n")[2].splitlines()
+    bench.same("the sessions that end", shown, [f"  {digest('a1')} of ann"])
+    done = people(bench, "apply", "people.csv", "--file", "office", "--yes")
+    ends(bench, "apply", done, 1, "Done: 4 changes. Refused: 9.\n", refusals)
+    pulled = policy(bench, "pull", "--users", "--file", "office").out.decode().partition("[users]\n")[2].splitlines()
+    wanted = [
+        'ann = ["auditor"]',
+        'bob = ["teller"]',
+        'cat = { roles = ["teller"], locked = true }',
+        'dan = ["teller"]',
+        'eve = ["teller"]',
+    ]
+    bench.same("the users", pulled, wanted)
+    bench.same("the sessions that are left", left_sessions(bench, "office"), {"b1"})
+
+
+def check_many_refusals(bench):
+    """Forty refusals are printed, and how many there are besides; all of them with --all."""
+    good_office(bench)
+    bench.write("people.csv", csv_of([(f"p{number}", ["nobody"]) for number in range(100)]))
+    for words, count in (([], 41), (["--all"], 100)):
+        lines = said_by(people(bench, "plan", "people.csv", "--file", "office", *words)).splitlines()
+        bench.same(f"{words}: the lines", (len(lines), lines[0].startswith("people.csv:2: refused: ")), (count, True))
+        bench.same(f"{words}: the last one", lines[-1] == "and 60 more lines are refused (--all shows them)", not words)
 
 
 def check_closed_output(bench):
