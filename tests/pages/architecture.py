@@ -9,7 +9,7 @@ ROOT = sources.ROOT
 PAGE = markdown.page("explanation/architecture.md")
 
 # The most bytes of all pages with the first one, and of a page that is read as a whole. These are longer: each is a reference.
-MOST_BYTES_OF_ALL, MOST_BYTES = 300 * 1024, 20 * 1024
+MOST_BYTES_OF_ALL, MOST_BYTES = 320 * 1024, 20 * 1024
 LONGER = {"api.md", "cluster.md"}
 
 # What a build leaves.

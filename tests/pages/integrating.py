@@ -1,6 +1,7 @@
 """The page of integrating: its commands print what it shows, and its tables and numbers are those of the sources."""
 
 import json
+import os
 import re
 
 from . import markdown, openapi, sources, verdicts
@@ -19,6 +20,12 @@ OF_PROXIES = {502, 504}
 def check_length(bench):
     """The page is short."""
     bench.same("the page is short", (len(PAGE.splitlines()) <= MOST_LINES, len(PAGE.encode()) <= MOST_BYTES), (True, True))
+
+
+def check_path(bench):
+    """The folder that a reader adds to PATH has `rbac`, and no command that hides one of the reader's own, such as node."""
+    (folder,) = re.findall(r"after `export PATH=\$PATH:\$PWD/(\w+)`", PAGE)
+    bench.same("the programs", [path.name for path in (sources.ROOT / folder).iterdir() if os.access(path, os.X_OK)], ["rbac"])
 
 
 def check_commands(bench):

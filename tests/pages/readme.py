@@ -11,7 +11,7 @@ from .shell import Shell
 ROOT = sources.ROOT
 PAGE = (ROOT / "README.md").read_text(encoding="utf-8")
 CONTRACTS, ARCHITECTURE = markdown.page("reference/contracts.md"), markdown.page("explanation/architecture.md")
-BENCHMARKS = (ROOT / "bench/README.md").read_text(encoding="utf-8")
+BENCHMARKS, OTHERS = ((ROOT / f"bench/{name}.md").read_text(encoding="utf-8") for name in ("README", "others"))
 
 # The most bytes and lines that the page may have, and the most lines of its first text.
 MOST_BYTES, MOST_LINES = 11_500, 120
@@ -34,13 +34,6 @@ LINKED += [f"docs/howto/{name}.md" for name in ("audit", "integrate", "install",
 
 # The folders of the repository that pages name.
 FOLDERS = "bench bin clients crates deploy docs examples tests tools".split()
-
-# What makes a decision without its request, as the benchmarks name it.
-DECIDING = ["check_access", "plain Rust, the same tests", "SQLite, a stored closure"]
-DECIDING += ["PostgreSQL, pg_has_role", "PostgreSQL, a stored closure", "Casbin, Enforce", "Casbin, cached, asked again"]
-
-# The microseconds of an addUser, on tmpfs and on a disk, as the benchmarks state them.
-SYNCED = r"measured (\d+) to (\d+) microseconds for an addUser on tmpfs, and (\d+) to ([\d,]+) on ext4"
 
 # Crates that prove nothing by themselves.
 UNPROVED = {"rbac", "refused_tests"}
@@ -120,27 +113,36 @@ def check_limits(bench):
     bench.same("one role for each user", most["assignment"], most["user"])
 
 
-def cell(section, row, column, table=0):
-    """The number in a cell of a table of bench/README.md: by the text of its first cell, and the place of its column."""
-    rows = markdown.tables(markdown.section(BENCHMARKS, f"## {section}"))[table]
-    (found,) = [cells for cells in rows if cells[0].replace("`", "") == row]
-    return float(found[column].replace(",", ""))
+def cell(section, row, column, page=OTHERS):
+    """The number in a cell of a table: by the text of its first cell, and the place of its column, which may have others behind it."""
+    tables = markdown.tables(markdown.section(page, f"## {section}"))
+    (found,) = [cells for rows in tables for cells in rows if cells[0].replace("`", "") == row]
+    return float(re.match(r"[\d.,]*", found[column])[0].replace(",", ""))
+
+
+def range_of(section, row, column):
+    """The two numbers of a cell that has a range."""
+    (found,) = [cells for rows in markdown.tables(markdown.section(OTHERS, f"## {section}")) for cells in rows if cells[0] == row]
+    return [float(number) for number in found[column].split(" to ")]
 
 
 def figures():
     """The numbers of each row of the table of speed, as the benchmarks have them, in the units of the row."""
-    synced = re.search(SYNCED, markdown.in_one_line(BENCHMARKS)).groups()
-    front = {row[0].replace("`", ""): row for row in markdown.tables(markdown.section(BENCHMARKS, "## front"))[0]}
-    yield [float(front[name][3].split()[0].replace(",", "")) for name in ("front, callers checked", "rbac serve")]
-    yield [cell("http", "checkAccess, allowed", 2), cell("http", "checkAccess, allowed", 3)]
-    yield [cell("access", name, 1) / 1000 for name in DECIDING]
-    yield [float(number.replace(",", "")) for number in synced]
-    yield [cell("tables", "addInheritance, joining them", column) / 1000 for column in (3, 5)]
-    yield [cell("tables", *at) / 1000 for at in (("connection", 3), ("open", 3), ("open", 5))]
+    in_process = ["librbac from C", "two hash maps of bits in C++", "the same in Rust", "SQLite from C, prepared, on a stored closure"]
+    casbin = [cell("access", name, 1, BENCHMARKS) / 1000 for name in ("Casbin, Enforce", "Casbin, cached, asked again")]
+    yield [*(cell("Decisions", name, 2) / 1000 for name in in_process), *casbin]
+    front = ["front without callers, checkAccess", "TLS: front with a token, checkAccess", "front, a batch of 100, each question"]
+    yield [cell("Decisions", name, 2) for name in (*front, "Go's server, a constant", "TLS: Go, a token in a map", "nginx, a file", "TLS: nginx")]
+    commands = [cell("Commands and starts", name, 1) for name in ("front with a record", "front without a record", "C SQLite, the same row and sync")]
+    yield [*commands, *range_of("Commands and starts", "PostgreSQL 15", 1)]
+    (chains,) = re.findall(r"^\| joining two chains of 512 roles; parting them \| ([\d.]+); ([\d.]+) \|", OTHERS, re.M)
+    yield [float(chains[1]), float(chains[0]), cell("Commands and starts", "the same rows by C SQLite", 1)]
+    starts = ["front without a record, until it is ready", "front with a record, until it is ready", "rbac serve, until it listens"]
+    yield [*(cell("Commands and starts", name, 2) for name in starts), *range_of("Commands and starts", "C SQLite: reading all rows, and its integrity check", 1)]
 
 
 def check_speed(bench):
-    """The numbers of the table of speed are those of bench/README.md, rounded to two digits."""
+    """The numbers of the table of speed are those of bench/others.md and bench/README.md, rounded to two digits."""
     (table,) = markdown.tables(markdown.section(PAGE, "## Speed"))
     for row, wanted in zip(table, figures(), strict=True):
         said = [float(number.replace(",", "")) for number in re.findall(r"\d[\d,]*(?:\.\d+)?", " ".join(row[2:]))]
