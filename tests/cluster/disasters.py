@@ -89,7 +89,7 @@ def check_away(bench):
         of_files(cluster, "save", bench.path("backup"))
         do(cluster, "assignUser", user="kept1", role="clerk")
         taken = cluster.status(0)["revision"]
-        while max(snapshots_of(cluster, 2), default=0) < taken:
+        while any(max(snapshots_of(cluster, i), default=0) < taken for i in (1, 2)):
             add_users(cluster, f"lost{cluster.status(0)['revision']}-", EVERY)  # A node that is busy with a snapshot takes no other one.
         end_nodes(cluster)
         shutil.copytree(cluster.data("node1"), bench.path("kept-by-b"))
@@ -125,6 +125,36 @@ def check_away(bench):
         shutil.copytree(bench.path("kept-by-b"), cluster.data("node1"))
         cluster.nodes[1].start()
         cluster.until(lambda: OTHER_LOG in log_of(cluster, 1), "a node with a folder of another time says why it ends")
+
+
+def check_record_ahead(bench):
+    """A machine that had made no snapshot after etcd's backup recovers, and ends once its record has what the log of now doesn't."""
+    with Cluster(bench.folder, build(bench.shared), every=EVERY, timeout="2s") as cluster:
+        do(cluster, "addRole", role="clerk")
+        add_users(cluster, "kept", 21)
+        cluster.until(lambda: snapshots_of(cluster, 1), "a snapshot")
+        of_files(cluster, "save", bench.path("backup"))
+        newest = cluster.status(0)["revision"]
+        do(cluster, "assignUser", user="kept1", role="clerk")
+        cluster.until(lambda: cluster.status(1).get("revision", 0) > newest, "the node has the command")
+        end_nodes(cluster)
+        for revision, (_, path) in snapshots_of(cluster, 1).items():
+            if revision > newest:
+                path.unlink()
+        for i in (0, 2):
+            shutil.rmtree(cluster.data(f"node{i}"))
+        restore_etcd(cluster, bench.path("backup"))
+        for node in cluster.nodes:
+            node.start()
+        cluster.until(cluster.ready, "all nodes are ready")
+        for i in range(MACHINES):
+            bench.same(f"what was taken back, at node {i}", roles_of(cluster, "kept1", i), (200, b'{"ok":true,"value":[]}'))
+        add_users(cluster, "other", 1)
+        cluster.until(lambda: "is not what the log gives" in log_of(cluster, 1), "the node says why it ends")
+        cluster.nodes[1].stop()
+        shutil.rmtree(Path(cluster.data("node1"), "record"))
+        cluster.nodes[1].start()
+        judge_going_on(bench, cluster, "without that record")
 
 
 # After how many commands etcd is restored as the page says, while snapshots are ten commands apart. More than twenty places are left out.

@@ -329,6 +329,7 @@ def tried(folder, check):
 # What operators do after a disaster, one of it in each round, by how it is counted.
 DISASTERS = {
     "etcd restored with one machine away": lambda bench, _: disasters.check_away(bench),
+    "etcd restored under a record that is ahead": lambda bench, _: disasters.check_record_ahead(bench),
     "backups of etcd and a node restored": lambda bench, drawn: disasters.judge_restored(bench, drawn.randrange(11, 300), disasters.EVERY),
     "backups of nodes adopted": lambda bench, drawn: disasters.check_adopted(bench, drawn.random() < 0.7),
     "all machines replaced": lambda bench, _: disasters.check_replaced(bench),
