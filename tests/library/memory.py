@@ -1,4 +1,4 @@
-"""Each allocation fails in turn; what sanitizers and valgrind find."""
+"""Each allocation fails in turn; what sanitizers and valgrind find; sessions that ended leave nothing."""
 
 import subprocess
 
@@ -8,6 +8,11 @@ from .answers import random_script
 from .building import built, compile_c, run_language
 
 SANITIZED = ["-g", "-fsanitize=address,undefined"]
+
+# How many sessions come and go, first and then, and how many kilobytes more the process may use then. If each left a row, they
+# would be more than 10,000.
+SESSIONS = (20_000, 200_000)
+GROWTH = 2_048
 
 
 def check_failing(bench):
@@ -40,6 +45,17 @@ def check_threads(bench):
     program = compile_c("threads.c", "threads", "-g", "-fsanitize=thread", parts=["rbac.c", "heap.c"])
     done = subprocess.run([program], capture_output=True, text=True, check=False, timeout=300)
     bench.same("threads", (done.stdout, done.stderr, done.returncode), ("", "", 0))
+
+
+def check_ended_sessions(bench):
+    """An office in memory keeps nothing of a session that ended."""
+    program = compile_c("sessions.c", "sessions")
+    done = subprocess.run([program, *map(str, SESSIONS)], capture_output=True, text=True, check=False, timeout=600)
+    bench.same("sessions", (done.stderr, done.returncode), ("", 0))
+    kilobytes = [int(it) for it in done.stdout.split()]
+    bench.same("the counts", len(kilobytes), len(SESSIONS))
+    bench.same(f"the growth of {kilobytes} kB", kilobytes[-1] - kilobytes[0] <= GROWTH, True)
+    return {"sessions that come and go": SESSIONS[-1]}
 
 
 @pytest.mark.needs("valgrind")

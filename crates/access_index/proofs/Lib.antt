@@ -7,4 +7,5 @@ pub mod IndexLaws
 pub mod LevelLaws
 pub mod PlanLaws
 pub mod RowLaws
+pub mod SeedLaws
 pub mod UserLaws

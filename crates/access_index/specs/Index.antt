@@ -1,18 +1,19 @@
 -- What an index for decisions has to do with the rows of a state.
-use Rattle.std.specs.Prelude.{◌≡◌, ◌↔◌, ◌⊎◌, ◌&&◌, ℕ, Bool, IsTrue, false, not, nat_lt, Option, Some, None, List, IfSome}
+use Rattle.std.specs.Prelude.{◌≡◌, ◌↔◌, ◌⊎◌, ◌&&◌, ℕ, Bool, IsTrue, false, not, nat_lt, Option, Some, None, List, [], ◌∷◌, IfSome}
 use Rattle.std.specs.List.{slice_get}
-use Rattle.std.specs.HashMap.{get_by_text}
+use Rattle.std.specs.HashMap.{get_by_text, hasher_of}
 use Rattle.bit_rows.specs.declared.row.BitRow.{BitRow}
 use Rattle.bit_rows.specs.Rows.{has}
 use Rattle.rbac_sets.specs.Sets.{Bytes, Pair, Cardinality, any, count, same_name}
 use Rattle.rbac_sets.specs.declared.row.Row.{Row}
 use Rattle.rbac_sets.specs.declared.row.Row.TheVariants.{PairRow, GrantRow}
-use Rattle.rbac_sets.specs.declared.row.TheConstants.Row.{ASSIGNMENT, CLOSURE_PAIR, ACTIVATED_ROLE}
+use Rattle.rbac_sets.specs.RowKinds.{assignment_kind, closure_pair_kind, activated_role_kind}
 use Rattle.role_order.specs.Order.{geq}
 use Rattle.admin_mgr.specs.RbacState.{RbacState, members_of}
 use Rattle.admin_mgr.specs.Rows.{has_row}
 use Rattle.admin_mgr.specs.UserAccess.{stands_alone}
-use Rattle.bit_tables.specs.Tables.{has_at, has_pair, is_in}
+use Rattle.bit_tables.specs.Tables.{has_at, has_pair, is_in, seed_of}
+use Rattle.bit_tables.specs.declared.seed.Seed.{Seed}
 use Rattle.access_index.specs.Following.{AreNumbers, Follow}
 use Rattle.access_index.specs.declared.index.AccessIndex.{AccessIndex}
 
@@ -58,6 +59,15 @@ row_by_set index set = get_by_text index.by_set set
 abbrev pub authorized_row : AccessIndex → Bytes → Option BitRow
 authorized_row index user = get_by_text index.authorized user
 
+-- the secrets by which its tables find the names of roles, users, sessions and permissions
+abbrev pub seeds_of : AccessIndex → List Seed
+seeds_of index =
+    hasher_of index.numbers.numbers ∷ seed_of index.assigned ∷ seed_of index.sessions ∷ seed_of index.grants.rows ∷ hasher_of index.authorized ∷ []
+
+-- each of them is this one
+abbrev pub IsSeeded : AccessIndex → Seed → Type 0
+IsSeeded index seed = seeds_of index ≡ seed ∷ seed ∷ seed ∷ seed ∷ seed ∷ []
+
 -- the number has the bit, or is in the row of a number that has it
 abbrev pub IsReached : List BitRow → (ℕ → Bool) → ℕ → Type 0
 IsReached rows bits n = (i : ℕ) × IsTrue (bits i) × ((i ≡ n) ⊎ IsTrue (is_below rows i n))
@@ -86,16 +96,16 @@ abbrev pub rows_of : RbacState → Rows
 rows_of S = record { stored = has_row S; barred = λ role. not (stands_alone S role); barred_by = is_barred_by S }
 
 abbrev pub is_assigned : Rows → Bytes → Bytes → Bool
-is_assigned rows user role = rows.stored (PairRow ASSIGNMENT user role)
+is_assigned rows user role = rows.stored (PairRow assignment_kind user role)
 
 abbrev pub is_activated : Rows → Bytes → Bytes → Bool
-is_activated rows session role = rows.stored (PairRow ACTIVATED_ROLE session role)
+is_activated rows session role = rows.stored (PairRow activated_role_kind session role)
 
 abbrev pub is_granted : Rows → Pair → Bytes → Bool
 is_granted rows permission role = rows.stored (GrantRow permission.0 permission.1 role)
 
 abbrev pub is_junior : Rows → Bytes → Bytes → Bool
-is_junior rows senior role = rows.stored (PairRow CLOSURE_PAIR senior role)
+is_junior rows senior role = rows.stored (PairRow closure_pair_kind senior role)
 
 -- The index has the assignments, the activated roles, the grants and the closure pairs of these rows, the barred roles if it
 -- knows them, those that a dynamic set bars if it knows them, and those that a user is authorized for if it knows them. The row of a

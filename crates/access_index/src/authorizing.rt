@@ -1,6 +1,7 @@
 //! The roles that users with many assigned roles are authorized for. A decision about such a user compares one row, and not one for
 //! each assigned role.
 ghost use Rattle.std.specs.Prelude.{◌≡◌, ◌↔◌, ◌≤◌, ℕ, IsTrue, None, IfSome};
+ghost use Rattle.std.specs.HashMap.{hasher_of};
 ghost use Rattle.std.specs.List.{list_any};
 ghost use Rattle.rbac_sets.specs.Sets.{Bytes};
 ghost use Rattle.rbac_sets.specs.declared.row.Change.{Change as ChangeContent};
@@ -27,6 +28,7 @@ impl AccessIndex {
         ensures gone { authorized_row self.new user.now ≡ None }
         ensures keeps { (rows : Rows) → Keeps self.old rows → Keeps self.new rows }
         ensures rest { self.new ≡ record self.old { authorized = self.new.authorized } }
+        ensures seed { hasher_of self.new.authorized ≡ hasher_of self.old.authorized }
     {
         if !self.authorized.is_empty() {
             let _ = self.authorized.remove(user);
@@ -38,6 +40,7 @@ impl AccessIndex {
         ensures none { (user : Bytes) → authorized_row self.new user ≡ None }
         ensures keeps { (rows : Rows) → Keeps self.old rows → Keeps self.new rows }
         ensures rest { self.new ≡ record self.old { authorized = self.new.authorized } }
+        ensures seed { hasher_of self.new.authorized ≡ hasher_of self.old.authorized }
     {
         if !self.authorized.is_empty() {
             self.authorized.clear();
@@ -53,6 +56,7 @@ impl AccessIndex {
     ) -> HashMap<String, BitRow, Seed>
         ensures keeps { (rows : Rows) → Keeps self.old rows → Keeps self.new rows }
         ensures rest { self.new ≡ record self.old { authorized = self.new.authorized } }
+        ensures seed { hasher_of self.new.authorized ≡ hasher_of self.old.authorized }
     {
         let none = HashMap::with_hasher(alloc, *self.authorized.hasher());
         if some_is_of_closure(changes) {
@@ -65,6 +69,7 @@ impl AccessIndex {
     pub(crate) fn count_users(&mut self, alloc: Global, users: HashMap<String, BitRow, Seed>)
         ensures keeps { (rows : Rows) → Keeps self.old rows → Keeps self.new rows }
         ensures rest { self.new ≡ record self.old { authorized = self.new.authorized } }
+        ensures seed { hasher_of self.new.authorized ≡ hasher_of self.old.authorized }
     {
         for user in users.into_keys() {
             self.count_user(alloc, user.as_str());
@@ -75,6 +80,7 @@ impl AccessIndex {
     pub(crate) fn count_changed(&mut self, alloc: Global, changes: &[Change])
         ensures keeps { (rows : Rows) → Keeps self.old rows → Keeps self.new rows }
         ensures rest { self.new ≡ record self.old { authorized = self.new.authorized } }
+        ensures seed { hasher_of self.new.authorized ≡ hasher_of self.old.authorized }
     {
         for change in changes {
             self.count_change(alloc, change);
@@ -85,6 +91,7 @@ impl AccessIndex {
     fn count_change(&mut self, alloc: Global, change: &Change)
         ensures keeps { (rows : Rows) → Keeps self.old rows → Keeps self.new rows }
         ensures rest { self.new ≡ record self.old { authorized = self.new.authorized } }
+        ensures seed { hasher_of self.new.authorized ≡ hasher_of self.old.authorized }
     {
         match change {
             Change::Put(row) => self.count_row(alloc, row),
@@ -96,6 +103,7 @@ impl AccessIndex {
     pub(crate) fn count_rows(&mut self, alloc: Global, stored: &[Row])
         ensures keeps { (rows : Rows) → Keeps self.old rows → Keeps self.new rows }
         ensures rest { self.new ≡ record self.old { authorized = self.new.authorized } }
+        ensures seed { hasher_of self.new.authorized ≡ hasher_of self.old.authorized }
     {
         for row in stored {
             self.count_row(alloc, row);
@@ -106,6 +114,7 @@ impl AccessIndex {
     fn count_row(&mut self, alloc: Global, row: &Row)
         ensures keeps { (rows : Rows) → Keeps self.old rows → Keeps self.new rows }
         ensures rest { self.new ≡ record self.old { authorized = self.new.authorized } }
+        ensures seed { hasher_of self.new.authorized ≡ hasher_of self.old.authorized }
     {
         match row {
             Row::PairRow(Row::ASSIGNMENT, user, _) => self.count_user(alloc, user.as_str()),
@@ -118,6 +127,7 @@ impl AccessIndex {
     fn count_user(&mut self, alloc: Global, user: &str)
         ensures keeps { (rows : Rows) → Keeps self.old rows → Keeps self.new rows }
         ensures rest { self.new ≡ record self.old { authorized = self.new.authorized } }
+        ensures seed { hasher_of self.new.authorized ≡ hasher_of self.old.authorized }
     {
         if let Some(row) = self.uncounted(user) {
             if let Ok(key) = String::from_str(alloc, user) {

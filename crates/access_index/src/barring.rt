@@ -9,7 +9,7 @@ ghost use Rattle.admin_mgr.specs.Changes.{Turns};
 ghost use Rattle.admin_mgr.specs.Good.{IsGood};
 ghost use Rattle.admin_mgr.specs.private.HolderRoles.{run_of};
 ghost use Rattle.access_index.specs.Following.{AreNumbers};
-ghost use Rattle.access_index.specs.Index.{Indexes, Keeps, Rows, is_below, is_used, number_of, row_by_set, rows_of};
+ghost use Rattle.access_index.specs.Index.{Indexes, Keeps, Rows, is_below, is_used, number_of, row_by_set, rows_of, seeds_of};
 ghost use Rattle.access_index.specs.private.Barring.{AreBarred, Forgets, at_least, can_bar, can_bar_by, changed_row, has_members, is_member};
 
 use crate::index::{AccessIndex, reach};
@@ -22,7 +22,8 @@ impl AccessIndex {
     /// Finds which roles of the state are barred, unless it is known. If an allocation fails, it stays unknown.
     pub fn find_barred(&mut self, alloc: Global, state: &State)
         requires { Indexes self.old state.now.facts }
-        ensures { Indexes self.new state.now.facts }
+        ensures indexes { Indexes self.new state.now.facts }
+        ensures seeds { seeds_of self.new ≡ seeds_of self.old }
     {
         if self.barred.is_none() {
             state.recall_good();
@@ -37,6 +38,7 @@ impl AccessIndex {
     pub(crate) fn forget_barred(&mut self, changes: &[Change])
         ensures keeps { (rows : Rows) → Keeps self.old rows → Keeps self.new rows }
         ensures follows { (S T : RbacState) → Indexes self.old S → Turns S changes.now T → Keeps self.new (record (rows_of S) { barred = (rows_of T).barred; barred_by = (rows_of T).barred_by }) }
+        ensures seeds { seeds_of self.new ≡ seeds_of self.old }
     {
         if some_can_bar(changes) {
             self.barred = None;
@@ -80,7 +82,8 @@ impl AccessIndex {
 
     // Forgets which roles are barred.
     pub(crate) fn forget_all_barred(&mut self)
-        ensures { (rows : Rows) (barred : Bytes → Bool) (barred_by : Bytes → Bytes → Bool) → Keeps self.old rows → Keeps self.new (record rows { barred = barred; barred_by = barred_by }) }
+        ensures keeps { (rows : Rows) (barred : Bytes → Bool) (barred_by : Bytes → Bytes → Bool) → Keeps self.old rows → Keeps self.new (record rows { barred = barred; barred_by = barred_by }) }
+        ensures seeds { seeds_of self.new ≡ seeds_of self.old }
     {
         self.barred = None;
         self.forget_sets();
@@ -102,6 +105,7 @@ impl AccessIndex {
         requires good { IsGood state.now.facts }
         ensures keeps { Indexes self.new state.now.facts }
         ensures ok { IfOk result (λ row. AreBarred self.new state.now.facts row) }
+        ensures seeds { seeds_of self.new ≡ seeds_of self.old }
         ensures cause { IfErr result (λ refusal. refusal ≡ Refusal.Memory) }
     {
         let mut levels = Vec::new(alloc);

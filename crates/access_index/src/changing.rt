@@ -2,13 +2,14 @@
 ghost use Rattle.std.specs.Prelude.{◌≡◌, ◌≢◌, true, None, OnOk, IfOk, IfErr, IfSome, IfNone};
 ghost use Rattle.rbac_sets.specs.declared.row.Change.TheVariants.{Put, Take};
 ghost use Rattle.rbac_sets.specs.declared.row.Row.TheVariants.{GrantRow, NameRow, PairRow};
+ghost use Rattle.rbac_sets.specs.RowKinds.{activated_role_kind, assignment_kind, closure_pair_kind, role_kind};
 ghost use Rattle.rbac_sets.specs.Sets.{Bytes};
 ghost use Rattle.admin_mgr.specs.RbacState.{RbacState};
 ghost use Rattle.admin_mgr.specs.Changes.{Turns, is_taken};
 ghost use Rattle.admin_mgr.specs.Good.{IsGood};
 ghost use Rattle.admin_mgr.specs.RowChecks.{AreRowsOf};
 ghost use Rattle.access_index.specs.Following.{AreNumbers};
-ghost use Rattle.access_index.specs.Index.{Indexes, Keeps, Rows, is_used, number_of};
+ghost use Rattle.access_index.specs.Index.{Indexes, IsSeeded, Keeps, Rows, is_used, number_of, seeds_of};
 ghost use Rattle.access_index.specs.private.Changing.{IsNowhere, rows_after, rows_by};
 
 use crate::index::AccessIndex;
@@ -24,6 +25,7 @@ impl AccessIndex {
     /// `Memory` if an allocation failed, or the rows have more than 1,024 roles, which those of no state have.
     pub fn of_rows(alloc: Global, seed: Seed, rows: &[Row]) -> Result<AccessIndex, Refusal>
         ensures ok { IfOk result (λ index. (S : RbacState) → AreRowsOf S rows.now → Indexes index S) }
+        ensures seeded { IfOk result (λ index. IsSeeded index seed) }
         ensures cause { IfErr result (λ refusal. refusal ≡ Refusal.Memory) }
     {
         let mut index = AccessIndex::empty(alloc, seed);
@@ -48,7 +50,8 @@ impl AccessIndex {
     pub fn follow(&mut self, alloc: Global, changes: &[Change]) -> Result<(), Refusal>
         requires { (S : RbacState) × Indexes self.old S }
         ensures ok { OnOk result ((S T : RbacState) → Indexes self.old S → Turns S changes.now T → IsGood T → Indexes self.new T) }
-        ensures freed { OnOk result ((role : Bytes) → is_taken changes.now (NameRow Row.ROLE role) ≡ true → number_of self.new role ≡ None) }
+        ensures freed { OnOk result ((role : Bytes) → is_taken changes.now (NameRow role_kind role) ≡ true → number_of self.new role ≡ None) }
+        ensures seeds { seeds_of self.new ≡ seeds_of self.old }
         ensures cause { IfErr result (λ refusal. refusal ≡ Refusal.Memory) }
     {
         self.forget_barred(changes);
@@ -64,6 +67,7 @@ impl AccessIndex {
     fn change_bits(&mut self, alloc: Global, changes: &[Change]) -> Result<(), Refusal>
         requires { (rows : Rows) × Keeps self.old rows }
         ensures ok { OnOk result ((rows : Rows) → Keeps self.old rows → Keeps self.new (rows_after rows changes.now)) }
+        ensures seeds { seeds_of self.new ≡ seeds_of self.old }
         ensures cause { IfErr result (λ refusal. refusal ≡ Refusal.Memory) }
     {
         for change in changes {
@@ -75,8 +79,9 @@ impl AccessIndex {
     // Frees the numbers of the roles that are taken.
     fn free_numbers(&mut self, changes: &[Change])
         requires { AreNumbers (number_of self.old) (is_used self.old) }
-        ensures keeps { (rows : Rows) → Keeps self.old rows → ((role : Bytes) → is_taken changes.now (NameRow Row.ROLE role) ≡ true → IsNowhere rows role) → Keeps self.new rows }
-        ensures freed { (role : Bytes) → is_taken changes.now (NameRow Row.ROLE role) ≡ true → number_of self.new role ≡ None }
+        ensures keeps { (rows : Rows) → Keeps self.old rows → ((role : Bytes) → is_taken changes.now (NameRow role_kind role) ≡ true → IsNowhere rows role) → Keeps self.new rows }
+        ensures freed { (role : Bytes) → is_taken changes.now (NameRow role_kind role) ≡ true → number_of self.new role ≡ None }
+        ensures seeds { seeds_of self.new ≡ seeds_of self.old }
     {
         for change in changes {
             if let Some(role) = role_taken(change) {
@@ -89,6 +94,7 @@ impl AccessIndex {
     fn change_bit(&mut self, alloc: Global, change: &Change) -> Result<(), Refusal>
         requires { (rows : Rows) × Keeps self.old rows }
         ensures ok { OnOk result ((rows : Rows) → Keeps self.old rows → Keeps self.new (rows_by rows change.now)) }
+        ensures seeds { seeds_of self.new ≡ seeds_of self.old }
         ensures cause { IfErr result (λ refusal. refusal ≡ Refusal.Memory) }
     {
         match change {
@@ -101,6 +107,7 @@ impl AccessIndex {
     pub(crate) fn put_row(&mut self, alloc: Global, row: &Row) -> Result<(), Refusal>
         requires { (rows : Rows) × Keeps self.old rows }
         ensures ok { OnOk result ((rows : Rows) → Keeps self.old rows → Keeps self.new (rows_by rows (Put row.now))) }
+        ensures seeds { seeds_of self.new ≡ seeds_of self.old }
         ensures cause { IfErr result (λ refusal. refusal ≡ Refusal.Memory) }
     {
         match row {
@@ -120,6 +127,7 @@ impl AccessIndex {
     fn take_row(&mut self, row: &Row) -> Result<(), Refusal>
         requires { (rows : Rows) × Keeps self.old rows }
         ensures ok { OnOk result ((rows : Rows) → Keeps self.old rows → Keeps self.new (rows_by rows (Take row.now))) }
+        ensures seeds { seeds_of self.new ≡ seeds_of self.old }
         ensures cause { IfErr result (λ refusal. refusal ≡ Refusal.Memory) }
     {
         match row {
@@ -136,7 +144,8 @@ impl AccessIndex {
 
     fn put_assigned(&mut self, alloc: Global, user: &Name, role: &Name) -> Result<(), Refusal>
         requires { (rows : Rows) × Keeps self.old rows }
-        ensures ok { OnOk result ((rows : Rows) → Keeps self.old rows → Keeps self.new (rows_by rows (Put (PairRow Row.ASSIGNMENT user.now role.now)))) }
+        ensures ok { OnOk result ((rows : Rows) → Keeps self.old rows → Keeps self.new (rows_by rows (Put (PairRow assignment_kind user.now role.now)))) }
+        ensures seeds { seeds_of self.new ≡ seeds_of self.old }
         ensures cause { IfErr result (λ refusal. refusal ≡ Refusal.Memory) }
     {
         let number = self.number_for(alloc, role)?;
@@ -146,7 +155,8 @@ impl AccessIndex {
 
     fn take_assigned(&mut self, user: &Name, role: &Name) -> Result<(), Refusal>
         requires { (rows : Rows) × Keeps self.old rows }
-        ensures ok { OnOk result ((rows : Rows) → Keeps self.old rows → Keeps self.new (rows_by rows (Take (PairRow Row.ASSIGNMENT user.now role.now)))) }
+        ensures ok { OnOk result ((rows : Rows) → Keeps self.old rows → Keeps self.new (rows_by rows (Take (PairRow assignment_kind user.now role.now)))) }
+        ensures seeds { seeds_of self.new ≡ seeds_of self.old }
         ensures cause { IfErr result (λ refusal. refusal ≡ Refusal.Memory) }
     {
         if let Some(number) = self.number(role) {
@@ -159,7 +169,8 @@ impl AccessIndex {
 
     fn put_activated(&mut self, alloc: Global, session: &Name, role: &Name) -> Result<(), Refusal>
         requires { (rows : Rows) × Keeps self.old rows }
-        ensures ok { OnOk result ((rows : Rows) → Keeps self.old rows → Keeps self.new (rows_by rows (Put (PairRow Row.ACTIVATED_ROLE session.now role.now)))) }
+        ensures ok { OnOk result ((rows : Rows) → Keeps self.old rows → Keeps self.new (rows_by rows (Put (PairRow activated_role_kind session.now role.now)))) }
+        ensures seeds { seeds_of self.new ≡ seeds_of self.old }
         ensures cause { IfErr result (λ refusal. refusal ≡ Refusal.Memory) }
     {
         let number = self.number_for(alloc, role)?;
@@ -168,7 +179,8 @@ impl AccessIndex {
 
     fn take_activated(&mut self, session: &Name, role: &Name) -> Result<(), Refusal>
         requires { (rows : Rows) × Keeps self.old rows }
-        ensures ok { OnOk result ((rows : Rows) → Keeps self.old rows → Keeps self.new (rows_by rows (Take (PairRow Row.ACTIVATED_ROLE session.now role.now)))) }
+        ensures ok { OnOk result ((rows : Rows) → Keeps self.old rows → Keeps self.new (rows_by rows (Take (PairRow activated_role_kind session.now role.now)))) }
+        ensures seeds { seeds_of self.new ≡ seeds_of self.old }
         ensures cause { IfErr result (λ refusal. refusal ≡ Refusal.Memory) }
     {
         if let Some(number) = self.number(role) {
@@ -186,6 +198,7 @@ impl AccessIndex {
     ) -> Result<(), Refusal>
         requires { (rows : Rows) × Keeps self.old rows }
         ensures ok { OnOk result ((rows : Rows) → Keeps self.old rows → Keeps self.new (rows_by rows (Put (GrantRow object.now operation.now role.now)))) }
+        ensures seeds { seeds_of self.new ≡ seeds_of self.old }
         ensures cause { IfErr result (λ refusal. refusal ≡ Refusal.Memory) }
     {
         let number = self.number_for(alloc, role)?;
@@ -196,6 +209,7 @@ impl AccessIndex {
     fn take_grant(&mut self, object: &Name, operation: &Name, role: &Name) -> Result<(), Refusal>
         requires { (rows : Rows) × Keeps self.old rows }
         ensures ok { OnOk result ((rows : Rows) → Keeps self.old rows → Keeps self.new (rows_by rows (Take (GrantRow object.now operation.now role.now)))) }
+        ensures seeds { seeds_of self.new ≡ seeds_of self.old }
         ensures cause { IfErr result (λ refusal. refusal ≡ Refusal.Memory) }
     {
         if let Some(number) = self.number(role) {
@@ -208,7 +222,8 @@ impl AccessIndex {
 
     fn put_pair(&mut self, alloc: Global, senior: &Name, junior: &Name) -> Result<(), Refusal>
         requires { (rows : Rows) × Keeps self.old rows }
-        ensures ok { OnOk result ((rows : Rows) → Keeps self.old rows → Keeps self.new (rows_by rows (Put (PairRow Row.CLOSURE_PAIR senior.now junior.now)))) }
+        ensures ok { OnOk result ((rows : Rows) → Keeps self.old rows → Keeps self.new (rows_by rows (Put (PairRow closure_pair_kind senior.now junior.now)))) }
+        ensures seeds { seeds_of self.new ≡ seeds_of self.old }
         ensures cause { IfErr result (λ refusal. refusal ≡ Refusal.Memory) }
     {
         let above = self.number_for(alloc, senior)?;
@@ -219,7 +234,8 @@ impl AccessIndex {
 
     fn take_pair(&mut self, senior: &Name, junior: &Name)
         requires { (rows : Rows) × Keeps self.old rows }
-        ensures { (rows : Rows) → Keeps self.old rows → Keeps self.new (rows_by rows (Take (PairRow Row.CLOSURE_PAIR senior.now junior.now))) }
+        ensures keeps { (rows : Rows) → Keeps self.old rows → Keeps self.new (rows_by rows (Take (PairRow closure_pair_kind senior.now junior.now))) }
+        ensures seeds { seeds_of self.new ≡ seeds_of self.old }
     {
         if let Some(above) = self.number(senior) {
             if let Some(below) = self.number(junior) {
@@ -232,8 +248,8 @@ impl AccessIndex {
 
 // The role that the change takes, if it takes one.
 fn role_taken(change: &Change) -> Option<&Name>
-    ensures role { IfSome result (λ role. change.now ≡ Take (NameRow Row.ROLE role.now)) }
-    ensures none { IfNone result ((role : Bytes) → change.now ≢ Take (NameRow Row.ROLE role)) }
+    ensures role { IfSome result (λ role. change.now ≡ Take (NameRow role_kind role.now)) }
+    ensures none { IfNone result ((role : Bytes) → change.now ≢ Take (NameRow role_kind role)) }
 {
     match change {
         Change::Take(Row::NameRow(Row::ROLE, role)) => Some(role),

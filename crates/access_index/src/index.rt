@@ -4,7 +4,7 @@ ghost use Rattle.rbac_sets.specs.Sets.{Bytes};
 ghost use Rattle.rbac_sets.specs.declared.row.Row.TheVariants.{PairRow, GrantRow};
 ghost use Rattle.admin_mgr.specs.RbacState.{empty_state};
 ghost use Rattle.access_index.specs.Following.{AreNumbers};
-ghost use Rattle.access_index.specs.Index.{AreTurned, Indexes, Keeps, Rows, is_below, is_used, no_rows, number_of};
+ghost use Rattle.access_index.specs.Index.{AreTurned, Indexes, IsSeeded, Keeps, Rows, is_below, is_used, no_rows, number_of, seeds_of};
 ghost use Rattle.access_index.specs.private.Changing.{IsNowhere};
 
 use bit_rows::{BitRow, WIDTH};
@@ -44,6 +44,7 @@ impl AccessIndex {
     pub fn empty(alloc: Global, seed: Seed) -> AccessIndex
         ensures rows { Keeps result no_rows }
         ensures state { (version : ℕ) → Indexes result (empty_state version) }
+        ensures seeded { IsSeeded result seed }
     {
         AccessIndex {
             numbers: NumberTable::new(alloc, seed),
@@ -73,6 +74,7 @@ impl AccessIndex {
         ensures number { IfOk result (λ n. number_of self.new role.now ≡ Some n) }
         ensures within { IfOk result (λ n. n < WIDTH) }
         ensures others { OnOk result ((other : Bytes) (n : ℕ) → number_of self.old other ≡ Some n → number_of self.new other ≡ Some n) }
+        ensures seeds { seeds_of self.new ≡ seeds_of self.old }
         ensures cause { IfErr result (λ refusal. refusal ≡ Refusal.Memory) }
     {
         if let Some(number) = self.number(role) {
@@ -93,6 +95,7 @@ impl AccessIndex {
         ensures keeps { (rows : Rows) → Keeps self.old rows → IsNowhere rows role.now → Keeps self.new rows }
         ensures freed { number_of self.new role.now ≡ None }
         ensures others { (other : Bytes) → number_of self.old other ≡ None → number_of self.new other ≡ None }
+        ensures seeds { seeds_of self.new ≡ seeds_of self.old }
     {
         if let Some(number) = self.number(role) {
             let _ = self.numbers.take(role);
@@ -108,6 +111,7 @@ impl AccessIndex {
         ensures others { OnOk result ((i j : ℕ) → (i ≡ senior → j ≢ junior) → is_below self.new.juniors.items i j ≡ is_below self.old.juniors.items i j) }
         ensures turned { OnOk result (AreTurned self.old.juniors.items self.old.seniors.items → AreTurned self.new.juniors.items self.new.seniors.items) }
         ensures rest { OnOk result (self.new ≡ record self.old { juniors = self.new.juniors; seniors = self.new.seniors }) }
+        ensures seeds { seeds_of self.new ≡ seeds_of self.old }
         ensures cause { IfErr result (λ refusal. refusal ≡ Refusal.Memory) }
     {
         put_bit(&mut self.juniors, senior, junior)?;

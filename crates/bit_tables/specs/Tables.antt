@@ -1,6 +1,6 @@
 -- Rows of bits by name, and by two names.
-use Rattle.std.specs.Prelude.{ℕ, Bool, false, ◌&&◌, ◌∷◌, ◌++◌, nat_eq, nat_le, nat_lt, length, List, Option, Some, None}
-use Rattle.std.specs.HashMap.{get_by_text}
+use Rattle.std.specs.Prelude.{◌≡◌, ℕ, Bool, false, ◌&&◌, ◌∷◌, ◌++◌, nat_eq, nat_le, nat_lt, length, List, Option, Some, None}
+use Rattle.std.specs.HashMap.{get_by_text, hasher_of}
 use Rattle.std.specs.List.{list_any}
 use Rattle.bit_rows.specs.declared.row.BitRow.{BitRow}
 use Rattle.bit_rows.specs.declared.row.TheConstants.{WIDTH}
@@ -8,6 +8,7 @@ use Rattle.bit_rows.specs.Rows.{has}
 use Rattle.rbac_sets.specs.Sets.{Bytes}
 use Rattle.bit_tables.specs.declared.numbers.Numbers.{Numbers}
 use Rattle.bit_tables.specs.declared.numbers.Numbers.TheVariants.{Few, Many}
+use Rattle.bit_tables.specs.declared.seed.Seed.{Seed}
 use Rattle.bit_tables.specs.declared.table.BitTable.{BitTable}
 use Rattle.bit_tables.specs.declared.pair_table.PairTable.{PairTable}
 use Rattle.bit_tables.specs.declared.pair_table.TheConstants.{LONGEST_NAME}
@@ -38,6 +39,14 @@ is_held (Some numbers) number = holds numbers number
 -- whether the row at the name has the number
 abbrev pub has_at : BitTable → Bytes → ℕ → Bool
 has_at table name number = is_held (get_by_text table.rows name) number
+
+-- a name without numbers has no row
+abbrev pub HasNoEmptyRow : BitTable → Bytes → Type 0
+HasNoEmptyRow table name = ((n : ℕ) → has_at table name n ≡ false) → get_by_text table.rows name ≡ None
+
+-- the secret by which the table finds names
+abbrev pub seed_of : BitTable → Seed
+seed_of table = hasher_of table.rows
 
 -- whether both texts are no longer than a name can be
 abbrev pub are_names : Bytes → Bytes → Bool

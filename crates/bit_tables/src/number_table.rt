@@ -1,6 +1,6 @@
 //! Numbers by name.
 ghost use Rattle.std.specs.Prelude.{◌≡◌, ◌≢◌, ◌⊎◌, ◌<◌, ℕ, None, Some, IsTrue, OnOk, OnErr, IfErr, get_or, vec_len};
-ghost use Rattle.std.specs.HashMap.{get_by_text};
+ghost use Rattle.std.specs.HashMap.{get_by_text, hasher_of};
 ghost use Rattle.std.specs.Str.{bytes_eq};
 ghost use Rattle.std.specs.Map.{update};
 ghost use Rattle.std.specs.List.{slice_get};
@@ -33,7 +33,8 @@ pub struct NumberTable {
 impl NumberTable {
     /// A table without names. It doesn't allocate.
     pub fn new(alloc: Global, seed: Seed) -> NumberTable
-        ensures { (name : Bytes) → get_by_text result.numbers name ≡ None }
+        ensures empty { (name : Bytes) → get_by_text result.numbers name ≡ None }
+        ensures seed { hasher_of result.numbers ≡ seed }
     {
         NumberTable {
             numbers: HashMap::with_hasher(alloc, seed),
@@ -67,6 +68,7 @@ impl NumberTable {
         requires number { number < WIDTH }
         ensures put { OnOk result ((other : Bytes) → get_by_text self.new.numbers other ≡ update bytes_eq (get_by_text self.old.numbers) name.now (Some number) other) }
         ensures same { OnErr result ((other : Bytes) → get_by_text self.new.numbers other ≡ get_by_text self.old.numbers other) }
+        ensures seed { hasher_of self.new.numbers ≡ hasher_of self.old.numbers }
         ensures cause { IfErr result (λ refusal. refusal ≡ Refusal.Memory) }
     {
         let key = String::from_str(alloc, name.as_str())?;
@@ -83,6 +85,7 @@ impl NumberTable {
     pub fn take(&mut self, name: &Name) -> Option<usize>
         ensures number { result ≡ get_by_text self.old.numbers name.now }
         ensures taken { (other : Bytes) → get_by_text self.new.numbers other ≡ update bytes_eq (get_by_text self.old.numbers) name.now None other }
+        ensures seed { hasher_of self.new.numbers ≡ hasher_of self.old.numbers }
     {
         let number = self.number(name)?;
         clear_name(&mut self.names, number);

@@ -2,7 +2,7 @@
 ghost use Rattle.std.specs.Prelude.{◌≡◌, ◌≢◌, ◌<◌, ◌≤◌, ℕ, IsTrue, false, length, OnOk, IfErr, IfSome, IfNone};
 ghost use Rattle.rbac_sets.specs.Sets.{Bytes};
 ghost use Rattle.bit_rows.specs.Rows.{has};
-ghost use Rattle.bit_tables.specs.Tables.{are_names, has_pair, joined};
+ghost use Rattle.bit_tables.specs.Tables.{are_names, has_pair, joined, seed_of};
 
 use crate::seed::Seed;
 use crate::table::BitTable;
@@ -27,7 +27,8 @@ pub struct PairTable {
 impl PairTable {
     /// A table without rows. It doesn't allocate.
     pub fn new(alloc: Global, seed: Seed) -> PairTable
-        ensures { (first second : Bytes) (n : ℕ) → has_pair result first second n ≡ false }
+        ensures empty { (first second : Bytes) (n : ℕ) → has_pair result first second n ≡ false }
+        ensures seed { seed_of result.rows ≡ seed }
     {
         PairTable {
             rows: BitTable::new(alloc, seed),
@@ -63,6 +64,7 @@ impl PairTable {
         requires number { number < WIDTH }
         ensures there { OnOk result (IsTrue (has_pair self.new first.now second.now number)) }
         ensures others { OnOk result ((a b : Bytes) (n : ℕ) → (a ≡ first.now → b ≡ second.now → n ≢ number) → has_pair self.new a b n ≡ has_pair self.old a b n) }
+        ensures seed { seed_of self.new.rows ≡ seed_of self.old.rows }
         ensures cause { IfErr result (λ refusal. refusal ≡ Refusal.Memory) }
     {
         let key = joined(first, second);
@@ -79,6 +81,7 @@ impl PairTable {
         requires { number < WIDTH }
         ensures gone { OnOk result (has_pair self.new first.now second.now number ≡ false) }
         ensures others { OnOk result ((a b : Bytes) (n : ℕ) → (a ≡ first.now → b ≡ second.now → n ≢ number) → has_pair self.new a b n ≡ has_pair self.old a b n) }
+        ensures seed { seed_of self.new.rows ≡ seed_of self.old.rows }
         ensures cause { IfErr result (λ refusal. refusal ≡ Refusal.Memory) }
     {
         if !are_names(first, second) {
@@ -91,7 +94,8 @@ impl PairTable {
 
     /// Gives back the memory that no row uses.
     pub fn fit(&mut self)
-        ensures { (first second : Bytes) (n : ℕ) → has_pair self.new first second n ≡ has_pair self.old first second n }
+        ensures same { (first second : Bytes) (n : ℕ) → has_pair self.new first second n ≡ has_pair self.old first second n }
+        ensures seed { seed_of self.new.rows ≡ seed_of self.old.rows }
     {
         self.rows.fit();
     }

@@ -1,7 +1,6 @@
 //! The hasher of the names.
-ghost use Rattle.std.specs.Prelude.{◌≡◌, ◌++◌, fold};
-ghost use Rattle.core.specs.Hash.{u64};
-ghost use Rattle.core.specs.Hash.DefaultHasher as sip;
+ghost use Rattle.std.specs.Prelude.{◌≡◌};
+ghost use Rattle.bit_tables.specs.Seed.{seed_with};
 
 use std::hash::{BuildHasher, DefaultHasher, Hasher};
 
@@ -15,7 +14,7 @@ pub struct Seed {
 impl Seed {
     /// The secret with these numbers, which should be random.
     pub fn new(first: u64, second: u64) -> Seed
-        ensures { result.start ≡ fold sip.write sip.initial (u64 first ++ u64 second) }
+        ensures { result ≡ seed_with first second }
     {
         let mut start = DefaultHasher::new();
         start.write_u64(first);

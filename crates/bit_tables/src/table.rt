@@ -5,7 +5,7 @@ ghost use Rattle.std.specs.Map.{update};
 ghost use Rattle.std.specs.Str.{bytes_eq};
 ghost use Rattle.rbac_sets.specs.Sets.{Bytes};
 ghost use Rattle.bit_rows.specs.Rows.{has};
-ghost use Rattle.bit_tables.specs.Tables.{has_at};
+ghost use Rattle.bit_tables.specs.Tables.{HasNoEmptyRow, has_at, seed_of};
 
 use crate::numbers::Numbers;
 use crate::seed::Seed;
@@ -23,7 +23,8 @@ pub struct BitTable {
 impl BitTable {
     /// A table without rows. It doesn't allocate.
     pub fn new(alloc: Global, seed: Seed) -> BitTable
-        ensures { (name : Bytes) (n : ℕ) → has_at result name n ≡ false }
+        ensures empty { (name : Bytes) (n : ℕ) → has_at result name n ≡ false }
+        ensures seed { seed_of result ≡ seed }
     {
         BitTable {
             rows: HashMap::with_hasher(alloc, seed),
@@ -50,6 +51,7 @@ impl BitTable {
         requires { number < WIDTH }
         ensures there { OnOk result (IsTrue (has_at self.new name.now number)) }
         ensures others { OnOk result ((other : Bytes) (n : ℕ) → (other ≡ name.now → n ≢ number) → has_at self.new other n ≡ has_at self.old other n) }
+        ensures seed { seed_of self.new ≡ seed_of self.old }
         ensures cause { IfErr result (λ refusal. refusal ≡ Refusal.Memory) }
     {
         let (key, numbers) = match self.rows.remove_entry(name) {
@@ -61,7 +63,7 @@ impl BitTable {
         Ok(())
     }
 
-    /// Takes the number out of the row at the name, if it is there.
+    /// Takes the number out of the row at the name, if it is there. If no number is left, the table forgets the name.
     ///
     /// # Errors
     ///
@@ -70,6 +72,8 @@ impl BitTable {
         requires { number < WIDTH }
         ensures gone { OnOk result (has_at self.new name.now number ≡ false) }
         ensures others { OnOk result ((other : Bytes) (n : ℕ) → (other ≡ name.now → n ≢ number) → has_at self.new other n ≡ has_at self.old other n) }
+        ensures forgets { OnOk result (HasNoEmptyRow self.new name.now) }
+        ensures seed { seed_of self.new ≡ seed_of self.old }
         ensures cause { IfErr result (λ refusal. refusal ≡ Refusal.Memory) }
     {
         if let Some((key, numbers)) = self.rows.remove_entry(name) {
@@ -84,6 +88,7 @@ impl BitTable {
     // Puts back an entry that was taken out.
     fn put_back(&mut self, key: String, numbers: Numbers) -> Result<(), Refusal>
         ensures ok { OnOk result ((name : Bytes) → get_by_text self.new.rows name ≡ update bytes_eq (get_by_text self.old.rows) (string_bytes key) (Some numbers) name) }
+        ensures seed { seed_of self.new ≡ seed_of self.old }
         ensures cause { IfErr result (λ refusal. refusal ≡ Refusal.Memory) }
     {
         self.rows.insert(key, numbers)?;
@@ -92,7 +97,8 @@ impl BitTable {
 
     /// Gives back the memory that no row uses.
     pub fn fit(&mut self)
-        ensures { (name : Bytes) (n : ℕ) → has_at self.new name n ≡ has_at self.old name n }
+        ensures same { (name : Bytes) (n : ℕ) → has_at self.new name n ≡ has_at self.old name n }
+        ensures seed { seed_of self.new ≡ seed_of self.old }
     {
         self.rows.shrink_to_fit();
     }

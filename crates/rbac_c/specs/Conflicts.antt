@@ -1,9 +1,9 @@
 -- What a call from C returns that says which separation of duty sets a command would violate.
 use Rattle.std.specs.Prelude.{◌≡◌, ◌⊎◌, ℕ, Bool, true, false, List, [], ◌∷◌, length, take, drop, Option, Some, None}
-use Rattle.std.specs.List.{All}
+use Rattle.std.specs.List.{All, flat_map}
 use Rattle.rbac_sets.specs.Refusal.{code_of}
-use Rattle.rbac_sets.specs.Sets.{Bytes, Pair, from_list, name_cmp}
-use Rattle.rbac_sets.specs.SortedSet.{Stored, set_of}
+use Rattle.rbac_sets.specs.Sets.{Bytes, Pair, from_list, members}
+use Rattle.rbac_sets.specs.SortedSet.{Stored}
 use Rattle.rbac_sets.specs.declared.refusal.Refusal.{Refusal}
 use Rattle.rbac_sets.specs.declared.refusal.Refusal.TheVariants.{BadName, Memory}
 use Rattle.rbac_sets.specs.declared.command.Command.TheVariants.{AddActiveRole, AddInheritance, CreateSession}
@@ -16,7 +16,7 @@ use Rattle.role_lines.specs.OfficeInMemory.{OfficeInMemory}
 use Rattle.role_lines.specs.StoredRow.{name_at, pair_at}
 use Rattle.rbac_c.specs.Calls.{Buffers, CopiesSome}
 use Rattle.rbac_c.specs.declared.calls.RowLengths.{RowLengths}
-use Rattle.rbac_c.specs.declared.calls.TheConstants.{DONE, CLOSED}
+use Rattle.rbac_c.specs.Results.{done, closed}
 
 module _ (S : RbacState) (user role : List ℕ) where
   -- the question isn't refused, and these are all static sets that the state would violate if the user were assigned to the role
@@ -67,13 +67,23 @@ abbrev pub divided : List ℕ → List ℕ → List (List ℕ)
 divided text [] = []
 divided text (n ∷ lengths) = take n text ∷ divided (drop n text) lengths
 
+-- a set of these texts, without room for more
+abbrev pub stored : List (List ℕ) → Stored Bytes
+stored texts = record { in_order = texts; room = 0 }
+
+-- a name that no session has: it is longer than the names of all sessions together
+abbrev pub new_name : RbacState → Bytes
+new_name S = 0 ∷ flat_map (λ (session : Pair). session.0) (members S.sessions)
+
 module _ (S : RbacState) (user : List ℕ) (texts : List (List ℕ)) where
   -- The question isn't refused, and these are all dynamic sets that the state would violate if a session of the user with these roles
-  -- were created, each with those of its roles that the session would have. Whatever the new session's name is, they are the same.
+  -- were created, each with those of its roles that the session would have. Whatever the new session's name is, they are the same, and
+  -- there is a name that is new.
   pub record ViolatesByCreation (pairs : List Pair) : Type 0 where
     pub unrefused : creation_refused S user (from_list texts) ≡ None
-    pub pairs_are : (roles : Stored Bytes) (session : Bytes) → set_of name_cmp roles ≡ from_list texts → has_session S session ≡ false
-        → pairs ≡ violated_members (after S (CreateSession user roles session)) session
+    pub is_new : has_session S (new_name S) ≡ false
+    pub pairs_are : (session : Bytes) → has_session S session ≡ false
+        → pairs ≡ violated_members (after S (CreateSession user (stored texts) session)) session
 
   -- an allocation failed, or one of the names isn't one, or the question is refused
   abbrev pub RefusesCreation : Refusal → Type 0
@@ -84,44 +94,52 @@ module _ (S : RbacState) (user : List ℕ) (texts : List (List ℕ)) where
 
 -- ---- what is copied
 
--- the names from this place on are copied, and this is how many there are in all
-abbrev pub CopiesNames : List Bytes → ℕ → (before now : Buffers (List RowLengths)) → ℕ → ℕ → Type 0
-CopiesNames names index before now count total = (total ≡ length names) × CopiesSome (λ place row. row ≡ name_at names place) index before now count
+-- what a call returns that copies some of a list: how many it copied, how many there are in all, and a number that says how it went
+pub record CopyResult : Type 0 where
+  pub count : ℕ
+  pub total : ℕ
+  pub code : ℕ
+
+-- the names from this place on are copied
+abbrev pub CopiesNames : List Bytes → (index : ℕ) → (before now : Buffers (List RowLengths)) → CopyResult → Type 0
+CopiesNames names index before now result =
+    (result.code ≡ done) × ((result.total ≡ length names) × CopiesSome (λ place row. row ≡ name_at names place) index before now result.count)
 
 -- the same for pairs of names
-abbrev pub CopiesPairs : List Pair → ℕ → (before now : Buffers (List RowLengths)) → ℕ → ℕ → Type 0
-CopiesPairs pairs index before now count total = (total ≡ length pairs) × CopiesSome (λ place row. row ≡ pair_at pairs place) index before now count
+abbrev pub CopiesPairs : List Pair → (index : ℕ) → (before now : Buffers (List RowLengths)) → CopyResult → Type 0
+CopiesPairs pairs index before now result =
+    (result.code ≡ done) × ((result.total ≡ length pairs) × CopiesSome (λ place row. row ≡ pair_at pairs place) index before now result.count)
 
 -- nothing is copied, for this reason
-abbrev pub CopiesNothing : ℕ → (before now : Buffers (List RowLengths)) → ℕ → ℕ → ℕ → Type 0
-CopiesNothing reason before now count total code = (now ≡ before) × ((count ≡ 0) × ((total ≡ 0) × (code ≡ reason)))
+abbrev pub CopiesNothing : (reason : ℕ) → (before now : Buffers (List RowLengths)) → CopyResult → Type 0
+CopiesNothing reason before now result = (now ≡ before) × ((result.count ≡ 0) × ((result.total ≡ 0) × (result.code ≡ reason)))
 
 -- the sets that an assignment would violate are copied from this place on, or the question is refused
-abbrev pub CopiesAssignment : Option OfficeInMemory → List ℕ → List ℕ → ℕ → (before now : Buffers (List RowLengths)) → ℕ → ℕ → ℕ → Type 0
-CopiesAssignment None user role index before now count total code = CopiesNothing CLOSED before now count total code
-CopiesAssignment (Some office) user role index before now count total code =
-    ((names : List Bytes) × (ViolatesSets office.facts user role names × ((code ≡ DONE) × CopiesNames names index before now count total)))
-    ⊎ ((refusal : Refusal) × (RefusesAssignment office.facts user role refusal × CopiesNothing (code_of refusal) before now count total code))
+abbrev pub CopiesAssignment : Option OfficeInMemory → (user role : List ℕ) → (index : ℕ) → (before now : Buffers (List RowLengths)) → CopyResult → Type 0
+CopiesAssignment None user role index before now result = CopiesNothing closed before now result
+CopiesAssignment (Some office) user role index before now result =
+    ((names : List Bytes) × (ViolatesSets office.facts user role names × CopiesNames names index before now result))
+    ⊎ ((refusal : Refusal) × (RefusesAssignment office.facts user role refusal × CopiesNothing (code_of refusal) before now result))
 
 -- the same for an activation
-abbrev pub CopiesActivation : Option OfficeInMemory → List ℕ → List ℕ → List ℕ → ℕ → (before now : Buffers (List RowLengths)) → ℕ → ℕ → ℕ → Type 0
-CopiesActivation None user session role index before now count total code = CopiesNothing CLOSED before now count total code
-CopiesActivation (Some office) user session role index before now count total code =
-    ((names : List Bytes)
-    × (ViolatesInSession office.facts user session role names × ((code ≡ DONE) × CopiesNames names index before now count total)))
-    ⊎ ((refusal : Refusal) × (RefusesActivation office.facts user session role refusal × CopiesNothing (code_of refusal) before now count total code))
+abbrev pub CopiesActivation : Option OfficeInMemory → (user session role : List ℕ) → (index : ℕ) → (before now : Buffers (List RowLengths)) → CopyResult → Type 0
+CopiesActivation None user session role index before now result = CopiesNothing closed before now result
+CopiesActivation (Some office) user session role index before now result =
+    ((names : List Bytes) × (ViolatesInSession office.facts user session role names × CopiesNames names index before now result))
+    ⊎ ((refusal : Refusal) × (RefusesActivation office.facts user session role refusal × CopiesNothing (code_of refusal) before now result))
 
 -- the same for an inheritance: each set, and who violates it
-abbrev pub CopiesInheritance : Option OfficeInMemory → (of_sessions : Bool) → List ℕ → List ℕ → ℕ → (before now : Buffers (List RowLengths)) → ℕ → ℕ → ℕ → Type 0
-CopiesInheritance None of_sessions asc desc index before now count total code = CopiesNothing CLOSED before now count total code
-CopiesInheritance (Some office) of_sessions asc desc index before now count total code =
-    ((pairs : List Pair)
-    × (ViolatesByInheritance office.facts asc desc of_sessions pairs × ((code ≡ DONE) × CopiesPairs pairs index before now count total)))
-    ⊎ ((refusal : Refusal) × (RefusesInheritance office.facts asc desc refusal × CopiesNothing (code_of refusal) before now count total code))
+abbrev pub CopiesInheritance : Option OfficeInMemory → (of_sessions : Bool) → (asc desc : List ℕ) → (index : ℕ) → (before now : Buffers (List RowLengths)) → CopyResult
+    → Type 0
+CopiesInheritance None of_sessions asc desc index before now result = CopiesNothing closed before now result
+CopiesInheritance (Some office) of_sessions asc desc index before now result =
+    ((pairs : List Pair) × (ViolatesByInheritance office.facts asc desc of_sessions pairs × CopiesPairs pairs index before now result))
+    ⊎ ((refusal : Refusal) × (RefusesInheritance office.facts asc desc refusal × CopiesNothing (code_of refusal) before now result))
 
 -- the same for a new session: each set, and a role of it that the session would have
-abbrev pub CopiesCreation : Option OfficeInMemory → List ℕ → List (List ℕ) → ℕ → (before now : Buffers (List RowLengths)) → ℕ → ℕ → ℕ → Type 0
-CopiesCreation None user texts index before now count total code = CopiesNothing CLOSED before now count total code
-CopiesCreation (Some office) user texts index before now count total code =
-    ((pairs : List Pair) × (ViolatesByCreation office.facts user texts pairs × ((code ≡ DONE) × CopiesPairs pairs index before now count total)))
-    ⊎ ((refusal : Refusal) × (RefusesCreation office.facts user texts refusal × CopiesNothing (code_of refusal) before now count total code))
+abbrev pub CopiesCreation : Option OfficeInMemory → (user : List ℕ) → (texts : List (List ℕ)) → (index : ℕ) → (before now : Buffers (List RowLengths)) → CopyResult
+    → Type 0
+CopiesCreation None user texts index before now result = CopiesNothing closed before now result
+CopiesCreation (Some office) user texts index before now result =
+    ((pairs : List Pair) × (ViolatesByCreation office.facts user texts pairs × CopiesPairs pairs index before now result))
+    ⊎ ((refusal : Refusal) × (RefusesCreation office.facts user texts refusal × CopiesNothing (code_of refusal) before now result))

@@ -3,4 +3,5 @@ pub mod Conflicts
 pub mod Held
 pub mod Range
 pub mod Reasons
+pub mod Results
 pub mod private

@@ -2,14 +2,13 @@
 use Rattle.std.specs.Prelude.{◌≡◌, ◌⊎◌, ◌≤◌, ℕ, List, Option, Some, None, count_by}
 use Rattle.std.specs.Ordering.{is_le, is_lt}
 use Rattle.rbac_sets.specs.Sets.{Bytes, Pair, Pairs, Triple, Cardinality, members, name_cmp}
-use Rattle.rbac_sets.specs.Table.{number_of}
+use Rattle.rbac_sets.specs.Table.{number_of, relation_count}
 use Rattle.rbac_sets.specs.declared.table.Table.{Table}
 use Rattle.rbac_sets.specs.declared.table.Table.TheVariants.{Users, Roles, Objects, Permissions, Assignments, Inheritances, ClosurePairs, StaticMembers, DynamicMembers, Sessions, ActivatedRoles, Grants, StaticCardinalities, DynamicCardinalities, Locks}
-use Rattle.rbac_sets.specs.declared.table.TheConstants.Table.{COUNT}
 use Rattle.role_order.specs.Order.{IsClosure}
 use Rattle.admin_mgr.specs.RbacState.{RbacState}
 use Rattle.role_lines.specs.OfficeInMemory.{OfficeInMemory}
-use Rattle.rbac_c.specs.declared.calls.TheConstants.{DONE, CLOSED, ABSENT}
+use Rattle.rbac_c.specs.Results.{done, closed, absent}
 
 -- `start` rows have a lesser first name, and `end` rows have one that isn't greater: those with this one are from `start` on, up to the
 -- one before `end`
@@ -49,7 +48,7 @@ HasRange S Locks = IsRangeOfNames (members S.locked)
 
 -- the two numbers are written, or there is no such table
 abbrev pub FindsRange : Option OfficeInMemory → ℕ → List ℕ → ℕ → ℕ → ℕ → Type 0
-FindsRange None table first start end code = (start ≡ 0) × ((end ≡ 0) × (code ≡ CLOSED))
+FindsRange None table first start end code = (start ≡ 0) × ((end ≡ 0) × (code ≡ closed))
 FindsRange (Some office) table first start end code =
-    ((t : Table) × ((number_of t ≡ table) × ((code ≡ DONE) × HasRange office.facts t first start end)))
-    ⊎ ((start ≡ 0) × ((end ≡ 0) × ((code ≡ ABSENT) × (COUNT ≤ table))))
+    ((t : Table) × ((number_of t ≡ table) × ((code ≡ done) × HasRange office.facts t first start end)))
+    ⊎ ((start ≡ 0) × ((end ≡ 0) × ((code ≡ absent) × (relation_count ≤ table))))

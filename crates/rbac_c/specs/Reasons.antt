@@ -12,16 +12,37 @@ use Rattle.role_lines.specs.OfficeInMemory.{OfficeInMemory}
 use Rattle.role_lines.specs.StoredRow.{Parts, parts}
 use Rattle.rbac_c.specs.Calls.{Buffers, CopiesParts}
 use Rattle.rbac_c.specs.declared.calls.RowLengths.{RowLengths}
-use Rattle.rbac_c.specs.declared.calls.TheConstants.{CLOSED}
-use Rattle.rbac_c.specs.declared.explaining.TheConstants.{ALLOWED, LOCKED, NOT_GRANTED, NOT_AUTHORIZED, SEPARATED, NOT_ACTIVE}
+use Rattle.rbac_c.specs.Results.{closed}
+
+-- ---- the numbers of the reasons, those of a user's and of a session's together
+
+abbrev pub allowed : ℕ
+allowed = 1
+
+abbrev pub locked : ℕ
+locked = 2
+
+abbrev pub not_granted : ℕ
+not_granted = 3
+
+abbrev pub not_authorized : ℕ
+not_authorized = 4
+
+abbrev pub separated : ℕ
+separated = 5
+
+abbrev pub not_active : ℕ
+not_active = 6
+
+-- ---- about a user
 
 -- the names of a reason, and its number
 abbrev pub reason_parts : UserReasonContent → Parts
-reason_parts (AllowedContent assigned granted) = parts assigned granted [] ALLOWED
-reason_parts LockedContent = parts [] [] [] LOCKED
-reason_parts NotGrantedContent = parts [] [] [] NOT_GRANTED
-reason_parts NotAuthorizedContent = parts [] [] [] NOT_AUTHORIZED
-reason_parts (SeparatedContent role set) = parts role set [] SEPARATED
+reason_parts (AllowedContent assigned granted) = parts assigned granted [] allowed
+reason_parts LockedContent = parts [] [] [] locked
+reason_parts NotGrantedContent = parts [] [] [] not_granted
+reason_parts NotAuthorizedContent = parts [] [] [] not_authorized
+reason_parts (SeparatedContent role set) = parts role set [] separated
 
 -- the question isn't refused, and this is the reason
 pub record HasUserReason (S : RbacState) (user operation object : List ℕ) (reason : UserReasonContent) : Type 0 where
@@ -30,7 +51,7 @@ pub record HasUserReason (S : RbacState) (user operation object : List ℕ) (rea
 
 -- the reason is copied, or the question is refused
 abbrev pub ExplainsUser : Option OfficeInMemory → List ℕ → List ℕ → List ℕ → (before now : Buffers RowLengths) → ℕ → Type 0
-ExplainsUser None user operation object before now code = (code ≡ CLOSED) × (now ≡ before)
+ExplainsUser None user operation object before now code = (code ≡ closed) × (now ≡ before)
 ExplainsUser (Some office) user operation object before now code =
     ((reason : UserReasonContent) × (HasUserReason office.facts user operation object reason × CopiesParts (reason_parts reason) before now code))
     ⊎ ((refusal : Refusal) × (RefusesUser office.facts user operation object refusal × ((code ≡ code_of refusal) × (now ≡ before))))
@@ -39,9 +60,9 @@ ExplainsUser (Some office) user operation object before now code =
 
 -- the names of a reason, and its number
 abbrev pub session_reason_parts : SessionReasonContent → Parts
-session_reason_parts (ActiveContent active granted) = parts active granted [] ALLOWED
-session_reason_parts UngrantedContent = parts [] [] [] NOT_GRANTED
-session_reason_parts InactiveContent = parts [] [] [] NOT_ACTIVE
+session_reason_parts (ActiveContent active granted) = parts active granted [] allowed
+session_reason_parts UngrantedContent = parts [] [] [] not_granted
+session_reason_parts InactiveContent = parts [] [] [] not_active
 
 -- the question isn't refused, and this is the reason
 pub record HasSessionReason (S : RbacState) (session operation object : List ℕ) (reason : SessionReasonContent) : Type 0 where
@@ -50,7 +71,7 @@ pub record HasSessionReason (S : RbacState) (session operation object : List ℕ
 
 -- the reason is copied, or the question is refused
 abbrev pub ExplainsSession : Option OfficeInMemory → List ℕ → List ℕ → List ℕ → (before now : Buffers RowLengths) → ℕ → Type 0
-ExplainsSession None session operation object before now code = (code ≡ CLOSED) × (now ≡ before)
+ExplainsSession None session operation object before now code = (code ≡ closed) × (now ≡ before)
 ExplainsSession (Some office) session operation object before now code =
     ((reason : SessionReasonContent) × (HasSessionReason office.facts session operation object reason × CopiesParts (session_reason_parts reason) before now code))
     ⊎ ((refusal : Refusal) × (Refuses office.facts session operation object refusal × ((code ≡ code_of refusal) × (now ≡ before))))

@@ -4,6 +4,7 @@ ghost use base.Fml.{Lft, Share};
 ghost use types.Logic.{sem};
 ghost use Rattle.std.specs.Prelude.{◌≡◌, ◌⊎◌, ◌<◌, Some, None, IfOk, IfErr, length, take};
 ghost use Rattle.admin_mgr.specs.RbacState.{empty_state};
+ghost use Rattle.bit_tables.specs.Seed.{seed_with};
 ghost use Rattle.role_lines.specs.OfficeInMemory.{OfficeInMemory, starting};
 ghost use Rattle.role_lines.specs.contracts.office.MemoryOffice.{the_row};
 ghost use Rattle.role_lines.specs.StoredRow.{parts};
@@ -12,6 +13,7 @@ ghost use Rattle.rbac_c.specs.Conflicts.{CopiesActivation, CopiesAssignment, Cop
 ghost use Rattle.rbac_c.specs.Held.{reads};
 ghost use Rattle.rbac_c.specs.Range.{FindsRange};
 ghost use Rattle.rbac_c.specs.Reasons.{ExplainsSession, ExplainsUser};
+ghost use Rattle.rbac_c.specs.Results.{done, no_memory};
 
 use crate::conflicts::{copy_activation, copy_assignment, copy_creation, copy_inheritance};
 use crate::copying::{Rows, copy, copy_row, copy_rows};
@@ -61,8 +63,8 @@ pub extern "C" fn rbac_office_open(
     first: u64,
     second: u64,
 ) -> u32
-    ensures opened { result ≡ DONE → office.new.office ≡ Some (starting (empty_state 2) 0) }
-    ensures failed { (result ≡ DONE) ⊎ ((result ≡ MEMORY) × (office.new.office ≡ office.old.office)) }
+    ensures opened { result ≡ done → office.new.office ≡ Some (starting (empty_state 2) (seed_with first second) 0) }
+    ensures failed { (result ≡ done) ⊎ ((result ≡ no_memory) × (office.new.office ≡ office.old.office)) }
 {
     match Box::new(alloc, MemoryOffice::empty(alloc, Seed::new(first, second))) {
         Ok(made) => {
@@ -227,7 +229,7 @@ pub extern "C" fn rbac_office_assignment_conflicts(
     total: &mut usize,
 ) -> u32
     ensures keeps { office.new.office ≡ office.old.office }
-    ensures copies { CopiesAssignment office.old.office user.now role.now index (out.old, lengths.old) (out.new, lengths.new) count.new total.new result }
+    ensures copies { CopiesAssignment office.old.office user.now role.now index (out.old, lengths.old) (out.new, lengths.new) (record { count = count.new; total = total.new; code = result }) }
 {
     *count = 0;
     *total = 0;
@@ -260,7 +262,7 @@ pub extern "C" fn rbac_office_activation_conflicts(
     total: &mut usize,
 ) -> u32
     ensures keeps { office.new.office ≡ office.old.office }
-    ensures copies { CopiesActivation office.old.office user.now session.now role.now index (out.old, lengths.old) (out.new, lengths.new) count.new total.new result }
+    ensures copies { CopiesActivation office.old.office user.now session.now role.now index (out.old, lengths.old) (out.new, lengths.new) (record { count = count.new; total = total.new; code = result }) }
 {
     *count = 0;
     *total = 0;
@@ -293,7 +295,7 @@ pub extern "C" fn rbac_office_inheritance_conflicts(
     total: &mut usize,
 ) -> u32
     ensures keeps { office.new.office ≡ office.old.office }
-    ensures copies { CopiesInheritance office.old.office of_sessions asc.now desc.now index (out.old, lengths.old) (out.new, lengths.new) count.new total.new result }
+    ensures copies { CopiesInheritance office.old.office of_sessions asc.now desc.now index (out.old, lengths.old) (out.new, lengths.new) (record { count = count.new; total = total.new; code = result }) }
 {
     *count = 0;
     *total = 0;
@@ -336,7 +338,7 @@ pub extern "C" fn rbac_office_creation_conflicts(
     total: &mut usize,
 ) -> u32
     ensures keeps { office.new.office ≡ office.old.office }
-    ensures copies { CopiesCreation office.old.office user.now (divided roles.now role_lengths.now) index (out.old, lengths.old) (out.new, lengths.new) count.new total.new result }
+    ensures copies { CopiesCreation office.old.office user.now (divided roles.now role_lengths.now) index (out.old, lengths.old) (out.new, lengths.new) (record { count = count.new; total = total.new; code = result }) }
 {
     *count = 0;
     *total = 0;

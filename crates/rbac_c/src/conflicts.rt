@@ -29,7 +29,7 @@ pub(crate) fn copy_assignment(
     count: &mut usize,
     total: &mut usize,
 ) -> u32
-    ensures { CopiesAssignment (Some office.now) user.now role.now index (out.old, lengths.old) (out.new, lengths.new) count.new total.new result }
+    ensures { CopiesAssignment (Some office.now) user.now role.now index (out.old, lengths.old) (out.new, lengths.new) (record { count = count.new; total = total.new; code = result }) }
 {
     *count = 0;
     *total = 0;
@@ -52,7 +52,7 @@ pub(crate) fn copy_activation(
     count: &mut usize,
     total: &mut usize,
 ) -> u32
-    ensures { CopiesActivation (Some office.now) user.now session.now role.now index (out.old, lengths.old) (out.new, lengths.new) count.new total.new result }
+    ensures { CopiesActivation (Some office.now) user.now session.now role.now index (out.old, lengths.old) (out.new, lengths.new) (record { count = count.new; total = total.new; code = result }) }
 {
     *count = 0;
     *total = 0;
@@ -75,7 +75,7 @@ pub(crate) fn copy_inheritance(
     count: &mut usize,
     total: &mut usize,
 ) -> u32
-    ensures { CopiesInheritance (Some office.now) of_sessions asc.now desc.now index (out.old, lengths.old) (out.new, lengths.new) count.new total.new result }
+    ensures { CopiesInheritance (Some office.now) of_sessions asc.now desc.now index (out.old, lengths.old) (out.new, lengths.new) (record { count = count.new; total = total.new; code = result }) }
 {
     *count = 0;
     *total = 0;
@@ -98,7 +98,7 @@ pub(crate) fn copy_creation(
     count: &mut usize,
     total: &mut usize,
 ) -> u32
-    ensures { CopiesCreation (Some office.now) user.now (divided roles.now role_lengths.now) index (out.old, lengths.old) (out.new, lengths.new) count.new total.new result }
+    ensures { CopiesCreation (Some office.now) user.now (divided roles.now role_lengths.now) index (out.old, lengths.old) (out.new, lengths.new) (record { count = count.new; total = total.new; code = result }) }
 {
     *count = 0;
     *total = 0;
@@ -117,7 +117,7 @@ fn copy_names(
     count: &mut usize,
     total: &mut usize,
 ) -> u32
-    ensures { (result ≡ DONE) × CopiesNames names.now index (out.old, lengths.old) (out.new, lengths.new) count.new total.new }
+    ensures { CopiesNames names.now index (out.old, lengths.old) (out.new, lengths.new) (record { count = count.new; total = total.new; code = result }) }
 {
     *count = copy_rows(Rows::Names(names), index, out, lengths);
     *total = names.len();
@@ -133,7 +133,7 @@ fn copy_pairs(
     count: &mut usize,
     total: &mut usize,
 ) -> u32
-    ensures { (result ≡ DONE) × CopiesPairs pairs.now index (out.old, lengths.old) (out.new, lengths.new) count.new total.new }
+    ensures { CopiesPairs pairs.now index (out.old, lengths.old) (out.new, lengths.new) (record { count = count.new; total = total.new; code = result }) }
 {
     *count = copy_rows(Rows::Pairs(pairs), index, out, lengths);
     *total = pairs.len();

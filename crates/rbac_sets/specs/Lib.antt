@@ -4,6 +4,7 @@ pub mod Name
 pub mod NameOrder
 pub mod Named
 pub mod Refusal
+pub mod RowKinds
 pub mod SetRemoval
 pub mod Sets
 pub mod SortedSet

@@ -2,31 +2,31 @@
 use Rattle.std.specs.Prelude.{ℕ, Bool, false, Option, Some, None, nat_eq, if◌then◌else◌}
 use Rattle.rbac_sets.specs.declared.row.Row.{Row}
 use Rattle.rbac_sets.specs.declared.row.Row.TheVariants.{NameRow, PairRow, GrantRow, SetRow, LockedRow}
-use Rattle.rbac_sets.specs.declared.row.TheConstants.Row.{USER, ROLE, OBJECT, PERMISSION, ASSIGNMENT, INHERITANCE, CLOSURE_PAIR, STATIC_MEMBER, DYNAMIC_MEMBER, SESSION, ACTIVATED_ROLE, STATIC_CARDINALITY, DYNAMIC_CARDINALITY}
+use Rattle.rbac_sets.specs.RowKinds.{user_kind, role_kind, object_kind, permission_kind, assignment_kind, inheritance_kind, closure_pair_kind, static_member_kind, dynamic_member_kind, session_kind, activated_role_kind, static_cardinality_kind, dynamic_cardinality_kind}
 use Rattle.rbac_sets.specs.declared.table.Table.{Table}
 use Rattle.rbac_sets.specs.declared.table.Table.TheVariants.{Users, Roles, Objects, Permissions, Assignments, Inheritances, ClosurePairs, StaticMembers, DynamicMembers, Sessions, ActivatedRoles, Grants, StaticCardinalities, DynamicCardinalities, Locks}
 
 -- the relation that a row belongs to, if there is one of its kind
 abbrev pub table_of : Row → Option Table
 table_of (NameRow kind name) =
-    if nat_eq kind USER then Some Users
-    else if nat_eq kind ROLE then Some Roles
-    else if nat_eq kind OBJECT then Some Objects
+    if nat_eq kind user_kind then Some Users
+    else if nat_eq kind role_kind then Some Roles
+    else if nat_eq kind object_kind then Some Objects
     else None
 table_of (PairRow kind a b) =
-    if nat_eq kind PERMISSION then Some Permissions
-    else if nat_eq kind ASSIGNMENT then Some Assignments
-    else if nat_eq kind INHERITANCE then Some Inheritances
-    else if nat_eq kind CLOSURE_PAIR then Some ClosurePairs
-    else if nat_eq kind STATIC_MEMBER then Some StaticMembers
-    else if nat_eq kind DYNAMIC_MEMBER then Some DynamicMembers
-    else if nat_eq kind SESSION then Some Sessions
-    else if nat_eq kind ACTIVATED_ROLE then Some ActivatedRoles
+    if nat_eq kind permission_kind then Some Permissions
+    else if nat_eq kind assignment_kind then Some Assignments
+    else if nat_eq kind inheritance_kind then Some Inheritances
+    else if nat_eq kind closure_pair_kind then Some ClosurePairs
+    else if nat_eq kind static_member_kind then Some StaticMembers
+    else if nat_eq kind dynamic_member_kind then Some DynamicMembers
+    else if nat_eq kind session_kind then Some Sessions
+    else if nat_eq kind activated_role_kind then Some ActivatedRoles
     else None
 table_of (GrantRow object operation role) = Some Grants
 table_of (SetRow kind set cardinality) =
-    if nat_eq kind STATIC_CARDINALITY then Some StaticCardinalities
-    else if nat_eq kind DYNAMIC_CARDINALITY then Some DynamicCardinalities
+    if nat_eq kind static_cardinality_kind then Some StaticCardinalities
+    else if nat_eq kind dynamic_cardinality_kind then Some DynamicCardinalities
     else None
 table_of (LockedRow user) = Some Locks
 
@@ -47,6 +47,10 @@ number_of Grants = 11
 number_of StaticCardinalities = 12
 number_of DynamicCardinalities = 13
 number_of Locks = 14
+
+-- how many relations there are
+abbrev pub relation_count : ℕ
+relation_count = 15
 
 -- whether it is the relation of this number
 abbrev pub is_number : ℕ → Option Table → Bool

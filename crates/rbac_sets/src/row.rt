@@ -2,6 +2,7 @@
 ghost use Rattle.std.specs.Prelude.{◌≡◌, true};
 ghost use Rattle.rbac_sets.specs.declared.row.Row.TheVariants.{NameRow, PairRow, GrantRow, SetRow, LockedRow};
 ghost use Rattle.rbac_sets.specs.Named.{is_named, row_of};
+ghost use Rattle.rbac_sets.specs.RowKinds.{activated_role_kind, assignment_kind, object_kind, permission_kind, role_kind, session_kind, user_kind};
 ghost use Rattle.rbac_sets.specs.Table.{table_of};
 
 use crate::name::Name;
@@ -89,49 +90,49 @@ impl Row {
 
     /// The row of a user.
     pub fn user(name: Name) -> Row
-        ensures { result ≡ NameRow Row.USER name }
+        ensures { result ≡ NameRow user_kind name }
     {
         Row::NameRow(Row::USER, name)
     }
 
     /// The row of a role.
     pub fn role(name: Name) -> Row
-        ensures { result ≡ NameRow Row.ROLE name }
+        ensures { result ≡ NameRow role_kind name }
     {
         Row::NameRow(Row::ROLE, name)
     }
 
     /// The row of an object.
     pub fn object(name: Name) -> Row
-        ensures { result ≡ NameRow Row.OBJECT name }
+        ensures { result ≡ NameRow object_kind name }
     {
         Row::NameRow(Row::OBJECT, name)
     }
 
     /// The row of the permission to do `operation` on `object`.
     pub fn permission(object: Name, operation: Name) -> Row
-        ensures { result ≡ PairRow Row.PERMISSION object operation }
+        ensures { result ≡ PairRow permission_kind object operation }
     {
         Row::PairRow(Row::PERMISSION, object, operation)
     }
 
     /// The row of the assignment of `user` to `role`.
     pub fn assignment(user: Name, role: Name) -> Row
-        ensures { result ≡ PairRow Row.ASSIGNMENT user role }
+        ensures { result ≡ PairRow assignment_kind user role }
     {
         Row::PairRow(Row::ASSIGNMENT, user, role)
     }
 
     /// The row of the session `session` of `user`.
     pub fn session(session: Name, user: Name) -> Row
-        ensures { result ≡ PairRow Row.SESSION session user }
+        ensures { result ≡ PairRow session_kind session user }
     {
         Row::PairRow(Row::SESSION, session, user)
     }
 
     /// The row of the role `role` that was activated in `session`.
     pub fn activated_role(session: Name, role: Name) -> Row
-        ensures { result ≡ PairRow Row.ACTIVATED_ROLE session role }
+        ensures { result ≡ PairRow activated_role_kind session role }
     {
         Row::PairRow(Row::ACTIVATED_ROLE, session, role)
     }

@@ -1,6 +1,6 @@
 //! The relations of an office.
 ghost use Rattle.std.specs.Prelude.{◌≡◌, ◌<◌};
-ghost use Rattle.rbac_sets.specs.Table.{number_of};
+ghost use Rattle.rbac_sets.specs.Table.{number_of, relation_count};
 
 /// A relation of an office.
 #[derive(Clone, Copy, Debug, PartialEq, Eq)]
@@ -44,7 +44,7 @@ impl Table {
     /// The number of the relation in the order above, from 0.
     pub fn number(self) -> usize
         ensures number { result ≡ number_of self }
-        ensures below { result < Table.COUNT }
+        ensures below { result < relation_count }
     {
         self as usize
     }

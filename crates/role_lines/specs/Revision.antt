@@ -5,11 +5,14 @@ use Rattle.admin_mgr.specs.RbacState.{RbacState}
 use Rattle.admin_mgr.specs.CommandContent.{content_verdict}
 use Rattle.role_json.specs.Request.{request}
 use Rattle.role_json.specs.RequestContent.{RequestContent, Change, Ask}
-use Rattle.role_lines.specs.declared.answering.TheConstants.{LAST_REVISION}
 
--- one more, unless it is the greatest of 64 bits
+-- the greatest number of 64 bits
+abbrev pub last_revision : ℕ
+last_revision = 18446744073709551615
+
+-- one more, unless it is the last
 abbrev pub next_revision : ℕ → ℕ
-next_revision n = if nat_lt n LAST_REVISION then n + 1 else n
+next_revision n = if nat_lt n last_revision then n + 1 else n
 
 -- the revision after a request in this state
 unfoldable pub revision_after : RbacState → RequestContent → ℕ → ℕ

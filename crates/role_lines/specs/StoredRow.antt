@@ -3,7 +3,7 @@ use Rattle.std.specs.Prelude.{◌≡◌, ℕ, List, [], ◌++◌, Option, option
 use Rattle.rbac_sets.specs.Sets.{Bytes, Pair, Pairs, Triple, Cardinality, members}
 use Rattle.rbac_sets.specs.declared.row.Row.{Row}
 use Rattle.rbac_sets.specs.declared.row.Row.TheVariants.{NameRow, PairRow, GrantRow, SetRow, LockedRow}
-use Rattle.rbac_sets.specs.declared.row.TheConstants.Row.{USER, ROLE, OBJECT, PERMISSION, ASSIGNMENT, INHERITANCE, CLOSURE_PAIR, STATIC_MEMBER, DYNAMIC_MEMBER, SESSION, ACTIVATED_ROLE, STATIC_CARDINALITY, DYNAMIC_CARDINALITY}
+use Rattle.rbac_sets.specs.RowKinds.{user_kind, role_kind, object_kind, permission_kind, assignment_kind, inheritance_kind, closure_pair_kind, static_member_kind, dynamic_member_kind, session_kind, activated_role_kind, static_cardinality_kind, dynamic_cardinality_kind}
 use Rattle.rbac_sets.specs.declared.table.Table.{Table}
 use Rattle.rbac_sets.specs.declared.table.Table.TheVariants.{Users, Roles, Objects, Permissions, Assignments, Inheritances, ClosurePairs, StaticMembers, DynamicMembers, Sessions, ActivatedRoles, Grants, StaticCardinalities, DynamicCardinalities, Locks}
 use Rattle.role_order.specs.Order.{IsClosure}
@@ -73,20 +73,20 @@ IsRowAt S Locks index row = row ≡ name_at (members S.locked) index
 -- ---- the row with these parts
 
 abbrev pub row_with : Table → Parts → Row
-row_with Users parts = NameRow USER parts.first
-row_with Roles parts = NameRow ROLE parts.first
-row_with Objects parts = NameRow OBJECT parts.first
-row_with Permissions parts = PairRow PERMISSION parts.first parts.second
-row_with Assignments parts = PairRow ASSIGNMENT parts.first parts.second
-row_with Inheritances parts = PairRow INHERITANCE parts.first parts.second
-row_with ClosurePairs parts = PairRow CLOSURE_PAIR parts.first parts.second
-row_with StaticMembers parts = PairRow STATIC_MEMBER parts.first parts.second
-row_with DynamicMembers parts = PairRow DYNAMIC_MEMBER parts.first parts.second
-row_with Sessions parts = PairRow SESSION parts.first parts.second
-row_with ActivatedRoles parts = PairRow ACTIVATED_ROLE parts.first parts.second
+row_with Users parts = NameRow user_kind parts.first
+row_with Roles parts = NameRow role_kind parts.first
+row_with Objects parts = NameRow object_kind parts.first
+row_with Permissions parts = PairRow permission_kind parts.first parts.second
+row_with Assignments parts = PairRow assignment_kind parts.first parts.second
+row_with Inheritances parts = PairRow inheritance_kind parts.first parts.second
+row_with ClosurePairs parts = PairRow closure_pair_kind parts.first parts.second
+row_with StaticMembers parts = PairRow static_member_kind parts.first parts.second
+row_with DynamicMembers parts = PairRow dynamic_member_kind parts.first parts.second
+row_with Sessions parts = PairRow session_kind parts.first parts.second
+row_with ActivatedRoles parts = PairRow activated_role_kind parts.first parts.second
 row_with Grants parts = GrantRow parts.first parts.second parts.third
-row_with StaticCardinalities parts = SetRow STATIC_CARDINALITY parts.first parts.number
-row_with DynamicCardinalities parts = SetRow DYNAMIC_CARDINALITY parts.first parts.number
+row_with StaticCardinalities parts = SetRow static_cardinality_kind parts.first parts.number
+row_with DynamicCardinalities parts = SetRow dynamic_cardinality_kind parts.first parts.number
 row_with Locks parts = LockedRow parts.first
 
 -- each of its names is one

@@ -27,6 +27,7 @@ pub(crate) fn line_verdict(
 ) -> Result<Verdict, Refusal>
     ensures answered { IfOk result (λ verdict. AnswersLine state.old.facts revision.old line.now (text_of verdict) state.new.facts revision.new) }
     ensures stopped { IfErr result (λ refusal. HadNoMemory state.old.facts revision.old refusal state.new.facts revision.new) }
+    ensures seed { state.new.seed ≡ state.old.seed }
 {
     match read_request(alloc, line) {
         Ok(request) => request_verdict(alloc, state, revision, &request),
@@ -43,6 +44,7 @@ fn request_verdict(
 ) -> Result<Verdict, Refusal>
     ensures answered { IfOk result (λ verdict. AnswersRequest state.old.facts revision.old (requested request.now) (text_of verdict) state.new.facts revision.new) }
     ensures stopped { IfErr result (λ refusal. HadNoMemory state.old.facts revision.old refusal state.new.facts revision.new) }
+    ensures seed { state.new.seed ≡ state.old.seed }
 {
     match perform(alloc, state, revision, request) {
         Ok(verdict) => Ok(verdict),
@@ -70,6 +72,7 @@ fn perform(
 ) -> Result<Verdict, Refusal>
     ensures done { IfOk result (λ verdict. DoesRequest state.old.facts revision.old (requested request.now) (text_of verdict) state.new.facts revision.new) }
     ensures declined { IfErr result (λ refusal. RefusesRequest state.old.facts revision.old (requested request.now) refusal state.new.facts revision.new) }
+    ensures seed { state.new.seed ≡ state.old.seed }
 {
     match request {
         Request::Change(command) => change(alloc, state, revision, command),
@@ -100,6 +103,7 @@ fn change(
 ) -> Result<Verdict, Refusal>
     ensures done { IfOk result (λ verdict. DoesRequest state.old.facts revision.old (Change (content_of command.now)) (text_of verdict) state.new.facts revision.new) }
     ensures declined { IfErr result (λ refusal. RefusesRequest state.old.facts revision.old (Change (content_of command.now)) refusal state.new.facts revision.new) }
+    ensures seed { state.new.seed ≡ state.old.seed }
 {
     let plan = state.plan(alloc, command)?;
     state.make_room(&plan)?;

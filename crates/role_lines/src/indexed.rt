@@ -6,8 +6,10 @@ ghost use Rattle.admin_mgr.specs.PlanEffect.{HasRoomFor, IsPlanOf, LeadsTo};
 ghost use Rattle.admin_mgr.specs.RbacState.{RbacState, empty_state};
 ghost use Rattle.admin_mgr.specs.RowChecks.{IsStateOf, RefusesRows};
 ghost use Rattle.admin_mgr.specs.Verdict.{verdict};
-ghost use Rattle.access_index.specs.Index.{Indexes};
+ghost use Rattle.bit_tables.specs.declared.seed.Seed.{Seed as Secret};
+ghost use Rattle.access_index.specs.Index.{Indexes, IsSeeded};
 ghost use Rattle.role_lines.specs.Decision.{Decides, DecidesUser, Refuses, RefusesUser};
+ghost use Rattle.role_lines.specs.StateWithSeed.{without_seed};
 
 use crate::deciding::{decide, decide_for_user};
 use access_index::AccessIndex;
@@ -19,35 +21,38 @@ use std::marker::Model;
 
 /// A state with an index, by which decisions are found in a time that doesn't depend on the state's size. If an allocation
 /// fails while the index follows a change, there is none from then on, and decisions are made by the state alone. In
-/// contracts it is the state.
+/// contracts it is the state, with the secret by which the index finds names.
 #[derive(Drop)]
 pub struct IndexedState {
     state: State,
     index: Option<AccessIndex>,
+    seed: Seed,
 }
 
 impl Model for IndexedState {
     ghost use Rattle.std.specs.Prelude.{IfSome};
-    ghost use Rattle.admin_mgr.specs.StateWithRoom.{StateWithRoom, coded_state_with_room};
-    ghost use Rattle.access_index.specs.Index.{Indexes};
+    ghost use Rattle.access_index.specs.Index.{Indexes, IsSeeded};
+    ghost use Rattle.role_lines.specs.StateWithSeed.{StateWithSeed, coded_state_with_seed, with_seed};
 
-    ghost Value = { StateWithRoom };
+    ghost Value = { StateWithSeed };
 
-    ghost coded = { coded_state_with_room };
+    ghost coded = { coded_state_with_seed };
 
-    ghost view = { λ indexed. indexed.state };
+    ghost view = { λ indexed. with_seed indexed.state indexed.seed };
 
-    ghost invariant = { λ indexed. IfSome indexed.index (λ index. Indexes index indexed.state.facts) };
+    ghost invariant = { λ indexed. IfSome indexed.index (λ index. Indexes index indexed.state.facts × IsSeeded index indexed.seed) };
 }
 
 impl IndexedState {
     /// The state of a new office of version 2. It doesn't allocate.
     pub fn empty(alloc: Global, seed: Seed) -> IndexedState
-        ensures { result.facts ≡ empty_state 2 }
+        ensures state { result.facts ≡ empty_state 2 }
+        ensures seed { result.seed ≡ seed }
     {
         IndexedState {
             state: State::empty(alloc),
             index: Some(AccessIndex::empty(alloc, seed)),
+            seed,
         }
     }
 
@@ -64,19 +69,27 @@ impl IndexedState {
     ) -> Result<IndexedState, Refusal>
         requires { (version ≡ 1) ⊎ (version ≡ 2) }
         ensures ok { IfOk result (λ state. IsStateOf version rows.items state.facts) }
+        ensures seed { IfOk result (λ state. state.seed ≡ seed) }
         ensures err { IfErr result (λ refusal. RefusesRows version rows.items refusal) }
     {
         let mut index = AccessIndex::of_rows(alloc, seed, &rows).ok();
         let state = State::of_rows(alloc, version, rows)?;
         find_barred(&mut index, alloc, &state);
-        Ok(IndexedState { state, index })
+        Ok(IndexedState { state, index, seed })
     }
 
     /// The state alone.
     pub fn state(&self) -> &State
-        ensures { result.now ≡ self.now }
+        ensures { result.now ≡ without_seed self.now }
     {
         &self.state
+    }
+
+    /// The secret by which the index finds names.
+    pub fn seed(&self) -> Seed
+        ensures { result ≡ self.now.seed }
+    {
+        self.seed
     }
 
     /// The plan of a command, as `State::plan` makes it.
@@ -99,7 +112,8 @@ impl IndexedState {
     /// `Memory` if an allocation failed.
     pub fn make_room(&mut self, plan: &Plan) -> Result<(), Refusal>
         ensures keeps { self.new.facts ≡ self.old.facts }
-        ensures room { OnOk result (HasRoomFor self.new plan.now) }
+        ensures seed { self.new.seed ≡ self.old.seed }
+        ensures room { OnOk result (HasRoomFor (without_seed self.new) plan.now) }
         ensures cause { IfErr result (λ refusal. refusal ≡ Refusal.Memory) }
     {
         self.state.make_room(plan)
@@ -108,8 +122,9 @@ impl IndexedState {
     /// Makes the changes of a plan, as `State::commit` does, and has the index follow them.
     pub fn commit(&mut self, alloc: Global, plan: Plan) -> Report
         requires planned { (T : RbacState) × LeadsTo self.old.facts plan T }
-        requires room { HasRoomFor self.old plan }
+        requires room { HasRoomFor (without_seed self.old) plan }
         ensures state { (T : RbacState) → LeadsTo self.old.facts plan T → self.new.facts ≡ T }
+        ensures seed { self.new.seed ≡ self.old.seed }
         ensures report { result ≡ plan.report }
     {
         follow(&mut self.index, alloc, plan.changes());
@@ -208,7 +223,8 @@ impl IndexedState {
 // Finds for the index which roles of the state are barred, if there is an index.
 fn find_barred(index: &mut Option<AccessIndex>, alloc: Global, state: &State)
     requires { IfSome index.old (λ old. Indexes old state.now.facts) }
-    ensures { IfSome index.new (λ new. Indexes new state.now.facts) }
+    ensures indexes { IfSome index.new (λ new. Indexes new state.now.facts) }
+    ensures seeded { (seed : Secret) → IfSome index.old (λ old. IsSeeded old seed) → IfSome index.new (λ new. IsSeeded new seed) }
 {
     if let Some(known) = index {
         known.find_barred(alloc, state);
@@ -218,7 +234,8 @@ fn find_barred(index: &mut Option<AccessIndex>, alloc: Global, state: &State)
 // Has the index follow the changes, if there is one. If an allocation fails, there is none from then on.
 fn follow(index: &mut Option<AccessIndex>, alloc: Global, changes: &[Change])
     requires { IfSome index.old (λ old. (S : RbacState) × Indexes old S) }
-    ensures { (S T : RbacState) → IfSome index.old (λ old. Indexes old S) → Turns S changes.now T → IsGood T → IfSome index.new (λ new. Indexes new T) }
+    ensures indexes { (S T : RbacState) → IfSome index.old (λ old. Indexes old S) → Turns S changes.now T → IsGood T → IfSome index.new (λ new. Indexes new T) }
+    ensures seeded { (seed : Secret) → IfSome index.old (λ old. IsSeeded old seed) → IfSome index.new (λ new. IsSeeded new seed) }
 {
     let Some(known) = index else {
         return;

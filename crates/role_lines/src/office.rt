@@ -19,7 +19,6 @@ use std::mem::replace;
 #[derive(Drop)]
 pub struct MemoryOffice {
     state: IndexedState,
-    seed: Seed,
     revision: u64,
     kept: String,
     rows: Vec<Row>,
@@ -33,7 +32,7 @@ impl Model for MemoryOffice {
 
     ghost coded = { coded_office };
 
-    ghost view = { λ office. record { facts = office.state.facts; revision = office.revision; kept = string_bytes office.kept; rows = office.rows.items } };
+    ghost view = { λ office. record { facts = office.state.facts; seed = office.state.seed; revision = office.revision; kept = string_bytes office.kept; rows = office.rows.items } };
 }
 
 impl MemoryOffice {
@@ -41,11 +40,10 @@ impl MemoryOffice {
     ///
     /// The seed should be random: names are hashed by it for decisions.
     pub fn empty(alloc: Global, seed: Seed) -> MemoryOffice
-        ensures { result ≡ starting (empty_state 2) 0 }
+        ensures { result ≡ starting (empty_state 2) seed 0 }
     {
         MemoryOffice {
             state: IndexedState::empty(alloc, seed),
-            seed,
             revision: 0,
             kept: String::new(alloc),
             rows: Vec::new(alloc),
@@ -144,11 +142,11 @@ impl MemoryOffice {
     ///
     /// Those of `State::of_rows`. The state stays the same then.
     pub fn load(&mut self, alloc: Global, revision: u64) -> Result<(), Refusal>
-        ensures ok { OnOk result ((self.new ≡ starting self.new.facts revision) × IsStateOf 2 self.old.rows self.new.facts) }
+        ensures ok { OnOk result ((self.new ≡ starting self.new.facts self.old.seed revision) × IsStateOf 2 self.old.rows self.new.facts) }
         ensures err { IfErr result (λ refusal. (self.new ≡ without_rows self.old) × RefusesRows 2 self.old.rows refusal) }
     {
         let rows = replace(&mut self.rows, Vec::new(alloc));
-        let state = IndexedState::of_rows(alloc, self.seed, 2, rows)?;
+        let state = IndexedState::of_rows(alloc, self.state.seed(), 2, rows)?;
         self.state = state;
         self.revision = revision;
         self.kept = String::new(alloc);

@@ -1,6 +1,6 @@
 //! The rows of an office by their parts, to save an office and to load it again.
 ghost use Rattle.std.specs.Prelude.{◌≡◌, ◌⊎◌, ◌≤◌, IfOk, IfErr, IfSome, IfNone, option_map};
-ghost use Rattle.rbac_sets.specs.Table.{number_of};
+ghost use Rattle.rbac_sets.specs.Table.{number_of, relation_count};
 ghost use Rattle.role_lines.specs.StoredRow.{HasNames, IsRowAt, cardinality_at, name_at, pair_at, parts, row_with, triple_at};
 ghost use Rattle.role_lines.specs.Decision.{IsNameText};
 ghost use Rattle.role_lines.specs.RowParts.{parts_of};
@@ -102,7 +102,7 @@ fn cardinality_at(entries: &[(Name, u32)], index: usize) -> Option<RowParts<'_>>
 /// The table with this number, or `None` if there are fewer.
 pub fn table_numbered(number: u32) -> Option<Table>
     ensures some { IfSome result (λ table. number_of table ≡ number) }
-    ensures none { IfNone result (Table.COUNT ≤ number) }
+    ensures none { IfNone result (relation_count ≤ number) }
 {
     match number {
         0 => Some(Table::Users),

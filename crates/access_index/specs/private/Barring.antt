@@ -5,7 +5,7 @@ use Rattle.bit_rows.specs.Rows.{has}
 use Rattle.rbac_sets.specs.Sets.{Bytes, Pair, same_name}
 use Rattle.rbac_sets.specs.declared.row.Row.{Row}
 use Rattle.rbac_sets.specs.declared.row.Row.TheVariants.{PairRow, SetRow}
-use Rattle.rbac_sets.specs.declared.row.TheConstants.Row.{CLOSURE_PAIR, DYNAMIC_MEMBER, DYNAMIC_CARDINALITY}
+use Rattle.rbac_sets.specs.RowKinds.{closure_pair_kind, dynamic_member_kind, dynamic_cardinality_kind}
 use Rattle.rbac_sets.specs.declared.row.Change.{Change}
 use Rattle.rbac_sets.specs.declared.row.Change.TheVariants.{Put, Take}
 use Rattle.admin_mgr.specs.RbacState.{RbacState}
@@ -34,19 +34,19 @@ at_least levels (suc level) n = is_below levels level n
 
 -- whether the row is a closure pair
 abbrev pub is_of_closure : Row → Bool
-is_of_closure (PairRow kind a b) = nat_eq kind CLOSURE_PAIR
+is_of_closure (PairRow kind a b) = nat_eq kind closure_pair_kind
 is_of_closure _ = false
 
 -- whether the row is a closure pair, or one of a dynamic separation of duty set
 abbrev pub can_bar : Row → Bool
-can_bar (PairRow kind a b) = nat_eq kind CLOSURE_PAIR || nat_eq kind DYNAMIC_MEMBER
-can_bar (SetRow kind a n) = nat_eq kind DYNAMIC_CARDINALITY
+can_bar (PairRow kind a b) = nat_eq kind closure_pair_kind || nat_eq kind dynamic_member_kind
+can_bar (SetRow kind a n) = nat_eq kind dynamic_cardinality_kind
 can_bar _ = false
 
 -- whether the row is a closure pair, or one of the dynamic separation of duty set of this name
 abbrev pub can_bar_by : Bytes → Row → Bool
-can_bar_by set (PairRow kind a b) = nat_eq kind CLOSURE_PAIR || (nat_eq kind DYNAMIC_MEMBER && same_name a set)
-can_bar_by set (SetRow kind a n) = nat_eq kind DYNAMIC_CARDINALITY && same_name a set
+can_bar_by set (PairRow kind a b) = nat_eq kind closure_pair_kind || (nat_eq kind dynamic_member_kind && same_name a set)
+can_bar_by set (SetRow kind a n) = nat_eq kind dynamic_cardinality_kind && same_name a set
 can_bar_by set _ = false
 
 -- the second index knows which roles a set bars only if the first does, and the set isn't one of these

@@ -6,6 +6,7 @@ use Rattle.access_index.specs.private.Changing.{rows_after}
 use Rattle.access_index.proofs.BarLaws.{alone_without_juniors, unbarred_without_juniors}
 use Rattle.access_index.proofs.IndexLaws.{keeps_same}
 use Rattle.access_index.proofs.PlanLaws.{barred_after, barred_by_after, no_junior, nowhere, rows_of_plan, taken_gone}
+use Rattle.access_index.proofs.SeedLaws.{seeds_again}
 use Rattle.access_index.proofs.index.AccessIndex.follow.Goals as goal
 
 pub change_bits-requires : goal.change_bits-requires
@@ -29,3 +30,10 @@ returns-clause-ok c S T indexes turns good =
 pub returns-clause-freed : goal.returns-clause-freed
 returns-clause-freed c role taken =
     ap (λ index. number_of index role) c.count_changed.ensures.rest ∙ ap (λ index. number_of index role) c.count_users.ensures.rest ∙ c.free_numbers.ensures.freed role taken
+
+pub returns-clause-seeds : goal.returns-clause-seeds
+returns-clause-seeds c =
+    seeds_again c.count_users.new.self c.count_changed.new.self c.count_changed.ensures.rest c.count_changed.ensures.seed
+    ∙ seeds_again c.free_numbers.new.self c.count_users.new.self c.count_users.ensures.rest c.count_users.ensures.seed
+    ∙ c.free_numbers.ensures.seeds ∙ c.change_bits.ensures.seeds
+    ∙ seeds_again c.forget_barred.new.self c.take_authorized-users.new.self c.take_authorized-users.ensures.rest c.take_authorized-users.ensures.seed ∙ c.forget_barred.ensures.seeds

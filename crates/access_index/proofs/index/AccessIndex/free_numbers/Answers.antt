@@ -1,4 +1,4 @@
-use Rattle.std.proofs.Common.{◌≡◌, inl, inr, sym, ◌∙◌, ap}
+use Rattle.std.proofs.Common.{◌≡◌, inl, inr, refl, sym, ◌∙◌, ap}
 use Rattle.rbac_sets.specs.declared.row.Row.TheVariants.{NameRow}
 use Rattle.rbac_sets.specs.declared.row.TheConstants.Row.{ROLE}
 use Rattle.rbac_sets.specs.declared.row.Change.TheVariants.{Take}
@@ -8,7 +8,7 @@ use Rattle.access_index.proofs.index.AccessIndex.free_numbers.Goals as goal
 use Rattle.access_index.proofs.index.AccessIndex.free_numbers.Goals.{in-Some, in_default}
 
 pub loop-change-init : goal.loop-change-init
-loop-change-init c = (c.requires, λ rows keeps _. keeps, λ role taken. absurd (none_taken (NameRow ROLE role) taken))
+loop-change-init c = (c.requires, λ rows keeps _. keeps, λ role taken. absurd (none_taken (NameRow ROLE role) taken), refl)
 
 pub loop-change-preserved : goal.loop-change-preserved
 loop-change-preserved c =
@@ -26,6 +26,7 @@ loop-change-preserved c =
               | inl here ↦ ap (number_of w.free.new.self) (role-is role w.in-Some.role.now (sym here ∙ taken)) ∙ w.free.ensures.freed
               | inr earlier ↦ w.free.ensures.others role (before.2 role earlier)
             ],
+            w.free.ensures.seeds ∙ before.3,
           )
       | in_default w ↦
           rw w.self-is (
@@ -35,5 +36,6 @@ loop-change-preserved c =
               | inl here ↦ absurd (w.in_default.ensures.none role here)
               | inr earlier ↦ before.2 role earlier
             ],
+            before.3,
           )
     ]
