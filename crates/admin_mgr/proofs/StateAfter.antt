@@ -6,6 +6,7 @@ pub mod EndLaws
 pub mod GoodAssignment
 pub mod GoodInheritance
 pub mod GoodWithLaws
+pub mod LessAccess
 pub mod LimitLaws
 pub mod MigratedLaws
 pub mod NamedLaws

@@ -1,16 +1,17 @@
 -- Worked examples, computed from the definitions.
 use Rattle.std.proofs.Common.{◌≡◌, Bool, true, false, List, [], ◌∷◌, refl, ap}
-use Rattle.std.specs.Prelude.{Some, None, codes, pos}
+use Rattle.std.specs.Prelude.{Some, None, codes, pos, is_none}
 use Rattle.std.specs.List.{list_any, list_all, filter}
-use Rattle.rbac_sets.specs.Sets.{empty, Bytes, Pairs, Cardinality, cardinality_cmp, from_list, seconds, members, retain, any, all}
+use Rattle.rbac_sets.specs.Sets.{empty, contains, Bytes, Pairs, Cardinality, cardinality_cmp, from_list, seconds, members, retain, any, all}
 use Rattle.rbac_sets.specs.SortedSet.{Stored}
 use Rattle.rbac_sets.specs.NameOrder.{cardinality_total, cardinality_exact}
 use Rattle.rbac_sets.proofs.Evaluation.{evaluated, ordered, members-from_list, any-from_list, all-from_list, retain-from_list}
-use Rattle.rbac_sets.specs.declared.command.Command.TheVariants.{AddInheritance, AssignUser, CreateSession, AddActiveRole, DeassignUser, LockUserAccount, AddAscendant, AddPermObj, AddPermission, AddRole, AddSsdRoleMember, AddUser, CreateSsdSet, DeleteInheritance, DeletePermObj, DeletePermission, DeleteRole, DeleteSession, DeleteSsdRoleMember, DeleteSsdSet, DropActiveRole, GrantPermission, RevokePermission, SetSsdSetCardinality}
+use Rattle.rbac_sets.specs.declared.command.Command.TheVariants.{AddInheritance, AssignUser, CreateSession, AddActiveRole, DeassignUser, LockUserAccount, AddAscendant, AddPermObj, AddPermission, AddRole, AddSsdRoleMember, AddUser, CreateSsdSet, DeleteInheritance, DeleteUser, DeleteDsdRoleMember, DeleteDsdSet, SetDsdSetCardinality, DeletePermObj, DeletePermission, DeleteRole, DeleteSession, DeleteSsdRoleMember, DeleteSsdSet, DropActiveRole, GrantPermission, RevokePermission, SetSsdSetCardinality}
 use Rattle.rbac_sets.specs.declared.refusal.Refusal.TheVariants.{StaticSeparation, DynamicSeparation, AlreadyAssigned, UserLocked, NoUser, Version, AlreadyActive, AlreadyGranted, BadCardinality, Cycle, EdgeExists, MemberExists, NoEdge, NoMember, NoObject, NoPermission, NoSession, NoSet, NotActive, NotAssigned, NotAuthorized, NotGranted, NotOwner, ObjectExists, ObjectInUse, PermissionExists, RoleExists, RoleInUse, SessionExists, SetExists, UserExists}
 use Rattle.role_order.specs.Order.{geq}
-use Rattle.admin_mgr.specs.RbacState.{RbacState, has_session, empty_state, cardinality_of}
-use Rattle.admin_mgr.specs.Authorization.{authorized_users}
+use Rattle.admin_mgr.specs.RbacState.{RbacState, has_session, empty_state, no_separation, cardinality_of}
+use Rattle.admin_mgr.specs.Authorization.{authorized_users, authorized_roles}
+use Rattle.admin_mgr.specs.UserAccess.{could_have_access, stands_alone}
 use Rattle.admin_mgr.specs.Separation.{is_kept_statically, is_kept_dynamically, least_violated}
 use Rattle.admin_mgr.specs.Assignment.{assignment_verdict, after_assignment, after_record, import_verdicts, tally_of, may_go_on, end_sessions, assignment_refusals}
 use Rattle.admin_mgr.specs.After.{changed, after}
@@ -401,3 +402,53 @@ active_already = simp written
 not_active : verdict office (DropActiveRole ann s1 clerk) ≡ Some NotActive
 unfolding asked office ann bob boss clerk temp safe desk opens views pay aid s1 s2 refusals verdict
 not_active = simp written
+
+-- ---- no removal lets ann open the safe, but she may once her role's juniors are fewer members of the set than its cardinality
+
+barred : RbacState
+barred = record chief_of_both {
+  roles = from_list (audit ∷ cash ∷ chief ∷ temp ∷ []);
+  objects = from_list (safe ∷ []);
+  permissions = from_list ((safe, opens) ∷ []);
+  grants = from_list ((safe, opens, chief) ∷ []);
+  dsd = record { members = from_list ((till, audit) ∷ (till, cash) ∷ (till, temp) ∷ []); cardinalities = from_list ((till, 2) ∷ []) };
+}
+
+she_may_not_open_it : could_have_access barred ann opens safe ≡ false
+unfolding barred chief_of_both ann audit cash chief temp till safe opens could_have_access stands_alone authorized_roles authorized_users seconds geq
+she_may_not_open_it = simp written
+
+without_an_inheritance : could_have_access (after barred (DeleteInheritance chief cash)) ann opens safe ≡ true
+unfolding barred chief_of_both ann audit cash chief temp till safe opens could_have_access stands_alone authorized_roles authorized_users seconds geq after changed end_sessions
+without_an_inheritance = simp written
+
+without_a_member : could_have_access (after barred (DeleteDsdRoleMember till cash)) ann opens safe ≡ true
+unfolding barred chief_of_both ann audit cash chief temp till safe opens could_have_access stands_alone authorized_roles authorized_users seconds geq after changed end_sessions
+without_a_member = simp written
+
+without_the_set : could_have_access (after barred (DeleteDsdSet till)) ann opens safe ≡ true
+unfolding barred chief_of_both ann audit cash chief temp till safe opens could_have_access stands_alone authorized_roles authorized_users seconds geq after changed end_sessions
+without_the_set = simp written
+
+with_a_larger_cardinality : could_have_access (after barred (SetDsdSetCardinality till 3)) ann opens safe ≡ true
+unfolding barred chief_of_both ann audit cash chief temp till safe opens could_have_access stands_alone authorized_roles authorized_users seconds geq after changed end_sessions
+with_a_larger_cardinality = simp written
+
+each_is_accepted : list_all is_none (verdict barred (DeleteInheritance chief cash) ∷ verdict barred (DeleteDsdRoleMember till cash) ∷ verdict barred (DeleteDsdSet till) ∷ verdict barred (SetDsdSetCardinality till 3) ∷ []) ≡ true
+unfolding barred chief_of_both ann audit cash chief temp till safe opens refusals verdict cardinality_of seconds after changed least_violated is_kept_dynamically authorized_users geq end_sessions may_go_on
+each_is_accepted = simp written
+
+-- the lock of a deleted user doesn't pass to another of the same name, who may do nothing yet
+before_she_goes : RbacState
+before_she_goes = record barred { locked = from_list (ann ∷ []); dsd = no_separation }
+
+she_came_back : RbacState
+she_came_back = after (after before_she_goes (DeleteUser ann)) (AddUser ann)
+
+she_is_not_locked : contains she_came_back.locked ann ≡ false
+unfolding she_came_back before_she_goes barred chief_of_both ann audit cash chief temp till safe opens after changed end_sessions
+she_is_not_locked = simp written
+
+she_may_do_nothing : could_have_access she_came_back ann opens safe ≡ false
+unfolding she_came_back before_she_goes barred chief_of_both ann audit cash chief temp till safe opens could_have_access stands_alone authorized_roles authorized_users seconds geq after changed end_sessions
+she_may_do_nothing = simp written

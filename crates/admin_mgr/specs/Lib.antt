@@ -9,6 +9,7 @@ pub mod Laws
 pub mod OfficeRun
 pub mod PlanEffect
 pub mod RbacState
+pub mod Removals
 pub mod Refusals
 pub mod RowChecks
 pub mod RowUpdates

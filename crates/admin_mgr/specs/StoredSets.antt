@@ -5,7 +5,7 @@ use Rattle.std.specs.Coded.{Coded, coded×, code_by}
 use Rattle.rbac_sets.specs.Sets.{Bytes, Pair, Triple, Cardinality, Pairs, coded_set, coded_pair, from_list, same_name}
 use Rattle.rbac_sets.specs.declared.row.Row.{Row}
 use Rattle.rbac_sets.specs.declared.row.Row.TheVariants.{NameRow, PairRow, GrantRow, SetRow, LockedRow}
-use Rattle.rbac_sets.specs.declared.row.TheConstants.Row.{USER, ROLE, OBJECT, PERMISSION, ASSIGNMENT, INHERITANCE, CLOSURE_PAIR, STATIC_MEMBER, DYNAMIC_MEMBER, SESSION, ACTIVATED_ROLE, STATIC_CARDINALITY, DYNAMIC_CARDINALITY}
+use Rattle.rbac_sets.specs.RowKinds.{user_kind, role_kind, object_kind, permission_kind, assignment_kind, inheritance_kind, closure_pair_kind, static_member_kind, dynamic_member_kind, session_kind, activated_role_kind, static_cardinality_kind, dynamic_cardinality_kind}
 use Rattle.rbac_sets.specs.Table.{table_of}
 use Rattle.admin_mgr.specs.RbacState.{RbacState, coded_state}
 use Rattle.admin_mgr.specs.Changes.{same_row}
@@ -73,18 +73,18 @@ unfoldable pub gathered : ℕ → List Row → StoredSets
 gathered version rows = record {
   facts = record {
     version = version;
-    users = from_list (names_of USER rows);
+    users = from_list (names_of user_kind rows);
     locked = from_list (locks_of rows);
-    roles = from_list (names_of ROLE rows);
-    objects = from_list (names_of OBJECT rows);
-    permissions = from_list (pairs_of PERMISSION rows);
-    assignments = from_list (pairs_of ASSIGNMENT rows);
+    roles = from_list (names_of role_kind rows);
+    objects = from_list (names_of object_kind rows);
+    permissions = from_list (pairs_of permission_kind rows);
+    assignments = from_list (pairs_of assignment_kind rows);
     grants = from_list (grants_of rows);
-    edges = from_list (pairs_of INHERITANCE rows);
-    sessions = from_list (pairs_of SESSION rows);
-    active = from_list (pairs_of ACTIVATED_ROLE rows);
-    ssd = record { members = from_list (pairs_of STATIC_MEMBER rows); cardinalities = from_list (cardinalities_of STATIC_CARDINALITY rows) };
-    dsd = record { members = from_list (pairs_of DYNAMIC_MEMBER rows); cardinalities = from_list (cardinalities_of DYNAMIC_CARDINALITY rows) };
+    edges = from_list (pairs_of inheritance_kind rows);
+    sessions = from_list (pairs_of session_kind rows);
+    active = from_list (pairs_of activated_role_kind rows);
+    ssd = record { members = from_list (pairs_of static_member_kind rows); cardinalities = from_list (cardinalities_of static_cardinality_kind rows) };
+    dsd = record { members = from_list (pairs_of dynamic_member_kind rows); cardinalities = from_list (cardinalities_of dynamic_cardinality_kind rows) };
   };
-  pairs = from_list (pairs_of CLOSURE_PAIR rows);
+  pairs = from_list (pairs_of closure_pair_kind rows);
 }

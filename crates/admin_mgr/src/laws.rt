@@ -3,6 +3,7 @@ ghost use Rattle.admin_mgr.specs.Laws.{SubsetForm, RowsDetermine, AcceptedIsGood
 ghost use Rattle.admin_mgr.specs.CommandContent.{CommandsDependOnContent};
 ghost use Rattle.admin_mgr.specs.RowChecks.{GoodRowsAreRead};
 ghost use Rattle.admin_mgr.specs.CommandLaws.{VerdictsRefuseCommands, AssignedByCommand, GrantedByCommand, VersionStays};
+ghost use Rattle.admin_mgr.specs.Removals.{RemovalsGiveNoSessionAccess, RemovalsGiveNoUserAccess};
 ghost use Rattle.admin_mgr.specs.StateNames.{NamedTurns};
 ghost use Rattle.admin_mgr.specs.RowsAfter.{RowsFollow};
 ghost use Rattle.admin_mgr.specs.StateLaws.{EmptyIsGood, EmptyHasNoRow, MigratedIsGood, GoodRowsAreReadable};
@@ -115,4 +116,15 @@ pub fn effects()
     ensures assignments { AssignedByCommand }
     ensures grants { GrantedByCommand }
     ensures version { VersionStays }
+{}
+
+/// No removal gives anybody access, whatever the state was. A session that has access after the command had
+/// it before, also if the command removes an inheritance, a dynamic separation of duty set or one of its
+/// roles, or sets its cardinality. A user who could have access after the command could have it before; for
+/// users these four commands are exceptions: after them the user may have a role alone that was, with its
+/// juniors, too many members of a dynamic set.
+#[tactic(auto, using(crate::proofs::StateAfter::LessAccess::no_session_access, crate::proofs::StateAfter::LessAccess::no_user_access))]
+pub fn removals_only_remove()
+    ensures session { RemovalsGiveNoSessionAccess }
+    ensures user { RemovalsGiveNoUserAccess }
 {}

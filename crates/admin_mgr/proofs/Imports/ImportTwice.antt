@@ -81,7 +81,7 @@ import_grows S (pair ∷ pairs) p there = import_grows (after_record S pair) pai
 module _ (S : RbacState) (few many : Pairs) (within : IsSubset few many) where
   -- with more assignments nobody is authorized for less
   authorized_more : (user role : Bytes) → IsTrue (is_authorized (holding S few) user role) → IsTrue (is_authorized (holding S many) user role)
-  authorized_more = authorized-fewer (holding S many) (holding S few) (assumption within)
+  authorized_more = authorized-fewer (holding S many) (holding S few) (λ p h. h) within
 
   -- so if no static set is violated with more assignments, none is with fewer
   none_before : violates_static (holding S many) ≡ None → violates_static (holding S few) ≡ None

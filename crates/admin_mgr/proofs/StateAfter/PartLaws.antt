@@ -75,28 +75,29 @@ pub geq-fewer : (part whole : Pairs) → IsSubset part whole → (a b : Bytes) �
 geq-fewer part whole within a b h =
     (geq-Decides whole a b).1 (Leads-mono (λ x y. IsTrue (contains part (x, y))) (λ x y. IsTrue (contains whole (x, y))) (λ x y. within (x, y)) ((geq-Decides part a b).0 h))
 
-module _ (S T : RbacState) (part : IsPart T S) where
+module _ (S T : RbacState) (edges : IsSubset T.edges S.edges) where
   -- with fewer assignments and edges nobody is authorized for more
-  pub authorized-fewer : (user role : Bytes) → IsTrue (is_authorized T user role) → IsTrue (is_authorized S user role)
+  pub authorized-fewer : IsSubset T.assignments S.assignments → (user role : Bytes) → IsTrue (is_authorized T user role) → IsTrue (is_authorized S user role)
   unfolding authorized_users
-  authorized-fewer user role h =
+  authorized-fewer assignments user role h =
       let above : Pairs → Pair → Bool = λ edges a. geq edges a.1 role in
       let found = (image-Decides pair_total pair_exact name_total name_exact (λ (a : Pair). a.0) (retain T.assignments (above T.edges)) user).0 h in
       let parts = and_parts _ _ (sym (contains-retain pair_total pair_exact T.assignments (above T.edges) found.0) ∙ found.1) in
       (image-Decides pair_total pair_exact name_total name_exact (λ (a : Pair). a.0) (retain S.assignments (above S.edges)) user).1 (
         found.0,
         contains-retain pair_total pair_exact S.assignments (above S.edges) found.0
-            ∙ and_from _ _ (part.assignments found.0 parts.0) (geq-fewer T.edges S.edges part.edges found.0.1 role parts.1),
+            ∙ and_from _ _ (assignments found.0 parts.0) (geq-fewer T.edges S.edges edges found.0.1 role parts.1),
         found.2,
       )
 
   -- with fewer activated roles and edges no session has more roles
-  pub session_role-fewer : (session role : Bytes) → IsTrue (is_session_role T session role) → IsTrue (is_session_role S session role)
-  session_role-fewer session role h =
+  pub session_role-fewer : IsSubset T.active S.active → (session role : Bytes) → IsTrue (is_session_role T session role) → IsTrue (is_session_role S session role)
+  session_role-fewer active session role h =
       let above = (any-Decides name_total name_exact (λ active. geq T.edges active role) (active_roles T session)).0 h in
       (any-Decides name_total name_exact (λ active. geq S.edges active role) (active_roles S session)).1
-      (above.0, seconds-subset T.active S.active session part.active above.0 above.1, geq-fewer T.edges S.edges part.edges above.0 role above.2)
+      (above.0, seconds-subset T.active S.active session active above.0 above.1, geq-fewer T.edges S.edges edges above.0 role above.2)
 
+module _ (S T : RbacState) (part : IsPart T S) where
   -- with the same assignments and edges they are authorized as before
   authorized-same : T.assignments ≡ S.assignments → T.edges ≡ S.edges → (user role : Bytes) → is_authorized T user role ≡ is_authorized S user role
   unfolding authorized_users
@@ -130,11 +131,11 @@ module _ (S T : RbacState) (part : IsPart T S) where
         acyclic = IsAcyclic-subset T.edges S.edges (λ a b. part.edges (a, b)) good.acyclic;
         static_separation = λ name user n has.
             let fewer = count-fewer (is_authorized T user) (is_authorized S user) (members_of T.ssd name) (members_of S.ssd name)
-            (seconds-subset T.ssd.members S.ssd.members name part.ssd_members) (authorized-fewer user) in
+            (seconds-subset T.ssd.members S.ssd.members name part.ssd_members) (authorized-fewer S T part.edges part.assignments user) in
             omega (arith, good.static_separation name user n (part.ssd_sets (name, n) has), fewer);
         dynamic_separation = λ name session user n has owner.
             let fewer = count-fewer (is_session_role T session) (is_session_role S session) (members_of T.dsd name) (members_of S.dsd name)
-            (seconds-subset T.dsd.members S.dsd.members name part.dsd_members) (session_role-fewer session) in
+            (seconds-subset T.dsd.members S.dsd.members name part.dsd_members) (session_role-fewer S T part.edges part.active session) in
             omega (arith, good.dynamic_separation name session user n (part.dsd_sets (name, n) has) (part.sessions (session, user) owner), fewer);
         limits = search (part, limits, no_more name_total name_exact, no_more pair_total pair_exact, no_more triple_total triple_exact, no_more cardinality_total cardinality_exact, no_more_seconds, limits.ssd_members, limits.dsd_members, limits.active_roles);
         version = subst (λ (v : ℕ). (v ≡ 1) ⊎ (v ≡ 2)) (sym part.version) good.version;

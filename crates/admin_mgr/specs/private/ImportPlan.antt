@@ -7,7 +7,7 @@ use Rattle.rbac_sets.specs.declared.kind.Kind.TheVariants.{Assignment}
 use Rattle.rbac_sets.specs.declared.refusal.Refusal.{Refusal}
 use Rattle.rbac_sets.specs.declared.refusal.Refusal.TheVariants.{NoUser, NoRole, AlreadyAssigned}
 use Rattle.rbac_sets.specs.declared.row.Row.TheVariants.{PairRow}
-use Rattle.rbac_sets.specs.declared.row.TheConstants.Row.{ASSIGNMENT}
+use Rattle.rbac_sets.specs.RowKinds.{assignment_kind}
 use Rattle.rbac_sets.specs.declared.row.Change.{Change}
 use Rattle.rbac_sets.specs.declared.row.Change.TheVariants.{Put}
 use Rattle.admin_mgr.specs.RbacState.{RbacState}
@@ -27,7 +27,7 @@ accepted S (pair ∷ pairs) =
 
 -- the change that puts the row of an assignment
 abbrev pub put_assignment : Pair → Change
-put_assignment pair = Put (PairRow ASSIGNMENT pair.0 pair.1)
+put_assignment pair = Put (PairRow assignment_kind pair.0 pair.1)
 
 -- what refuses an assignment if these pairs were added before it, without the check of static separation
 abbrev pub record_refusals : RbacState → Pairs → Pair → List (Option Refusal)

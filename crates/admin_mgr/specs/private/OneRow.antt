@@ -4,7 +4,7 @@ use Rattle.std.specs.Prelude.{◌≡◌, ℕ, ◌+◌, ◌≤◌, Bool, true, fa
 use Rattle.rbac_sets.specs.Sets.{Pairs, insert, remove, contains}
 use Rattle.rbac_sets.specs.declared.row.Row.{Row}
 use Rattle.rbac_sets.specs.declared.row.Row.TheVariants.{NameRow, PairRow, GrantRow, SetRow, LockedRow}
-use Rattle.rbac_sets.specs.declared.row.TheConstants.Row.{USER, ROLE, OBJECT, PERMISSION, ASSIGNMENT, STATIC_MEMBER, DYNAMIC_MEMBER, SESSION, ACTIVATED_ROLE, STATIC_CARDINALITY, DYNAMIC_CARDINALITY, INHERITANCE, CLOSURE_PAIR}
+use Rattle.rbac_sets.specs.RowKinds.{user_kind, role_kind, object_kind, permission_kind, assignment_kind, static_member_kind, dynamic_member_kind, session_kind, activated_role_kind, static_cardinality_kind, dynamic_cardinality_kind, inheritance_kind, closure_pair_kind}
 use Rattle.rbac_sets.specs.declared.row.Change.{Change}
 use Rattle.rbac_sets.specs.declared.row.Change.TheVariants.{Put, Take}
 use Rattle.admin_mgr.specs.RbacState.{RbacState, has_set}
@@ -14,53 +14,53 @@ use Rattle.admin_mgr.specs.StoredSets.{StoredSets}
 
 -- a row of a set that changes row by row
 abbrev pub is_plain : Row → Bool
-is_plain (NameRow kind a) = nat_eq kind USER || nat_eq kind ROLE || nat_eq kind OBJECT
-is_plain (PairRow kind a b) = nat_eq kind PERMISSION || nat_eq kind ASSIGNMENT || nat_eq kind STATIC_MEMBER || nat_eq kind DYNAMIC_MEMBER || nat_eq kind SESSION || nat_eq kind ACTIVATED_ROLE
+is_plain (NameRow kind a) = nat_eq kind user_kind || nat_eq kind role_kind || nat_eq kind object_kind
+is_plain (PairRow kind a b) = nat_eq kind permission_kind || nat_eq kind assignment_kind || nat_eq kind static_member_kind || nat_eq kind dynamic_member_kind || nat_eq kind session_kind || nat_eq kind activated_role_kind
 is_plain (GrantRow a b c) = true
-is_plain (SetRow kind a n) = nat_eq kind STATIC_CARDINALITY || nat_eq kind DYNAMIC_CARDINALITY
+is_plain (SetRow kind a n) = nat_eq kind static_cardinality_kind || nat_eq kind dynamic_cardinality_kind
 is_plain (LockedRow a) = true
 
 -- the state with one row more
 unfoldable pub with_row : RbacState → Row → RbacState
 with_row S (NameRow kind a) = record S {
-  users = if nat_eq kind USER then insert S.users a else S.users;
-  roles = if nat_eq kind ROLE then insert S.roles a else S.roles;
-  objects = if nat_eq kind OBJECT then insert S.objects a else S.objects;
+  users = if nat_eq kind user_kind then insert S.users a else S.users;
+  roles = if nat_eq kind role_kind then insert S.roles a else S.roles;
+  objects = if nat_eq kind object_kind then insert S.objects a else S.objects;
 }
 with_row S (PairRow kind a b) = record S {
-  permissions = if nat_eq kind PERMISSION then insert S.permissions (a, b) else S.permissions;
-  assignments = if nat_eq kind ASSIGNMENT then insert S.assignments (a, b) else S.assignments;
-  ssd = record S.ssd { members = if nat_eq kind STATIC_MEMBER then insert S.ssd.members (a, b) else S.ssd.members };
-  dsd = record S.dsd { members = if nat_eq kind DYNAMIC_MEMBER then insert S.dsd.members (a, b) else S.dsd.members };
-  sessions = if nat_eq kind SESSION then insert S.sessions (a, b) else S.sessions;
-  active = if nat_eq kind ACTIVATED_ROLE then insert S.active (a, b) else S.active;
+  permissions = if nat_eq kind permission_kind then insert S.permissions (a, b) else S.permissions;
+  assignments = if nat_eq kind assignment_kind then insert S.assignments (a, b) else S.assignments;
+  ssd = record S.ssd { members = if nat_eq kind static_member_kind then insert S.ssd.members (a, b) else S.ssd.members };
+  dsd = record S.dsd { members = if nat_eq kind dynamic_member_kind then insert S.dsd.members (a, b) else S.dsd.members };
+  sessions = if nat_eq kind session_kind then insert S.sessions (a, b) else S.sessions;
+  active = if nat_eq kind activated_role_kind then insert S.active (a, b) else S.active;
 }
 with_row S (GrantRow a b c) = record S { grants = insert S.grants (a, b, c) }
 with_row S (SetRow kind a n) = record S {
-  ssd = record S.ssd { cardinalities = if nat_eq kind STATIC_CARDINALITY then insert S.ssd.cardinalities (a, n) else S.ssd.cardinalities };
-  dsd = record S.dsd { cardinalities = if nat_eq kind DYNAMIC_CARDINALITY then insert S.dsd.cardinalities (a, n) else S.dsd.cardinalities };
+  ssd = record S.ssd { cardinalities = if nat_eq kind static_cardinality_kind then insert S.ssd.cardinalities (a, n) else S.ssd.cardinalities };
+  dsd = record S.dsd { cardinalities = if nat_eq kind dynamic_cardinality_kind then insert S.dsd.cardinalities (a, n) else S.dsd.cardinalities };
 }
 with_row S (LockedRow a) = record S { locked = insert S.locked a }
 
 -- the state with one row less
 unfoldable pub without_row : RbacState → Row → RbacState
 without_row S (NameRow kind a) = record S {
-  users = if nat_eq kind USER then remove S.users a else S.users;
-  roles = if nat_eq kind ROLE then remove S.roles a else S.roles;
-  objects = if nat_eq kind OBJECT then remove S.objects a else S.objects;
+  users = if nat_eq kind user_kind then remove S.users a else S.users;
+  roles = if nat_eq kind role_kind then remove S.roles a else S.roles;
+  objects = if nat_eq kind object_kind then remove S.objects a else S.objects;
 }
 without_row S (PairRow kind a b) = record S {
-  permissions = if nat_eq kind PERMISSION then remove S.permissions (a, b) else S.permissions;
-  assignments = if nat_eq kind ASSIGNMENT then remove S.assignments (a, b) else S.assignments;
-  ssd = record S.ssd { members = if nat_eq kind STATIC_MEMBER then remove S.ssd.members (a, b) else S.ssd.members };
-  dsd = record S.dsd { members = if nat_eq kind DYNAMIC_MEMBER then remove S.dsd.members (a, b) else S.dsd.members };
-  sessions = if nat_eq kind SESSION then remove S.sessions (a, b) else S.sessions;
-  active = if nat_eq kind ACTIVATED_ROLE then remove S.active (a, b) else S.active;
+  permissions = if nat_eq kind permission_kind then remove S.permissions (a, b) else S.permissions;
+  assignments = if nat_eq kind assignment_kind then remove S.assignments (a, b) else S.assignments;
+  ssd = record S.ssd { members = if nat_eq kind static_member_kind then remove S.ssd.members (a, b) else S.ssd.members };
+  dsd = record S.dsd { members = if nat_eq kind dynamic_member_kind then remove S.dsd.members (a, b) else S.dsd.members };
+  sessions = if nat_eq kind session_kind then remove S.sessions (a, b) else S.sessions;
+  active = if nat_eq kind activated_role_kind then remove S.active (a, b) else S.active;
 }
 without_row S (GrantRow a b c) = record S { grants = remove S.grants (a, b, c) }
 without_row S (SetRow kind a n) = record S {
-  ssd = record S.ssd { cardinalities = if nat_eq kind STATIC_CARDINALITY then remove S.ssd.cardinalities (a, n) else S.ssd.cardinalities };
-  dsd = record S.dsd { cardinalities = if nat_eq kind DYNAMIC_CARDINALITY then remove S.dsd.cardinalities (a, n) else S.dsd.cardinalities };
+  ssd = record S.ssd { cardinalities = if nat_eq kind static_cardinality_kind then remove S.ssd.cardinalities (a, n) else S.ssd.cardinalities };
+  dsd = record S.dsd { cardinalities = if nat_eq kind dynamic_cardinality_kind then remove S.dsd.cardinalities (a, n) else S.dsd.cardinalities };
 }
 without_row S (LockedRow a) = record S { locked = remove S.locked a }
 
@@ -97,14 +97,14 @@ with_pair_of kind pairs _ = pairs
 -- the sets with one row more
 abbrev pub with_stored : StoredSets → Row → StoredSets
 with_stored g row = record {
-  facts = with_edges (with_row g.facts row) (with_pair_of INHERITANCE g.facts.edges row);
-  pairs = with_pair_of CLOSURE_PAIR g.pairs row;
+  facts = with_edges (with_row g.facts row) (with_pair_of inheritance_kind g.facts.edges row);
+  pairs = with_pair_of closure_pair_kind g.pairs row;
 }
 
 -- there is a row with the key of this one
 unfoldable pub has_key : StoredSets → Row → Bool
 has_key g (NameRow kind a) = has_name g.facts kind a
-has_key g (PairRow kind a b) = if nat_eq kind CLOSURE_PAIR then contains g.pairs (a, b) else has_pair g.facts kind a b
+has_key g (PairRow kind a b) = if nat_eq kind closure_pair_kind then contains g.pairs (a, b) else has_pair g.facts kind a b
 has_key g (GrantRow a b c) = contains g.facts.grants (a, b, c)
-has_key g (SetRow kind a _) = if nat_eq kind STATIC_CARDINALITY then has_set g.facts.ssd a else if nat_eq kind DYNAMIC_CARDINALITY then has_set g.facts.dsd a else false
+has_key g (SetRow kind a _) = if nat_eq kind static_cardinality_kind then has_set g.facts.ssd a else if nat_eq kind dynamic_cardinality_kind then has_set g.facts.dsd a else false
 has_key g (LockedRow a) = contains g.facts.locked a

@@ -5,7 +5,7 @@ use Rattle.std.specs.List.{flat_map}
 use Rattle.rbac_sets.specs.Sets.{Bytes, Pair, Triple, Pairs, contains, members}
 use Rattle.rbac_sets.specs.declared.row.Row.{Row}
 use Rattle.rbac_sets.specs.declared.row.Row.TheVariants.{PairRow, GrantRow, LockedRow}
-use Rattle.rbac_sets.specs.declared.row.TheConstants.Row.{INHERITANCE, CLOSURE_PAIR, SESSION, ACTIVATED_ROLE}
+use Rattle.rbac_sets.specs.RowKinds.{inheritance_kind, closure_pair_kind, session_kind, activated_role_kind}
 use Rattle.rbac_sets.specs.declared.row.Change.{Change}
 use Rattle.rbac_sets.specs.declared.row.Change.TheVariants.{Put, Take}
 use Rattle.admin_mgr.specs.RbacState.{RbacState}
@@ -34,7 +34,7 @@ put_all row entries = map (λ entry. Put (row entry)) entries
 
 -- takes the row of the session, and the rows of the roles that were activated in it
 abbrev pub session_rows : RbacState → Pair → List Change
-session_rows S session = Take (PairRow SESSION session.0 session.1) ∷ take_all (pair_row ACTIVATED_ROLE) (run_of S.active session.0)
+session_rows S session = Take (PairRow session_kind session.0 session.1) ∷ take_all (pair_row activated_role_kind) (run_of S.active session.0)
 
 -- takes the rows of the sessions that don't go on, one session after the other
 abbrev pub ended_rows : RbacState → (Pair → Bool) → List Change
@@ -50,8 +50,8 @@ new_lock_rows S user = if contains S.locked user then [] else Put (LockedRow use
 
 -- puts the row of an edge, and the rows of these pairs, which the closure gains by it
 abbrev pub order_puts : Bytes → Bytes → Pairs → List Change
-order_puts asc desc pairs = Put (PairRow INHERITANCE asc desc) ∷ put_all (pair_row CLOSURE_PAIR) (members pairs)
+order_puts asc desc pairs = Put (PairRow inheritance_kind asc desc) ∷ put_all (pair_row closure_pair_kind) (members pairs)
 
 -- takes the row of an edge, and the rows of these pairs, which the closure loses by it
 abbrev pub order_takes : Bytes → Bytes → Pairs → List Change
-order_takes asc desc pairs = Take (PairRow INHERITANCE asc desc) ∷ take_all (pair_row CLOSURE_PAIR) (members pairs)
+order_takes asc desc pairs = Take (PairRow inheritance_kind asc desc) ∷ take_all (pair_row closure_pair_kind) (members pairs)

@@ -8,7 +8,7 @@ use Rattle.rbac_sets.specs.declared.kind.Kind.{Kind}
 use Rattle.rbac_sets.specs.declared.kind.Kind.TheVariants.{SsdSet, DsdSet}
 use Rattle.rbac_sets.specs.declared.refusal.Refusal.{Refusal}
 use Rattle.rbac_sets.specs.declared.refusal.Refusal.TheVariants.{StaticSeparation, DynamicSeparation}
-use Rattle.rbac_sets.specs.declared.row.TheConstants.Row.{STATIC_MEMBER, DYNAMIC_MEMBER, STATIC_CARDINALITY, DYNAMIC_CARDINALITY}
+use Rattle.rbac_sets.specs.RowKinds.{static_member_kind, dynamic_member_kind, static_cardinality_kind, dynamic_cardinality_kind}
 use Rattle.admin_mgr.specs.declared.separation_of_duty.SeparationOfDuty.{SeparationOfDuty}
 use Rattle.admin_mgr.specs.declared.separation_of_duty.SeparationOfDuty.TheVariants.{Static, Dynamic}
 use Rattle.admin_mgr.specs.RbacState.{RbacState, Separation}
@@ -32,13 +32,13 @@ kind_of Dynamic = DsdSet
 
 -- the kind of the rows of its sets' members
 abbrev pub member_rows : SeparationOfDuty → ℕ
-member_rows Static = STATIC_MEMBER
-member_rows Dynamic = DYNAMIC_MEMBER
+member_rows Static = static_member_kind
+member_rows Dynamic = dynamic_member_kind
 
 -- the kind of the rows of its sets' cardinalities
 abbrev pub cardinality_rows : SeparationOfDuty → ℕ
-cardinality_rows Static = STATIC_CARDINALITY
-cardinality_rows Dynamic = DYNAMIC_CARDINALITY
+cardinality_rows Static = static_cardinality_kind
+cardinality_rows Dynamic = dynamic_cardinality_kind
 
 -- each user is authorized for fewer of these roles than the cardinality, or each session has fewer
 abbrev pub is_kept : SeparationOfDuty → RbacState → Names → ℕ → Bool

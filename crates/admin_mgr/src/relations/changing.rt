@@ -1,8 +1,7 @@
 //! Changes of the sets and relations in place, in room that was made before.
 ghost use Rattle.std.specs.Prelude.{◌≡◌, List, ◌∷◌, [], ◌<◌, ◌≤◌, ℕ, Some, IfErr, OnOk, get_or, length, take, drop, IsTrue, ◌↔◌};
 ghost use Rattle.std.specs.List.{list_all};
-ghost use Rattle.rbac_sets.specs.declared.table.TheConstants.Table.{COUNT};
-ghost use Rattle.rbac_sets.specs.declared.row.TheConstants.Row.{ACTIVATED_ROLE};
+ghost use Rattle.rbac_sets.specs.Table.{relation_count};
 ghost use Rattle.rbac_sets.specs.declared.row.Change.{Change};
 ghost use Rattle.rbac_sets.specs.declared.row.Change.TheVariants.{Put, Take};
 ghost use Rattle.role_order.specs.Planned.{Fits, changed};
@@ -255,7 +254,7 @@ fn are_takes(changes: &[Change]) -> bool
 
 // How many of the changes put a row into each table, by the table's number.
 fn count_puts(changes: &[Change]) -> [usize; Table::COUNT]
-    ensures { (number : ℕ) → number < COUNT → get_or result number 0 ≡ puts_of number changes.now }
+    ensures { (number : ℕ) → number < relation_count → get_or result number 0 ≡ puts_of number changes.now }
 {
     let mut counts = [0; Table::COUNT];
     for change in changes {
