@@ -11,6 +11,7 @@ use Rattle.role_json.specs.Request.{body_to}
 use Rattle.role_functions.specs.declared.function.Function.{Function}
 use Rattle.role_http.specs.HeadAnswer.{with_left}
 use Rattle.role_tables.specs.Office.{OfficeModel}
+use Rattle.role_wire.specs.Events.{AddsReading}
 use Rattle.role_wire.specs.private.PreparedReply.{AnswersBody, IsReadAs}
 use Rattle.role_wire.specs.Reply.{called_for, head_body}
 use Rattle.role_wire.specs.declared.prepared_reply.PreparedReply.{PreparedReply}
@@ -53,6 +54,6 @@ module _ {S : Type 0} (shown : Held S → State) where
   unfolding head_body
   short_answered office taken left called count made less at_end status body =
       subst (λ read. AnswersBody shown office read made office) (sym (called_short taken left called count less at_end)) (
-        inl (λ _. (status, body, stays shown office)),
+        inl (λ _. (status, body, stays shown office (AddsReading office.facts (Err BadRequest)) refl)),
         asks_nothing office office (IsReadAs (Err BadRequest)) made.status (cow_str_bytes made.body) refl (λ asked reads. (cc)),
       )

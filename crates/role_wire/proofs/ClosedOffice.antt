@@ -105,8 +105,8 @@ replies_other : (S : RbacState) (bytes : List ℕ) (reply : Reply) → Replies S
 unfolding reply_to
 replies_other S bytes reply (inl (head, rest, has, is)) status =
     behind_other S rest (judged_head head) (heads head.method (function_in head.target) _) (sym (ap (λ (r : Reply). r.status) is) ∙ status)
-replies_other S bytes reply (inr (none, inl (bad, empty), body, after)) status = omega (arith, bad, status)
-replies_other S bytes reply (inr (none, inr large, body, after)) status = omega (arith, large, status)
+replies_other S bytes reply (inr (none, inl (bad, empty), body, read, after)) status = omega (arith, bad, status)
+replies_other S bytes reply (inr (none, inr large, body, read, after)) status = omega (arith, large, status)
 
 -- ---- answers
 

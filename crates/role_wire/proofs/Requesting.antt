@@ -6,7 +6,7 @@ use Rattle.std.specs.Io.KnownBytes.{Appends, Consumes}
 use Rattle.httparse.specs.Grammar.{RequestHead, HasNoRequest, print_request}
 use Rattle.sqlite.specs.Held.{Held}
 use Rattle.sqlite.specs.State.{State}
-use Rattle.rbac_sets.specs.declared.refusal.Refusal.TheVariants.{Memory}
+use Rattle.rbac_sets.specs.declared.refusal.Refusal.TheVariants.{BadRequest, Memory}
 use Rattle.rbac_sets.proofs.Known.{Consumes-more}
 use Rattle.admin_mgr.specs.RbacState.{RbacState}
 use Rattle.role_json.specs.Answer.{refusal_text}
@@ -18,6 +18,7 @@ use Rattle.role_http.specs.HeadChecks.{judged_head}
 use Rattle.role_http.specs.ReplyBytes.{reply_bytes}
 use Rattle.role_http.proofs.Heads.{HasHead-append, with_left-later, heads_are_unique, refused_have_no_head}
 use Rattle.role_tables.specs.Office.{OfficeModel}
+use Rattle.role_wire.specs.Events.{AddsReading, AddsUndone}
 use Rattle.role_wire.specs.private.PreparedReply.{AnswersBody, IsReadAs}
 use Rattle.role_wire.specs.Reply.{Asks, Replies, RepliesOnce, Reply, TakesNoFurther, called_for, head_body, reply_of, reply_to}
 use Rattle.role_wire.specs.ServedRequest.{IsAnsweredInstead, LeavesUnanswered, StopsAt, AnswersBytes}
@@ -27,6 +28,7 @@ use Rattle.role_wire.specs.declared.prepared_reply.PreparedReply.{PreparedReply}
 use Rattle.role_wire.proofs.Calling.{with_left-end}
 use Rattle.role_wire.proofs.Performed.{stays}
 use Rattle.role_wire.proofs.HttpAnswers.{asks_nothing, has_no_memory}
+use Rattle.role_wire.proofs.Judged.{undone_reaches}
 
 -- ---- no byte after the request
 
@@ -101,7 +103,7 @@ module _ {S : Type 0} (shown : Held S → State) where
 
   in_place : (old new : OfficeModel S) (status : ℕ) (body : List ℕ) (First Then : RequestContent → Type 0) → ((asked : RequestContent) → First asked → Then asked) → IsAnsweredInstead shown old First status body new
       → IsAnsweredInstead shown old Then status body new
-  in_place old new status body First Then step (inl memory) = inl memory
+  in_place old new status body First Then step (inl (is, told, reaches)) = inl (is, told, undone_reaches shown old new First Then step reaches)
   in_place old new status body First Then step (inr (inl (is, told, (asked, for, broke)))) = inr (inl (is, told, (asked, step asked for, broke)))
   in_place old new status body First Then step (inr (inr (is, told, shut, same, (asked, for)))) = inr (inr (is, told, shut, same, (asked, step asked for)))
 
@@ -169,9 +171,9 @@ module _ {S : Type 0} (shown : Held S → State) where
         within_head office.facts source mid bytes first,
         (
           inl (
-            record { status = status; body = head_body status; after = office.facts; taken = 0 },
+            record { status = status; body = head_body status; read = Err BadRequest; after = office.facts; taken = 0 },
             inl (head, later, stands, rw is refl),
-            (same, text, stays shown office),
+            (same, text, stays shown office (AddsReading office.facts (Err BadRequest)) refl),
           ),
           asks_nothing office office (Asks (with_left bytes mid)) told body refl (asked_by (with_left bytes mid) later head (Err status) stands is),
         ),
@@ -182,9 +184,9 @@ module _ {S : Type 0} (shown : Held S → State) where
     within_head office.facts source mid bytes first,
     (
       inl (
-        record { status = status; body = head_body status; after = office.facts; taken = 0 },
-        inr (refused_have_no_head bytes mid (Err status) refuses, which_refused bytes mid status refuses, refl, refl),
-        (same, text, stays shown office),
+        record { status = status; body = head_body status; read = Err BadRequest; after = office.facts; taken = 0 },
+        inr (refused_have_no_head bytes mid (Err status) refuses, which_refused bytes mid status refuses, refl, refl, refl),
+        (same, text, stays shown office (AddsReading office.facts (Err BadRequest)) refl),
       ),
       asks_nothing office office (Asks (with_left bytes mid)) told body refl
           (λ asked (head, rest, has, call). refused_have_no_head bytes mid (Err status) refuses head rest has),
@@ -198,7 +200,7 @@ module _ {S : Type 0} (shown : Held S → State) where
     bytes,
     first.0,
     within_head office.facts source mid bytes first,
-    (inr (inl (same, text, stays shown office)), has_no_memory office office (Asks (with_left bytes mid)) status body refl same text),
+    (inr (inl (same, text, stays shown office (AddsUndone office.facts (Asks (with_left bytes mid))) (inl refl))), has_no_memory office office (Asks (with_left bytes mid)) status body refl same text),
   )
 
   pub left_stopped : (office : OfficeModel S) (source mid : Option (List ℕ)) → ((taken : List ℕ) × ConsumesHead source mid taken × HasNoRequest taken) → HasNoReply cause.Read office source mid office
@@ -212,7 +214,7 @@ module _ {S : Type 0} (shown : Held S → State) where
     [],
     none,
     (λ head rest has. omega arith, λ past. omega arith),
-    (inr (inl (same, text, stays shown office)), has_no_memory office office (Asks (with_left [] source)) status body refl same text),
+    (inr (inl (same, text, stays shown office (AddsUndone office.facts (Asks (with_left [] source))) (inl refl))), has_no_memory office office (Asks (with_left [] source)) status body refl same text),
   )
 
   -- a reply that was written

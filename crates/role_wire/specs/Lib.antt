@@ -1,5 +1,6 @@
 pub mod AnswerTexts
 pub mod Continuation
+pub mod Events
 pub mod LineAnswer
 pub mod LineCommands
 pub mod Lines

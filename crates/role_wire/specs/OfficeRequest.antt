@@ -11,7 +11,8 @@ use Rattle.admin_mgr.specs.RbacState.{RbacState}
 use Rattle.role_json.specs.Request.{request}
 use Rattle.role_json.specs.RequestContent.{RequestContent, Change}
 use Rattle.role_tables.specs.Office.{OfficeModel}
-use Rattle.role_wire.specs.Continuation.{StoreFails, ReachesState}
+use Rattle.role_wire.specs.Continuation.{GoesOnBySome, StoreFails, ReachesState}
+use Rattle.role_wire.specs.Events.{AddsFailed, AddsRequest, AddsUndone}
 use Rattle.role_wire.specs.Outcome.{outcome_of, state_after}
 
 -- it is an import, or a question
@@ -39,18 +40,18 @@ module _ {S : Type 0} (shown : Held S → State) where
   pub record DoesRequest (old : OfficeModel S) (requested : RequestContent) (text : List ℕ) (new : OfficeModel S) : Type 0 where
     pub is_open : old.is_closed ≡ false
     pub outcome : outcome_of old.facts requested ≡ Ok text
-    pub reaches : ReachesState shown old (state_after old.facts requested) new
+    pub reaches : ReachesState shown old (AddsRequest old.facts requested) (state_after old.facts requested) new
 
   -- the office was open, and the store failed in the command, which is accepted
   pub record StoreFailsFor (old : OfficeModel S) (requested : RequestContent) (new : OfficeModel S) : Type 0 where
     pub is_open : old.is_closed ≡ false
     pub accepted : IsAccepted old.facts requested
-    pub breaks : StoreFails shown old old.facts (state_after old.facts requested) new
+    pub breaks : StoreFails shown old (AddsFailed requested) old.facts (state_after old.facts requested) new
 
   -- the request was declined: an allocation failed, the store failed, the office is closed, or an open office refuses the request
   abbrev pub RefusesRequest : OfficeModel S → RequestContent → Refusal → OfficeModel S → Type 0
   RefusesRequest old requested refusal new =
-      ((refusal ≡ Memory) × (new ≡ old))
+      ((refusal ≡ Memory) × (new ≡ old) × GoesOnBySome shown old (AddsUndone old.facts (λ asked. asked ≡ requested)) new)
       ⊎ (((refusal ≡ Store) × StoreFailsFor old requested new)
       ⊎ (((refusal ≡ Closed) × (old.is_closed ≡ true) × (new ≡ old))
-      ⊎ ((outcome_of old.facts requested ≡ Err refusal) × (old.is_closed ≡ false) × (new ≡ old))))
+      ⊎ ((outcome_of old.facts requested ≡ Err refusal) × (old.is_closed ≡ false) × (new ≡ old) × GoesOnBySome shown old (AddsRequest old.facts requested) new)))

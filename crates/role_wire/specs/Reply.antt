@@ -14,10 +14,11 @@ use Rattle.role_http.specs.HeadChecks.{judged_head}
 use Rattle.role_http.specs.Status.{status_of}
 use Rattle.role_wire.specs.Outcome.{outcome, after_reading, outcome_text}
 
--- a reply: its status and its body, the state after it, and how many bytes after its head the request has
+-- a reply: its status and its body, the request that was read, the state after it, and how many bytes after its head the request has
 pub record Reply : Type 0 where
   pub status : ℕ
   pub body : List ℕ
+  pub read : Result RequestContent Refusal
   pub after : RbacState
   pub taken : ℕ
 
@@ -32,15 +33,15 @@ status_in (Err refusal) = status_of refusal
 
 -- the reply to a body of `taken` bytes, from the result of reading it
 abbrev pub reply_of : RbacState → ℕ → Result RequestContent Refusal → Reply
-reply_of S taken read = record { status = status_in (outcome S read); body = outcome_text (outcome S read); after = after_reading S read; taken = taken }
+reply_of S taken read = record { status = status_in (outcome S read); body = outcome_text (outcome S read); read = read; after = after_reading S read; taken = taken }
 
 -- what a call asks for, by the bytes after its head: fewer than it announces are no request
 abbrev pub called_for : List ℕ → Function → ℕ → Result RequestContent Refusal
 called_for rest called count = if nat_lt (length rest) count then Err BadRequest else body_to called (take count rest)
 
--- the reply to a head, from the result of judging it, and to the bytes after it
+-- The reply to a head, from the result of judging it, and to the bytes after it. No request is read behind a head that is refused.
 abbrev pub behind_head : RbacState → List ℕ → Result (Function × ℕ) ℕ → Reply
-behind_head S rest (Err status) = record { status = status; body = head_body status; after = S; taken = 0 }
+behind_head S rest (Err status) = record { status = status; body = head_body status; read = Err BadRequest; after = S; taken = 0 }
 behind_head S rest (Ok (called, count)) = reply_of S (length (take count rest)) (called_for rest called count)
 
 -- the reply to a head and the bytes after it
@@ -56,7 +57,7 @@ HasNoHead bytes = (head : RequestHead) (rest : List ℕ) → ¬ (HasHead bytes h
 abbrev pub Replies : RbacState → List ℕ → Reply → Type 0
 Replies S bytes reply =
     ((head : RequestHead) × (rest : List ℕ) × HasHead bytes head rest × (reply ≡ reply_to S head rest))
-    ⊎ (HasNoHead bytes × (((reply.status ≡ 400) × HasNoRequest bytes) ⊎ (reply.status ≡ 431)) × (reply.body ≡ head_body reply.status) × (reply.after ≡ S))
+    ⊎ (HasNoHead bytes × (((reply.status ≡ 400) × HasNoRequest bytes) ⊎ (reply.status ≡ 431)) × (reply.body ≡ head_body reply.status) × (reply.read ≡ Err BadRequest) × (reply.after ≡ S))
 
 -- the request in these bytes asks for this
 abbrev pub Asks : List ℕ → RequestContent → Type 0

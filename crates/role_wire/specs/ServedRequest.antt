@@ -10,6 +10,7 @@ use Rattle.role_http.specs.HeadAnswer.{with_left}
 use Rattle.role_http.specs.ReplyBytes.{reply_bytes}
 use Rattle.role_tables.specs.Office.{OfficeModel}
 use Rattle.role_wire.specs.Continuation.{ReachesState}
+use Rattle.role_wire.specs.Events.{AddsReading, AddsRequest, AddsUndone}
 use Rattle.role_wire.specs.Outcome.{state_after}
 use Rattle.role_wire.specs.OfficeRequest.{IsAcceptedImport, StoreFailsFor}
 use Rattle.role_wire.specs.Reply.{Reply, Replies, Asks, TakesNoFurther}
@@ -24,20 +25,20 @@ StaysClosed old AsksFor status body new = old.is_closed ≡ true → (new ≡ ol
 module _ {S : Type 0} (shown : Held S → State) where
   -- the answer is this reply
   abbrev pub IsThisReply : OfficeModel S → Reply → ℕ → List ℕ → OfficeModel S → Type 0
-  IsThisReply old reply status body new = (status ≡ reply.status) × (body ≡ reply.body) × ReachesState shown old reply.after new
+  IsThisReply old reply status body new = (status ≡ reply.status) × (body ≡ reply.body) × ReachesState shown old (AddsReading old.facts reply.read) reply.after new
 
-  -- The answer instead of the reply to a request that asks for this: an allocation failed before anything was done, the store
-  -- failed in its command, or the office was closed.
+  -- The answer instead of the reply to a request that asks for this: an allocation failed and nothing was done, the store failed in
+  -- its command, or the office was closed.
   abbrev pub IsAnsweredInstead : OfficeModel S → (RequestContent → Type 0) → ℕ → List ℕ → OfficeModel S → Type 0
   IsAnsweredInstead old AsksFor status body new =
-      ((status ≡ 503) × (body ≡ refusal_text Memory) × ReachesState shown old old.facts new)
+      ((status ≡ 503) × (body ≡ refusal_text Memory) × ReachesState shown old (AddsUndone old.facts AsksFor) old.facts new)
       ⊎ (((status ≡ 500) × (body ≡ refusal_text Store) × ((asked : RequestContent) × AsksFor asked × StoreFailsFor shown old asked new))
       ⊎ ((status ≡ 500) × (body ≡ refusal_text Closed) × (old.is_closed ≡ true) × (new ≡ old) × ((asked : RequestContent) × AsksFor asked)))
 
   -- an open office did an accepted import
   abbrev pub IsImported : OfficeModel S → (RequestContent → Type 0) → OfficeModel S → Type 0
   IsImported old AsksFor new = (asked : RequestContent) × AsksFor asked × (old.is_closed ≡ false) × IsAcceptedImport old.facts asked
-      × ReachesState shown old (state_after old.facts asked) new
+      × ReachesState shown old (AddsRequest old.facts asked) (state_after old.facts asked) new
 
   -- There is no reply: a read failed and nothing was done, or an accepted import was done and its text could not be allocated.
   abbrev pub LeavesUnanswered : Cause → OfficeModel S → (RequestContent → Type 0) → OfficeModel S → Type 0

@@ -7,6 +7,7 @@ ghost use Rattle.rbac_sets.specs.Stream.{HasRisen};
 ghost use Rattle.role_json.specs.Answer.{text_of};
 ghost use Rattle.role_json.specs.RequestContent.{requested};
 ghost use Rattle.role_wire.specs.Continuation.{ReachesState};
+ghost use Rattle.role_wire.specs.Events.{AddsLines};
 ghost use Rattle.role_wire.specs.LineAnswer.{AnswersLine, FailsLine};
 ghost use Rattle.role_wire.specs.private.RequestAnswer.{AnswersRequest, FailsRequest, verdict_of_refusal, unread_verdict};
 ghost use Rattle.role_wire.specs.Lines.{line_feed};
@@ -58,7 +59,7 @@ pub fn replay<S: Alter, R: Source, W: Sink>(
 ) -> Result<Count, Stop>
     ensures ok { IfOk result (λ count. (input : List ℕ) × Consumes (R.remaining source.old) (R.remaining source.new) input
         × IsAnswered office.old.facts input (W.written sink.old) (W.written sink.new) count.answered
-        × ReachesState (state S.Store) office.old (after_lines office.old.facts (asking_lines input)) office.new) }
+        × ReachesState (state S.Store) office.old (AddsLines office.old.facts (asking_lines input)) (after_lines office.old.facts (asking_lines input)) office.new) }
     ensures end { OnOk result (IsAtEnd (R.remaining source.new)) }
     ensures stopped { office.old.is_closed ≡ false → IfErr result (λ stop. (taken : List ℕ) × Consumes (R.remaining source.old) (R.remaining source.new) taken
         × IsHalted (state S.Store) office.old office.new taken (IsAtEnd (R.remaining source.new)) (W.written sink.old) (W.written sink.new) stop.cause stop.answered) }

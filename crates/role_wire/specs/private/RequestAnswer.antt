@@ -11,8 +11,8 @@ use Rattle.role_json.specs.declared.answer.Verdict.{Verdict}
 use Rattle.role_json.specs.declared.answer.Verdict.TheVariants.{Refused}
 use Rattle.role_tables.specs.Office.{OfficeModel}
 use Rattle.role_wire.specs.Continuation.{ReachesState}
+use Rattle.role_wire.specs.Events.{AddsRequest}
 use Rattle.role_wire.specs.Outcome.{outcome_of, state_after, outcome_text}
-use Rattle.role_wire.specs.OfficeRequest.{IsAccepted, IsAcceptedImport}
 use Rattle.role_wire.specs.LineAnswer.{FailsFor}
 use Rattle.review_mgr.specs.declared.query.Query.{Query}
 use Rattle.role_json.specs.RequestContent.{RequestContent, Ask}
@@ -23,11 +23,11 @@ IsQuestion requested = (query : Query) × (requested ≡ Ask query)
 module _ {S : Type 0} (shown : Held S → State) where
   -- the office answers the request with this text
   abbrev pub AnswersRequest : OfficeModel S → RequestContent → List ℕ → OfficeModel S → Type 0
-  AnswersRequest old asked text new = (text ≡ outcome_text (outcome_of old.facts asked)) × ReachesState shown old (state_after old.facts asked) new
+  AnswersRequest old asked text new = (text ≡ outcome_text (outcome_of old.facts asked)) × ReachesState shown old (AddsRequest old.facts asked) (state_after old.facts asked) new
 
   -- no answer to a request
   abbrev pub FailsRequest : OfficeModel S → RequestContent → Unanswered → OfficeModel S → Type 0
-  FailsRequest old asked = FailsFor shown old (IsAccepted old.facts asked) (IsAcceptedImport old.facts asked) (state_after old.facts asked)
+  FailsRequest old asked = FailsFor shown old (λ it. it ≡ asked)
 
 -- the verdict on a line that is no request, or why there is none
 abbrev pub unread_verdict : Refusal → Result Verdict Unanswered
