@@ -1,30 +1,34 @@
 -- The state that files stored is stored in the connection that was opened on them, and the state of the last office in the files that
 -- were closed.
-use Rattle.std.proofs.Common.{List, ◌≡◌, [], ◌∙◌, ap, arith, subst, sym}
+use Rattle.std.proofs.Common.{List, ◌≡◌, ◌⊎◌, [], ◌∙◌, ap, arith, inl, inr, subst, sym}
 use Rattle.std.specs.Prelude.{false, IsTrue}
+use Rattle.std.proofs.Math.Logic.{∥∥₁_elim}
 use Rattle.std.proofs.lemmas.Bool.{true≢false}
+use Rattle.sqlite.specs.Closing.{HoldsAlone}
 use Rattle.sqlite.specs.Effect.{Database}
 use Rattle.sqlite.specs.Files.{IsClosed, IsOpened, file_state, over_files}
 use Rattle.sqlite.specs.Held.{Held, state}
 use Rattle.sqlite.specs.Recovery.{Image}
 use Rattle.sqlite.specs.Start.{FindsIn}
 use Rattle.sqlite.specs.State.{HasCleanDisk, State}
+use Rattle.sqlite.specs.Tree.{Trees}
 use Rattle.sqlite_disk.specs.declared.Disk.{Ghosts}
 use Rattle.sqlite_disk.specs.declared.Files.{Files}
 use Rattle.sqlite_store.specs.FileStore.{view}
 use Rattle.sqlite_store.specs.declared.store.FileStore.{FileStore}
+use Rattle.sqlite_trees.specs.Props.{Trees-set}
 use Rattle.sqlite_trees.specs.View.{IsClean}
 use Rattle.rbac_sets.specs.declared.refusal.Refusal.{Refusal}
 use Rattle.admin_mgr.specs.Good.{IsGood}
 use Rattle.admin_mgr.specs.OfficeRun.{Event, migrated_to_version_2}
 use Rattle.admin_mgr.specs.RbacState.{RbacState, empty_state}
 use Rattle.admin_mgr.specs.StateNames.{AreNamed}
-use Rattle.role_tables.specs.Durability.{HoldsAsBefore, HoldsWhatWasLeft, IsDurable, StaysOutside}
+use Rattle.role_tables.specs.Durability.{HoldsAsBefore, HoldsWhatWasLeft, IsDurable, LeavesState, StaysOutside}
 use Rattle.role_tables.specs.Office.{OfficeModel}
 use Rattle.role_tables.specs.Runs.{IsInRun}
 use Rattle.role_tables.specs.StoredState.{HoldsState}
 use Rattle.role_cli.specs.Environment.{Environment}
-use Rattle.role_cli.specs.FileWork.{ClosesOver, FailsOnStore, HoldsCommit, MigrationIsStored, NewOfficeIsStored, RefusedOpeningIsStored, StoresAlone, StoresState, WorkIsStored, WorksOnFiles, WorksOnStore}
+use Rattle.role_cli.specs.FileWork.{ClosesOver, FailsOnStore, HoldsCommit, MigrationIsStored, NewOfficeIsStored, RefusedOpeningIsStored, RunsCompose, StoresAlone, StoresState, WorkIsStored, WorksOnFiles, WorksOnStore}
 use Rattle.role_cli.specs.Work.{BeginsRun, FailsOnConnection, IsUnopened, makes}
 use Rattle.role_cli.specs.declared.choice.Choice.{Choice}
 use Rattle.role_cli.specs.declared.choice.Choice.TheVariants as choice
@@ -36,7 +40,7 @@ use Rattle.role_cli.specs.private.ClosedConnection.{ClosesConnection}
 pub stands_in : {D : Type 0} {g : Ghosts D} (image : Image) (opened : Held (FileStore D g)) → IsOpened opened → FindsIn image (file_state opened) → HoldsWhatWasLeft (file_state opened)
     → (S : RbacState) → StoresState image S → IsDurable (file_state opened) S
 stands_in image opened is_opened found finds S (trees, holds, left) =
-    finds S trees left is_opened.0.is_open is_opened.0.autocommit (ap (λ (db : Database). db.trees) is_opened.0.clean ∙ found.holds trees holds)
+    finds S trees left is_opened.0.is_open is_opened.0.autocommit (ap (λ (db : Database). db.trees) is_opened.0.clean ∙ ∥∥₁_elim holds (Trees-set _ _) (found.holds trees))
 
 -- what a closed connection held outside a transaction is stored
 holds_stored : {D : Type 0} {g : Ghosts D} (conn : Held (FileStore D g)) (files : Files D) → ClosesOver g files conn → conn.in_transaction ≡ false
@@ -52,7 +56,7 @@ holds_stored conn files closes outside S holds =
     }
 
 -- so the state of an office in a run is, if it has handed the connection back
-run_stored : {D : Type 0} {g : Ghosts D} (conn : Held (FileStore D g)) (files : Files D) → ClosesOver g files conn → conn.in_transaction ≡ false
+pub run_stored : {D : Type 0} {g : Ghosts D} (conn : Held (FileStore D g)) (files : Files D) → ClosesOver g files conn → conn.in_transaction ≡ false
     → (start : RbacState) (events : List Event) (office : OfficeModel (FileStore D g)) → conn ≡ office.conn → IsInRun (state over_files) start events office → StoresAlone g files office.facts
 run_stored conn files closes outside start events office same run =
     holds_stored conn files closes outside office.facts (subst (λ c. HasCleanDisk (file_state c) → IsTrue (file_state c).is_open → HoldsState (file_state c).now office.facts) (sym same) run.held)
@@ -82,7 +86,7 @@ fails_on image chosen failure untouched never_begins from to conn (after.Left st
     works_on image (λ before conn. FailsOnConnection (state over_files) chosen before failure untouched from to conn) conn (after.Left store) closes settled works
 
 -- what began a run over a state that was durable began with it
-begins_with : {C : Type 0} (shown : Held C → State) (chosen : Choice) (before : State) (office : OfficeModel C) (S : RbacState) → makes chosen ≡ false → IsGood S → AreNamed S → IsDurable before S → BeginsRun shown chosen before office → IsInRun shown S [] office
+pub begins_with : {C : Type 0} (shown : Held C → State) (chosen : Choice) (before : State) (office : OfficeModel C) (S : RbacState) → makes chosen ≡ false → IsGood S → AreNamed S → IsDurable before S → BeginsRun shown chosen before office → IsInRun shown S [] office
 begins_with shown (choice.Init path) before office S makes good named durable begins = absurd (true≢false makes)
 begins_with shown (choice.Migrate path) before office S makes good named durable begins = absurd (true≢false makes)
 begins_with shown _ before office S makes good named durable begins = begins.1 S good named durable
@@ -92,8 +96,8 @@ module _ {D : Type 0} (g : Ghosts D) where
   work_stored Work chosen image files from to S makes good named stored (conn, on_files, closes) =
       let works = on_files.work in
       let run = begins_with (state over_files) chosen (file_state on_files.opened) works.first S makes good named (on_files.durable S stored) works.begins in
-      let later = works.continues.runs S [] run in
-      (works.first, works.last, run.state, works.work, run_stored conn files closes works.is_outside S later.0 works.last works.is_last later.1)
+      let later = works.continues.runs.2 S [] run in
+      (works.first, works.last, run.state, works.work, run_stored conn files closes works.is_outside S works.continues.runs.0 works.last works.is_last later)
 
   pub new_stored : NewOfficeIsStored g
   new_stored path image files from to (conn, on_files, closes) =
@@ -113,12 +117,22 @@ module _ {D : Type 0} (g : Ghosts D) where
   -- a refused opening left the connection outside a transaction, and what it held
   unopened_holds : (chosen : Choice) (before : State) (refusal : Refusal) (after : State) (S : RbacState) → IsGood S → AreNamed S → IsDurable before S → IsUnopened chosen before refusal after
       → StaysOutside before after × HoldsAsBefore before after
-  unopened_holds (choice.Init path) before refusal after S good named durable (why, holds, left, outside) = (outside, holds)
-  unopened_holds (choice.Migrate path) before refusal after S good named durable (why, stays, left, outside) = (outside, (stays S good named durable).0)
-  unopened_holds _ before refusal after S good named durable (why, holds, left, outside) = (outside, holds)
+  unopened_holds (choice.Init path) before refusal after S good named durable unopened = (unopened.3, unopened.1)
+  unopened_holds (choice.Migrate path) before refusal after S good named durable unopened = (unopened.4, (unopened.2 S good named durable).0)
+  unopened_holds _ before refusal after S good named durable unopened = (unopened.3, unopened.1)
 
   pub refused_stored : RefusedOpeningIsStored g
   refused_stored chosen image files refusal S good named stored (conn, on_files, closes) =
       let durable = on_files.durable S stored in
       let (outside, holds) = unopened_holds chosen (file_state on_files.opened) refusal (file_state conn) S good named durable on_files.work in
       holds_stored conn files closes (outside durable.autocommit) S (λ clean is_open. subst (λ db. HoldsState db S) (sym (holds is_open)) durable.held)
+
+  -- an image whose database file alone holds the trees stores their state, with the log and without it
+  stored_alone : (S : RbacState) (trees : Trees) (image next : Image) → LeavesState S trees → HoldsAlone image trees → (next ≡ image) ⊎ (next ≡ record image { log = [] }) → StoresState next S
+  stored_alone S trees image next leaves holds (inl same) = subst (λ it. StoresState it S) (sym same) (trees, holds.both, leaves)
+  stored_alone S trees image next leaves holds (inr same) = subst (λ it. StoresState it S) (sym same) (trees, holds.alone, leaves)
+
+  pub runs_compose : RunsCompose g
+  runs_compose files S next alone (image, inl now, log) =
+      stored_alone S alone.trees image next alone.stores (subst (λ it. HoldsAlone it alone.trees) (sym now) alone.now) log
+  runs_compose files S next alone (image, inr left, log) = stored_alone S alone.trees image next alone.stores (alone.left image left) log

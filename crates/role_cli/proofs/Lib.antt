@@ -2,6 +2,7 @@ mod Results
 pub mod Beginning
 pub mod CsvText
 pub mod Faults
+pub mod FileRuns
 pub mod FileWork
 pub mod Getters
 pub mod GivenValues

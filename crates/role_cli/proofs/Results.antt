@@ -41,6 +41,11 @@ pub if_err-four : {T E : Type 0} (r : Result T E) (P Q R S Z : E → Type 0) →
 if_err-four (Ok t) P Q R S Z one two three four step = tt
 if_err-four (Err e) P Q R S Z one two three four step = step e one two three four
 
+pub if_err-five : {T E : Type 0} (r : Result T E) (P Q R S U Z : E → Type 0) → IfErr r P → IfErr r Q → IfErr r R → IfErr r S → IfErr r U
+    → ((e : E) → P e → Q e → R e → S e → U e → Z e) → IfErr r Z
+if_err-five (Ok t) P Q R S U Z one two three four five step = tt
+if_err-five (Err e) P Q R S U Z one two three four five step = step e one two three four five
+
 -- a refusal that became a failure, with what was written
 pub unwritten : (r : Result (Unit {0}) Refusal) (m : Result (Unit {0}) Failure) (Part Fault : Type 0)
     → MatchResult r (λ _. IsOk m) (λ refusal. m ≡ Err (Refused refusal)) → OnErr r Part

@@ -1,12 +1,13 @@
 -- Connections one after another.
 use Rattle.std.proofs.Common.{◌≡◌, ◌+◌, ◌-◌, ◌^◌, ◌<◌, ℕ, arith, inl, inr, Bool, false, true, List, [], ◌∷◌, ◌++◌, Option, Some, None, refl, sym, ap, subst, ◌∙◌}
-use Rattle.std.specs.Prelude.{◌||◌, if◌then◌else◌, map, min, nat_lt, option_map, ◌≤◌}
+use Rattle.std.specs.Prelude.{⊤, ◌||◌, if◌then◌else◌, map, min, nat_lt, option_map, ◌≤◌}
 use Rattle.std.proofs.lemmas.List.{map-append}
 use Rattle.std.specs.List.{list_any}
 use Rattle.std.proofs.lemmas.Bool.{cases_Bool, eqb-true, lt-ltb, ltb-false, ltb-true, true≢false}
 use Rattle.std.proofs.lemmas.List.Folds.{list_any-append}
 use Rattle.sqlite.specs.Held.{Held}
 use Rattle.sqlite.specs.State.{State}
+use Rattle.admin_mgr.specs.OfficeRun.{Event}
 use Rattle.admin_mgr.specs.RbacState.{RbacState}
 use Rattle.rbac_sets.specs.Stream.{HasRisen, failed_in_memory, left_in_memory, one_more, written_in_memory}
 use Rattle.rbac_sets.specs.declared.sink.MemorySink.{MemorySink}
@@ -156,26 +157,26 @@ module _ {S : Type 0} (shown : Held S → State) where
   -- ---- the run continues
 
   pub same_continues : (old new : OfficeModel S) → new ≡ old → Continues shown old new
-  same_continues old new same = subst (Continues shown old) (sym same) (record { clean = λ clean. clean; runs = same_run shown old })
+  same_continues old new same = subst (Continues shown old) (sym same) (record { clean = λ clean. clean; runs = same_run shown old (λ _. ⊤) tt })
 
-  pub reaches_continues : (old new : OfficeModel S) (T : RbacState) → ReachesState shown old T new → Continues shown old new
-  reaches_continues old new T reaches = record { clean = reaches.keeps.clean; runs = reaches.keeps.runs }
+  pub reaches_continues : (old new : OfficeModel S) (Added : List Event → Type 0) (T : RbacState) → ReachesState shown old Added T new → Continues shown old new
+  reaches_continues old new Added T reaches = record { clean = reaches.keeps.clean; runs = (reaches.keeps.runs.0, tt, reaches.keeps.runs.2) }
 
-  pub breaks_continues : (old new : OfficeModel S) (from to : RbacState) → StoreFails shown old from to new → Continues shown old new
-  breaks_continues old new from to breaks = record { clean = breaks.clean; runs = breaks.runs }
+  pub breaks_continues : (old new : OfficeModel S) (Added : List Event → Type 0) (from to : RbacState) → StoreFails shown old Added from to new → Continues shown old new
+  breaks_continues old new Added from to breaks = record { clean = breaks.clean; runs = (breaks.runs.0, tt, breaks.runs.2) }
 
   continues_then : (a b c : OfficeModel S) → Continues shown a b → Continues shown b c → Continues shown a c
-  continues_then a b c first later = record { clean = λ clean. first.clean (later.clean clean); runs = runs_then shown a b c first.runs later.runs }
+  continues_then a b c first later = record { clean = λ clean. first.clean (later.clean clean); runs = runs_then shown a b c (λ _. ⊤) (λ _. ⊤) (λ _. ⊤) (λ _ _ _ _. tt) first.runs later.runs }
 
   tells_continues : (old new : OfficeModel S) (bytes : List ℕ) (status : ℕ) (body : List ℕ) → AnswersBytes shown old bytes status body new → Continues shown old new
-  tells_continues old new bytes status body (inl (reply, replies, (_, _, reaches)), closed) = reaches_continues old new reply.after reaches
-  tells_continues old new bytes status body (inr (inl (_, _, reaches)), closed) = reaches_continues old new old.facts reaches
-  tells_continues old new bytes status body (inr (inr (inl (_, _, (asked, asks, at)))), closed) = breaks_continues old new _ _ at.breaks
+  tells_continues old new bytes status body (inl (reply, replies, (_, _, reaches)), closed) = reaches_continues old new _ reply.after reaches
+  tells_continues old new bytes status body (inr (inl (_, _, reaches)), closed) = reaches_continues old new _ old.facts reaches
+  tells_continues old new bytes status body (inr (inr (inl (_, _, (asked, asks, at)))), closed) = breaks_continues old new _ _ _ at.breaks
   tells_continues old new bytes status body (inr (inr (inr (_, _, shut, same, asked))), closed) = same_continues old new same
 
   unanswered_continues : (why : Cause) (old new : OfficeModel S) (AsksFor : RequestContent → Type 0) → LeavesUnanswered shown why old AsksFor new → Continues shown old new
   unanswered_continues cause.Read old new AsksFor same = same_continues old new same
-  unanswered_continues cause.Memory old new AsksFor (asked, asks, works, accepted, reaches) = reaches_continues old new _ reaches
+  unanswered_continues cause.Memory old new AsksFor (asked, asks, works, accepted, reaches) = reaches_continues old new _ _ reaches
   unanswered_continues cause.Write old new AsksFor none = absurd none
   unanswered_continues (cause.Line n) old new AsksFor none = absurd none
   unanswered_continues cause.Store old new AsksFor none = absurd none

@@ -17,13 +17,13 @@ use Rattle.role_cli.proofs.Served.{breaks_continues, reaches_continues, same_con
 
 module _ {S : Type 0} (shown : Held S → State) where
   performs_continues : (old new : OfficeModel S) (pairs : List Pair) (line : List ℕ) → DoesRequest shown old (Change (Import pairs)) line new → Continues shown old new
-  performs_continues old new pairs line performs = reaches_continues shown old new _ performs.reaches
+  performs_continues old new pairs line performs = reaches_continues shown old new _ _ performs.reaches
 
   declines_continues : (old new : OfficeModel S) (pairs : List Pair) (refusal : Refusal) → RefusesRequest shown old (Change (Import pairs)) refusal new → Continues shown old new
-  declines_continues old new pairs refusal (inl (_, same)) = same_continues shown old new same
-  declines_continues old new pairs refusal (inr (inl (_, at))) = breaks_continues shown old new _ _ at.breaks
+  declines_continues old new pairs refusal (inl (_, same, _)) = same_continues shown old new same
+  declines_continues old new pairs refusal (inr (inl (_, at))) = breaks_continues shown old new _ _ _ at.breaks
   declines_continues old new pairs refusal (inr (inr (inl (_, _, same)))) = same_continues shown old new same
-  declines_continues old new pairs refusal (inr (inr (inr (_, _, same)))) = same_continues shown old new same
+  declines_continues old new pairs refusal (inr (inr (inr (_, _, same, _)))) = same_continues shown old new same
 
   failed_import_continues : (file : Option (List ℕ)) (old new : OfficeModel S) (failure : Failure) (write_failed csv_failed : Type 0) (written now_written : Option (List ℕ))
       → FailsToImport shown file old failure write_failed csv_failed written now_written new → Continues shown old new

@@ -1,5 +1,5 @@
 -- Work over the files at a path: what they held when they were opened, and what the work did.
-use Rattle.std.specs.Prelude.{◌≡◌, false, IsTrue, String}
+use Rattle.std.specs.Prelude.{◌≡◌, ◌⊎◌, [], false, IsTrue, String}
 use Rattle.std.specs.declared.alloc.Global.{Global}
 use Rattle.sqlite.specs.Closing.{HoldsAlone, IsCopied}
 use Rattle.sqlite.specs.Held.{Held, state}
@@ -33,7 +33,7 @@ use Rattle.role_cli.specs.declared.store_after.StoreAfter.TheVariants as after
 
 -- the files hold a database in which the state is stored
 abbrev pub StoresState : Image → RbacState → Type 0
-StoresState image S = (trees : Trees) × HoldsDatabase image trees × LeavesState S trees
+StoresState image S = (trees : Trees) × ∥ HoldsDatabase image trees ∥₁ × LeavesState S trees
 
 -- outside a transaction an open connection holds what was committed
 abbrev pub HoldsCommit : State → Type 0
@@ -117,3 +117,14 @@ module _ {D : Type 0} (g : Ghosts D) where
   NewOfficeIsStored = (path : String Global) (image : Image) (files : Files D) (from to : Environment)
       → WorksAndCloses image files (λ before conn. DoesOnConnection (state over_files) (Init path) before from to conn)
       → StoresAlone files (empty_state 2)
+
+  -- ---- from one run to the next
+
+  -- What the next run may open after the files were closed: what they read now, or an outcome of a crash; with the log, or without it.
+  abbrev pub MayBeOpened : Files D → Image → Type 0
+  MayBeOpened files next = (image : Image) × ((image ≡ image_of g files) ⊎ outcomes g files.log files.db image)
+      × ((next ≡ image) ⊎ (next ≡ record image { log = [] }))
+
+  -- The state that one run stored alone is stored in whatever the next run may open.
+  abbrev pub RunsCompose : Type 0
+  RunsCompose = (files : Files D) (S : RbacState) (next : Image) → StoresAlone files S → MayBeOpened files next → StoresState next S

@@ -2,6 +2,7 @@ pub mod ArgumentChoice
 pub mod CommandLine
 pub mod Environment
 pub mod ErrorOutput
+pub mod FileRuns
 pub mod FileWork
 pub mod Hosts
 pub mod Leftovers

@@ -25,6 +25,7 @@ use Rattle.role_tables.specs.OpeningChecks.{IsMemoryOrStore, ReadsState, Refuses
 use Rattle.role_tables.specs.Runs.{IsInRun}
 use Rattle.role_tables.specs.Durability.{HoldsAsBefore, LeavesBeforeOr, LeavesOnly, StaysOutside, WhateverIsDurable}
 use Rattle.role_wire.specs.Continuation.{Continues, ReachesState}
+use Rattle.role_wire.specs.Events.{AddsLines}
 use Rattle.role_wire.specs.Lines.{line_feed}
 use Rattle.role_wire.specs.Outcome.{after_lines, asking_lines}
 use Rattle.role_wire.specs.OfficeRequest.{RefusesRequest, DoesRequest}
@@ -102,7 +103,7 @@ abbrev pub IsUnopened : Choice → State → Refusal → State → Type 0
 IsUnopened (choice.Init _) before refusal after =
     (refusal ≡ Store) × HoldsAsBefore before after × LeavesBeforeOr before after (empty_state 2) × StaysOutside before after
 IsUnopened (choice.Migrate _) before refusal after =
-    RefusesMigration (contents_of before.now) refusal × StaysRefused before after refusal
+    RefusesMigration (contents_of before.now) refusal × (refusal ≢ Store → HoldsAsBefore before after) × StaysRefused before after refusal
     × LeavesEitherVersion before after × StaysOutside before after
 IsUnopened _ before refusal after =
     ((refusal ≡ Store) ⊎ RefusesContents (contents_of before.now) refusal) × HoldsAsBefore before after
@@ -116,7 +117,7 @@ module _ {C : Type 0} (shown : Held C → State) where
   AnswersInput old remaining now_remaining written now_written new =
       (input : List ℕ) × Consumes remaining now_remaining input × IsAtEnd now_remaining
       × ((answered : ℕ) × IsAnswered old.facts input written now_written answered)
-      × ReachesState shown old (after_lines old.facts (asking_lines input)) new
+      × ReachesState shown old (AddsLines old.facts (asking_lines input)) (after_lines old.facts (asking_lines input)) new
 
   -- ---- an import
 

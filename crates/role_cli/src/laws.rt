@@ -2,12 +2,14 @@
 ghost use Rattle.sqlite.specs.Files.{over_files};
 ghost use Rattle.sqlite.specs.Held.{state};
 ghost use Rattle.role_cli.specs.Environment.{StartDecides};
-ghost use Rattle.role_cli.specs.FileWork.{MigrationIsStored, NewOfficeIsStored, RefusedOpeningIsStored, WorkIsStored};
+ghost use Rattle.role_cli.specs.FileRuns.{DeassignedStaysInFile, FileLives, ReplayIsFileRun, RevokedStaysInFile, WorkIsFileRun};
+ghost use Rattle.role_cli.specs.FileWork.{MigrationIsStored, NewOfficeIsStored, RefusedOpeningIsStored, RunsCompose, WorkIsStored};
 ghost use Rattle.role_cli.specs.ServedConnections.{ServedAreAccepted};
 ghost use Rattle.role_cli.specs.Work.{DoesSubcommand, FailsSubcommand, NoneBeginsOverRefused};
 ghost use Rattle.role_cli.specs.declared.failure.Failure.{Failure};
 
-use role_tables::laws::refused_openings;
+use admin_mgr::laws::migrated_good;
+use role_tables::laws::{calls, lives, refused_openings};
 use sqlite::{Alter, Connection};
 use sqlite_disk::Disk;
 
@@ -44,3 +46,36 @@ pub fn served_are_accepted<S: Alter>(_conn: &Connection<S>)
 pub fn a_start_decides()
     ensures { StartDecides }
 {}
+
+/// The state that one run of the program stored is stored in the files that the next run opens, as they read after
+/// the close or after a crash, with their log or without it.
+pub fn runs_compose<D: Disk>(_disk: &D)
+    ensures { RunsCompose D.Disk }
+{}
+
+/// The headline theorem for one file: over any list of runs of the program, each stopped at any moment, each over files
+/// that store what the run before left, the files store a good state in the end whose texts are valid names. This is the
+/// state after a prefix of the accepted commands of the last run, and the prefix has every acknowledged one. An assignment or a
+/// grant is not in it if its removal was acknowledged in one of the runs and no later command may have restored it.
+pub fn file_lives()
+    ensures lives { FileLives }
+    ensures deassigned { DeassignedStaysInFile }
+    ensures revoked { RevokedStaysInFile }
+{
+    lives();
+    migrated_good();
+}
+
+/// The runs of the program are those that `file_lives` is about: work over an office that was there, which ended with its
+/// files closed, whether it was done or failed, began over whatever state they stored, and what the next run may open stores a
+/// state that its events allow. The events of a replay are those of the lines that it read, each command with its verdict, and
+/// what it wrote are their answers.
+pub fn work_is_file_run<D: Disk>(_disk: &D)
+    ensures done { WorkIsFileRun D.Disk (λ chosen from to first last. DoesSubcommand (state over_files) chosen first from to last) }
+    ensures failed { (failure : Failure) → WorkIsFileRun D.Disk
+        (λ chosen from to first last. FailsSubcommand (state over_files) chosen failure first from to last) }
+    ensures replay { ReplayIsFileRun D.Disk }
+{
+    calls();
+    lives();
+}

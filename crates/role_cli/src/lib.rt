@@ -9,7 +9,7 @@
 //! 3. `DoesOnStore` and `FailsOnStore`, in specs/FileWork.antt: the same of files, and what the database file alone
 //!    stores after the close.
 //! 4. `LeavesPaths`, in specs/Leftovers.antt: which files are removed.
-//! 5. `laws::work_is_stored`: what was done is in the file.
+//! 5. `laws::work_is_stored`: what was done is in the file; `laws::runs_compose`: and in what the next run opens.
 //!
 //! # How data flows
 //!

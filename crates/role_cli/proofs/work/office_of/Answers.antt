@@ -3,7 +3,7 @@ use Rattle.sqlite.specs.Held.{state}
 use Rattle.role_wire.proofs.Results.{if_err-then}
 use Rattle.role_cli.specs.declared.failure.Failure.TheVariants.{Refused}
 use Rattle.role_cli.proofs.Beginning.{begins_open, refusal_fails, starts_open, unopened_open}
-use Rattle.role_cli.proofs.Results.{if_err-four, if_ok-join, if_ok-three}
+use Rattle.role_cli.proofs.Results.{if_err-five, if_err-four, if_ok-join, if_ok-three}
 use Rattle.role_cli.proofs.work.office_of.Goals as goal
 
 -- ---- an office is created
@@ -29,8 +29,8 @@ returns-in-Migrate-clause-begins g c =
 
 pub returns-in-Migrate-clause-unopened : goal.returns-in-Migrate-clause-unopened
 returns-in-Migrate-clause-unopened g c =
-    rw c.in-Migrate.is (if_err-four c.migrate.result _ _ _ _ _ c.migrate.ensures.err c.migrate.ensures.unmoved c.migrate.ensures.crash c.migrate.ensures.outside
-    (λ u why stays left outside clean. (why clean, stays clean, left clean, outside)))
+    rw c.in-Migrate.is (if_err-five c.migrate.result _ _ _ _ _ _ c.migrate.ensures.err c.migrate.ensures.undone c.migrate.ensures.unmoved c.migrate.ensures.crash c.migrate.ensures.outside
+    (λ u why holds stays left outside clean. (why clean, holds clean, stays clean, left clean, outside)))
 
 pub returns-in-Migrate-clause-refusal : goal.returns-in-Migrate-clause-refusal
 returns-in-Migrate-clause-refusal g c = rw c.in-Migrate.is (if_err-then c.migrate.result _ _ c.migrate.ensures.refusal (λ u is. (u.refusal, refl, is)))
