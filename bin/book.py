@@ -72,7 +72,7 @@ def sentences():
 
 
 def in_order(places, named):
-    """The definitions that places reach, each after those that it names, but for those that name each other."""
+    """The definitions that places reach, each after those that it names, except if two name each other."""
     ordered, seen = [], set()
 
     def visit(place):

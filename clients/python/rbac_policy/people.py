@@ -265,5 +265,5 @@ def needs_confirmation(found: State, changes: Changes) -> int:
 
 
 def is_many(count: int, all_of_them: int) -> bool:
-    """Whether so many are above 5 of 100."""
+    """Whether the count is more than 5 of 100."""
     return count * _SHARE > all_of_them

@@ -14,7 +14,7 @@ NOWHERE = "http://127.0.0.1:9"
 
 
 class Office(BaseHTTPRequestHandler):
-    """A server whose sessions have ended, but for the third one. The second one is never opened."""
+    """A server all of whose sessions have ended, except the third one. The second one is never opened."""
 
     opened = []
     over = threading.Event()
