@@ -19,7 +19,8 @@ import kit
 from definitions.lemmas import Rows
 
 HERE = Path(__file__).resolve().parent
-CRATES = ("rbac_sets", "role_order", "order_matrix", "admin_mgr", "review_mgr")
+# The uppermost crate with definitions that are computed.
+TOP = "role_wire"
 # The fewest rows that are to be computed, and the most seconds that the checker may take.
 FEWEST_ROWS, MOST_SECONDS = 1000, 3600
 ERROR = re.compile(r"\./proofs/(\w+)\.antt:(\d+):\d+: error: (.*)")
@@ -27,9 +28,10 @@ ERROR = re.compile(r"\./proofs/(\w+)\.antt:(\d+):\d+: error: (.*)")
 
 @dataclass
 class Plant:
-    """A wrong definition: the kind of lemmas that it has to fail, its file in the specs of admin_mgr, and what is replaced there."""
+    """A wrong definition: the kind of lemmas that it has to fail, its crate and file, and what is replaced there."""
 
     kind: str
+    crate: str
     file: str
     old: str
     new: str
@@ -37,15 +39,35 @@ class Plant:
 
 PLANTS = (
     # Deleting a role that is in use isn't refused.
-    Plant("verdict", "Verdict", "wants_role S role ∷ refuse_if (is_in_use S role) RoleInUse ∷ []", "wants_role S role ∷ []"),
+    Plant(
+        "verdict",
+        "admin_mgr",
+        "Verdict",
+        "wants_role S role ∷ refuse_if (is_in_use S role) RoleInUse ∷ []",
+        "wants_role S role ∷ []",
+    ),
     # A deleted user stays locked.
-    Plant("after", "After", "  locked = remove S.locked user;\n", ""),
+    Plant("after", "admin_mgr", "After", "  locked = remove S.locked user;\n", ""),
     # Juniors of the activated roles give no access.
-    Plant("has_access", "Authorization", "(session_roles S session)\n", "(active_roles S session)\n"),
+    Plant("has_access", "admin_mgr", "Authorization", "(session_roles S session)\n", "(active_roles S session)\n"),
     # A locked user has access.
-    Plant("could_have_access", "UserAccess", "not (contains S.locked user) && any", "any"),
+    Plant("could_have_access", "admin_mgr", "UserAccess", "not (contains S.locked user) && any", "any"),
     # A role may violate a dynamic set.
-    Plant("stands_alone", "UserAccess", "nat_lt (count (geq S.edges role) (members_of S.dsd entry.0)) entry.1", "nat_lt 1 entry.1"),
+    Plant(
+        "stands_alone",
+        "admin_mgr",
+        "UserAccess",
+        "nat_lt (count (geq S.edges role) (members_of S.dsd entry.0)) entry.1",
+        "nat_lt 1 entry.1",
+    ),
+    # A text that is no name is read as one.
+    Plant("request", "role_json", "Fields", "name text = if is_name text then Ok text else Err BadName", "name text = Ok text"),
+    # An answer doesn't name the static set that would be violated.
+    Plant("answer", "role_json", "Answer", 'part_of (StaticSeparation set) = Some (codes "set", string set)\n', ""),
+    # A line of a carriage return alone asks for an answer.
+    Plant("output", "role_wire", "Lines", "byte == 32 || (byte == 9 || byte == 13)", "byte == 32 || byte == 9"),
+    # A refusal has the status of an answer.
+    Plant("reply", "role_wire", "Reply", "status_in (Err refusal) = status_of refusal", "status_in (Err refusal) = 200"),
 )
 
 
@@ -54,11 +76,21 @@ PLANT_ROWS = (
     "commands/core-rbac/roles-come-and-go",
     "commands/small-office/its-users-are-locked",
     "dynamic-separation",
+    "names",
     "questions/access/an-operation-on-another-object-is-there",
     "questions/small-office/each-question-is-answered",
+    "static-separation",
 )
-# The files whose definitions are copied for the plants: those with plants, and those between them.
-COPIED = ("Authorization", "UserAccess", "Separation", "Refusals", "Assignment", "After", "Verdict")
+# The files whose definitions are copied for plants: those with plants, and those between them. Plants are tried together if their
+# crates are.
+COPIED = (
+    {"admin_mgr": ("Authorization", "UserAccess", "Separation", "Refusals", "Assignment", "After", "Verdict")},
+    {
+        "role_json": ("Fields", "Calls", "Request", "Answer"),
+        "role_lines": ("Outcome",),
+        "role_wire": ("Lines", "Outcome", "Reply"),
+    },
+)
 
 
 class Kept(build.Build):
@@ -89,16 +121,24 @@ def library_of(folder, crates):
     return build.left_by_ci if is_left else None
 
 
-def of_copies(text):
-    """A text that uses the copied definitions instead of those of the library."""
-    return re.sub(rf"\bRattle\.admin_mgr\.specs\.({'|'.join(COPIED)})\b", r"Rattle.rows.specs.\1", text)
+def name_of_copy(crate, file):
+    """The name of the module that is a copy of a file."""
+    return "".join(it.capitalize() for it in crate.split("_")) + file
 
 
-def planted(file, plants):
+def of_copies(text, copied):
+    """A text that uses the copied definitions instead of those of the libraries."""
+    for crate, files in copied.items():
+        for file in files:
+            text = re.sub(rf"\bRattle\.{crate}\.specs\.{file}\b", f"Rattle.rows.specs.{name_of_copy(crate, file)}", text)
+    return text
+
+
+def planted(crate, file):
     """The text of a file of definitions with what is planted there."""
-    text = kit.read(f"{kit.TOP}/crates/admin_mgr/specs/{file}.antt")
-    for plant in plants:
-        if plant.file == file:
+    text = kit.read(f"{kit.TOP}/crates/{crate}/specs/{file}.antt")
+    for plant in PLANTS:
+        if (plant.crate, plant.file) == (crate, file):
             assert text.count(plant.old) == 1, f"{file} has the text of a plant {text.count(plant.old)} times: {plant.old}"
             text = text.replace(plant.old, plant.new)
     return text
@@ -110,7 +150,7 @@ class Crate:
     def __init__(self, folder, library):
         known = kit.crates()
         self.folder, self.library = folder, library
-        self.crate = kit.Crate("rows", folder, CRATES, known)
+        self.crate = kit.Crate("rows", folder, [*(it.name for it in known[TOP].own), *known[TOP].of_kit[1:], TOP], known)
         self.used = 0
 
     def write(self, path, text):
@@ -119,15 +159,16 @@ class Crate:
         path.parent.mkdir(parents=True, exist_ok=True)
         path.write_text(text, encoding="utf-8")
 
-    def lay_out(self, pages, plants=()):
+    def lay_out(self, pages, copied=()):
         """Writes the crate's files: the modules of the rows and, for plants, copies of the definitions."""
+        files = [(crate, file) for crate in copied for file in copied[crate]]
         self.write("src/lib.rt", "//! Lemmas about rows.\n")
-        self.write("specs/Lib.antt", "".join(f"pub mod {it}\n" for it in COPIED if plants))
-        for file in COPIED if plants else ():
-            self.write(f"specs/{file}.antt", of_copies(planted(file, plants)))
+        self.write("specs/Lib.antt", "".join(f"pub mod {name_of_copy(*it)}\n" for it in files))
+        for it in files:
+            self.write(f"specs/{name_of_copy(*it)}.antt", of_copies(planted(*it), copied))
         self.write("proofs/Written.antt", kit.read(HERE / "written.antt.test"))
         for number, page in enumerate(pages):
-            self.write(f"proofs/Rows{number}.antt", of_copies(page.text()) if plants else page.text())
+            self.write(f"proofs/Rows{number}.antt", of_copies(page.text(), copied) if copied else page.text())
         self.write("proofs/Lib.antt", "mod Written\n" + "".join(f"mod Rows{number}\n" for number in range(len(pages))))
 
     def check(self, pages):
@@ -143,9 +184,10 @@ class Crate:
         for line in said:
             found = ERROR.match(line)
             lemma = found and lemma_at(pages, found[1], int(found[2]))
-            if lemma and "were not checked" not in line:
+            # A lemma that uses a refused one isn't checked.
+            if lemma and "not checked" not in line:
                 refused.setdefault(id(lemma), (lemma, found[3]))
-            elif " error: " in line or line.startswith(("error", "rattle:")):
+            elif not lemma and (" error: " in line or line.startswith(("error", "rattle:"))):
                 others.append(line)
         if not refused and not others and not any(it.startswith("logic=proved ") for it in said):
             others += said[-1:] or ["the checker said nothing"]
@@ -185,30 +227,33 @@ def compare(crate, rows):
     return 0 if others else len(lemmas) - len(refused), len(refused) + len(others) + few
 
 
-def show_plants(crate, rows):
-    """Plants the wrong definitions; returns how many are seen, and how many aren't."""
-    seen = 0
+def show_plants(folder, library, rows):
+    """Plants the wrong definitions; returns how many are seen, and how many faults there are."""
+    seen = faults = 0
     pages = [it for it in rows.pages if it.path.removesuffix(".jsonl") in PLANT_ROWS]
-    for page in pages:
-        page.lemmas = [it for it in page.lemmas if it.kind in {plant.kind for plant in PLANTS}]
-    crate.lay_out(pages, PLANTS)
-    refused, others = crate.check(pages)
+    missing = sorted(set(PLANT_ROWS) - {it.path.removesuffix(".jsonl") for it in pages})
     total = Counter(it.kind for page in pages for it in page.lemmas)
-    missing = set(PLANT_ROWS) - {it.path.removesuffix(".jsonl") for it in pages}
-    others += [f"no lemmas of {it}" for it in sorted(missing)]
-    found = Counter(lemma.kind for lemma, _ in refused.values())
-    for line in others:
-        print(f"FAILED: with wrong definitions: {line}")
-    for plant in PLANTS:
-        print(f"a wrong {plant.kind} is refused by {found[plant.kind]} of {total[plant.kind]} lemmas")
-        seen += 0 < found[plant.kind] < total[plant.kind]
-    print(f"the checker took {crate.used:.0f} s of a processor")
-    return seen, len(PLANTS) - seen + len(others)
+    for number, copied in enumerate(COPIED):
+        crate = Crate(f"{folder}/planted{number}", library)
+        crate.lay_out(pages, copied)
+        refused, others = crate.check(pages)
+        found = Counter(lemma.kind for lemma, _ in refused.values())
+        for line in [*others, *(f"no lemmas of {it}" for it in missing)]:
+            print(f"FAILED: with wrong definitions: {line}")
+            faults += 1
+        for plant in [it for it in PLANTS if it.crate in copied]:
+            print(f"a wrong {plant.kind} is refused by {found[plant.kind]} of {total[plant.kind]} lemmas")
+            is_seen = 0 < found[plant.kind] < total[plant.kind]
+            seen += is_seen
+            faults += not is_seen
+        print(f"the checker took {crate.used:.0f} s of a processor")
+    return seen, faults
 
 
 def main(words):
     """Compares, and plants wrong definitions."""
-    library = library_of(os.path.abspath(words[0]) if words else None, [kit.crates()[it] for it in CRATES])
+    top = kit.crates()[TOP]
+    library = library_of(os.path.abspath(words[0]) if words else None, [*top.below(), top])
     if not library:
         print("FAILED: the libraries of these sources aren't there: `rt ci` or `bin/rbac --build` proves and leaves them")
         print("0 passed, 1 failed")
@@ -216,7 +261,7 @@ def main(words):
     rows = Rows(HERE.parent / "rows")
     with tempfile.TemporaryDirectory() as folder:
         good, bad = compare(Crate(f"{folder}/rows", library), rows)
-        seen, unseen = show_plants(Crate(f"{folder}/planted", library), rows)
+        seen, unseen = show_plants(folder, library, rows)
     print(f"{good + seen} passed, {bad + unseen} failed")
     return 1 if bad + unseen else 0
 

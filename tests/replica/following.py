@@ -27,8 +27,9 @@ from .proxies import Proxy
 RATE, BATCH, SECONDS_OF_A_ROUND = 1_000, 20, 6
 ROUNDS = 20
 
-# A copy that is older doesn't decide.
+# A copy that is older doesn't decide, and these are the reasons then.
 OLDEST = 3.0
+UNDECIDED = ("unavailable", "unreachable", "unanswered")
 
 
 class Writer:
@@ -217,7 +218,7 @@ def judge(bench, writer, file):
     known = {}
     for line in open(file, encoding="utf-8"):
         start, age, number, reason, question = json.loads(line)
-        if reason in ("unavailable", "unreachable", "unanswered"):
+        if reason in UNDECIDED:
             counts["decisions that nobody could make"] += 1
             continue
         counts["decisions"] += 1
@@ -265,14 +266,25 @@ def a_round(bench, language, seed, is_disturbed):
             counts.update({f"kills of {what}": count for what, count in disturber.kills.items()})
             counts.update({"connections that were cut": disturber.cuts, "connections that were held up": disturber.holds})
         driver.hear()
-        last = writer.number()
-        until(lambda: driver.do("status")["number"] == last, "the replica has all commands")
-        bench.same("what is left", [driver.reason(*one) for one in QUESTIONS[::7]], ends_of(drawn.states[writer.done]))
+        bench.same("what is left", left_of(driver, writer.number()), ends_of(drawn.states[writer.done]))
         counts.update(judge(bench, writer, file))
         # It waits for the driver: what it logs has no names of sessions.
         said = driver.said()
         bench.same("names of sessions in the log", [name for name in ("s0", "s1", "s2", "s3", "s4") if f'"{name}"' in said], [])
     return counts
+
+
+def left_of(driver, last):
+    """What a replica decides that has all commands. Its connection may just have been held up: then its copy is too old for a while."""
+    found = []
+
+    def decides():
+        has_all = driver.do("status")["number"] == last
+        found[:] = [driver.reason(*one) for one in QUESTIONS[::7]]
+        return has_all and not set(UNDECIDED).intersection(found)
+
+    until(decides, "the replica has all commands, and decides")
+    return found
 
 
 def ends_of(state):

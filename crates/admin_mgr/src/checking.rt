@@ -1,12 +1,11 @@
 //! The checks of the relations once the role hierarchy is built.
-ghost use Rattle.std.specs.Prelude.{◌≡◌, not, ◌&&◌, map, nat_le, IsTrue, IfOk, IfErr};
+ghost use Rattle.std.specs.Prelude.{◌≡◌, not, ◌&&◌, nat_le, IsTrue, IfOk, IfErr};
 ghost use Rattle.std.specs.List.{list_all};
 ghost use Rattle.rbac_sets.specs.Sets.{Pair, all, members};
 ghost use Rattle.order_matrix.specs.Table.{table_of};
 ghost use Rattle.admin_mgr.specs.RbacState.{active_roles};
 ghost use Rattle.admin_mgr.specs.Authorization.{is_authorized};
 ghost use Rattle.admin_mgr.specs.private.HolderRoles.{is_reached};
-ghost use Rattle.admin_mgr.specs.private.Holders.{runs_of};
 ghost use Rattle.admin_mgr.specs.StateWithRoom.{separation_of};
 ghost use Rattle.admin_mgr.specs.private.CheckTests.{late_refusal, are_kept, are_roles_there, has_cardinalities, have_authorized_users, have_unlocked_users};
 
@@ -14,11 +13,11 @@ use crate::judge::set_refusals::{is_cardinality, member_count};
 use crate::relations::Relations;
 use crate::separation_of_duty::SeparationOfDuty;
 use crate::separation_of_duty::by_name::is_reached;
-use crate::separation_of_duty::by_number::{keep_all, run_numbers};
+use crate::separation_of_duty::by_number::{all_runs, keep_all, run_numbers};
 use order_matrix::OrderMatrix;
 use rbac_sets::{CountSet, Name, PairSet, Refusal};
 use role_order::RoleOrder;
-use std::alloc::{AllocError, Global};
+use std::alloc::Global;
 
 // Why the relations are refused, if the roles that they refer to exist. By `Damaged` with 7 if a cardinality
 // isn't at least 2 and at most the number of the set's members, 8 if a session's user isn't authorized for a
@@ -114,17 +113,6 @@ fn are_kept(
     let sets = duty.cardinalities_in(relations).as_slice();
     let kept = keep_all(alloc, table, roles, &numbers, members, sets)?;
     Ok(kept)
-}
-
-// The assignments of each user, or the activated roles of each session.
-fn all_runs<'a>(
-    alloc: Global,
-    relations: &'a Relations,
-    duty: SeparationOfDuty,
-) -> Result<Vec<&'a [(Name, Name)]>, AllocError>
-    ensures { IfOk result (λ runs. map (λ run. run.now) runs.items ≡ runs_of duty relations.now.facts) }
-{
-    duty.runs(relations).collect(alloc)
 }
 
 // Whether no locked user has a session.

@@ -1,5 +1,6 @@
 -- Lists with a gap of entries that were removed.
-use Rattle.std.proofs.Common.{◌≡◌, ℕ, ◌+◌, ◌-◌, ◌<◌, ◌≤◌, ◌≢◌, ◌↔◌, IsTrue, true, false, inl, inr, List, [], ◌∷◌, ◌++◌, length, take, drop, get_or, set, refl, sym, ap, subst, ◌∙◌, arith, append_assoc, length-drop}
+use Rattle.std.proofs.Common.{◌≡◌, ℕ, zero, suc, ◌+◌, ◌-◌, ◌<◌, ◌≤◌, ◌↔◌, IsTrue, true, false, inl, inr, List, [], ◌∷◌, ◌++◌, length, take, drop, get_or, set}
+use Rattle.std.proofs.Common.{refl, sym, ap, subst, ◌∙◌, arith, append_assoc, length-drop}
 use Rattle.std.specs.List.{AllByRecursion, AllWithin, list_any}
 use Rattle.std.specs.List.Sorted.{IsStrictlySortedBy, IsPartitionedBy, IsPartitionPoint}
 use Rattle.std.specs.declared.cmp.Ordering.{Ordering}
@@ -8,17 +9,19 @@ use Rattle.std.specs.Ordering.{is_eq, is_lt, eq_by_cmp, ordering_reverse}
 use Rattle.std.specs.Cmp.{IsTotalOrder, tied_itself}
 use Rattle.std.specs.FinMap.{IsAntisymmetric}
 use Rattle.std.proofs.lemmas.Bool.{cases_lt, or_left, or_right, true≢false}
-use Rattle.std.proofs.lemmas.List.{take-append-drop, take_more_set, take-set-le, drop-set-lt, drop_more, set-get_or, get_or_default, get_or-drop, get_or-take, length-take}
+use Rattle.std.proofs.lemmas.List.{take-append-drop, take_more_set, take-set-le, drop-set-lt, drop_more, set-get_or, get_or_default, get_or-drop, get_or-take, length-take, length-take-le}
 use Rattle.std.proofs.lemmas.List.Folds.{list_any-append}
 use Rattle.std.proofs.lemmas.Map.Keys.{Less-from_sorted}
 use Rattle.rbac_sets.specs.Sets.{contains, remove, from_list}
 use Rattle.rbac_sets.specs.SetRemoval.{around}
 use Rattle.rbac_sets.specs.private.Gaps.{IsFirst, IsNotBelow, IsPassed}
 use Rattle.rbac_sets.proofs.SetLaws.{contains-from_list}
-use Rattle.rbac_sets.proofs.InOrder.{all_front, all_map, none_passes, less_of, sorted_without, sorted_back, from_list-without, remove_absent}
+use Rattle.std.proofs.Math.Seq.{take-append_seam, drop-append_seam, take-append-add, drop-append-add}
+use Rattle.rbac_sets.proofs.Lists.{all_join}
+use Rattle.rbac_sets.proofs.InOrder.{all_front, all_map, all_take, none_passes, less_of, sorted_without, sorted_back, from_list-without, remove_absent}
 
 -- swapping the items at the gap's start and end and moving the gap by one keeps the list around it
-pub around-swap : {K : Type 0} (xs ys : List K) (start end : ℕ) (d : K) → start ≤ end → end < length xs → ys ≡ set (set xs start (get_or xs end d)) end (get_or xs start d)
+around-swap : {K : Type 0} (xs ys : List K) (start end : ℕ) (d : K) → start ≤ end → end < length xs → ys ≡ set (set xs start (get_or xs end d)) end (get_or xs start d)
     → around (start + 1) (end + 1) ys ≡ around start end xs
 around-swap {K} xs ys start end d order within is = elim (cases_lt start end) [
   | inl before ↦
@@ -36,13 +39,10 @@ around-swap {K} xs ys start end d order within is = elim (cases_lt start end) [
     moved : List K
     moved = set xs start (get_or xs end d)
 
--- what holds of all items before the gap holds, after the swap, of one more
-pub below-swap : {K : Type 0} (P : K → Type 0) (xs ys : List K) (start end : ℕ) (x : K) → start ≤ end → ((d : K) → get_or ys start d ≡ get_or xs end d)
-    → ((k : ℕ) (d : K) → (k ≢ start) → (k ≢ end) → get_or ys k d ≡ get_or xs k d) → AllWithin P xs 0 start → ((d : K) → P (get_or xs end d)) → AllWithin P ys 0 (start + 1)
-below-swap P xs ys start end x order there others below next k d from to = elim (cases_lt k start) [
-  | inl before ↦ subst P (sym (others k d (λ e. omega (arith, e, before)) (λ e. omega (arith, e, before, order)))) (below k d from before)
-  | inr not_before ↦ (let same : start ≡ k = omega (arith, to, not_before) in subst (λ n. P (get_or ys n d)) same (subst P (sym (there d)) (next d)))
-]
+pub around-swapped : {K : Type 0} (xs ys : List K) (start end : ℕ) → start ≤ end → end < length xs → ((d : K) → ys ≡ set (set xs start (get_or xs end d)) end (get_or xs start d))
+    → around (start + 1) (end + 1) ys ≡ around start end xs
+around-swapped [] ys start end order within is = absurd (omega arith)
+around-swapped (x ∷ xs) ys start end order within is = around-swap (x ∷ xs) ys start end x order within (is x)
 
 -- what holds along the first part of a list holds within it
 pub within-take : {K : Type 0} (P : K → Type 0) (xs : List K) (n : ℕ) → n ≤ length xs → AllWithin P (take n xs) 0 (length (take n xs)) → AllWithin P xs 0 n
@@ -53,6 +53,12 @@ pub sorted-first : {K : Type 0} (R : K → K → Ordering) (l r : List K) → Is
 unfolding IsStrictlySortedBy
 sorted-first R [] r s = tt
 sorted-first R (x ∷ l) r s = (all_front (λ y. R x y ≡ Less) l r s.0, sorted-first R l r s.1)
+
+-- the last part of a list in strict order
+pub sorted-last : {K : Type 0} (R : K → K → Ordering) (l r : List K) → IsStrictlySortedBy R (l ++ r) → IsStrictlySortedBy R r
+unfolding IsStrictlySortedBy
+sorted-last R [] r s = s
+sorted-last R (x ∷ l) r s = sorted-last R l r s.1
 
 -- an ordering that is neither of the other two
 third : (a : Ordering) → (a ≡ Less → ⊥) → (a ≡ Equal → ⊥) → a ≡ Greater
@@ -121,3 +127,42 @@ passed-partition {K} R xs x at within point = (λ k d from to. less_of (R (get_o
     first : (ys : List K) → ((d : K) → 0 < length ys → is_lt (R (get_or ys 0 d) x) ≡ false) → IsNotBelow R x ys
     first [] high = tt
     first (y ∷ ys) high = λ less. true≢false (sym (ap is_lt less) ∙ high y (omega arith))
+
+all_within : {K : Type 0} (P : K → Type 0) (xs : List K) → AllByRecursion P xs → AllWithin P xs 0 (length xs)
+all_within P [] each k d from to = absurd (omega arith)
+all_within P (x ∷ xs) each zero d from to = each.0
+all_within P (x ∷ xs) each (suc k) d from to = all_within P xs each.1 k d (omega arith) (omega arith)
+
+-- the gap was moved after as many items as are less than x
+pub passed-around : {K : Type 0} (R : K → K → Ordering) (xs ys : List K) (x : K) (start end count : ℕ) → start ≤ end → end + count ≤ length xs → length ys ≡ length xs
+    → around (start + count) (end + count) ys ≡ around start end xs → AllWithin (λ y. R y x ≡ Less) xs 0 start
+    → IsPartitionPoint (λ y. is_lt (R y x) ≡ true) (λ y. is_lt (R y x) ≡ false) (drop end xs) count → IsPassed R x (start + count) (end + count) ys
+passed-around {K} R xs ys x start end count order within size same below point = (
+  within-take P ys (start + count) (omega (arith, within, size, order)) (all_within P (take (start + count) ys) (subst (AllByRecursion P) (sym front) (all_join P (take start xs) (take count rest)
+      (all_take P xs start (omega arith) below)
+      (all_map (λ y. is_lt (R y x) ≡ true) P (λ y e. less_of (R y x) e) (take count rest) (all_take (λ y. is_lt (R y x) ≡ true) rest count enough point.0))))),
+  subst (IsNotBelow R x) (sym back) (passed-partition R rest x count enough point).1,
+)
+  where
+    P : K → Type 0
+    P y = R y x ≡ Less
+
+    rest : List K
+    rest = drop end xs
+
+    enough : count ≤ length rest
+    enough = omega (arith, within, length-drop end xs)
+
+    at_start : length (take start xs) ≡ start
+    at_start = length-take-le start xs (omega (arith, within, order))
+
+    at_count : length (take (start + count) ys) ≡ start + count
+    at_count = length-take-le (start + count) ys (omega (arith, within, size, order))
+
+    front : take (start + count) ys ≡ take start xs ++ take count rest
+    front = sym (take-append_seam (take (start + count) ys) (drop (end + count) ys)) ∙ (λ i. take (at_count i) (same i))
+        ∙ ap (λ n. take (n + count) (around start end xs)) (sym at_start) ∙ take-append-add (take start xs) rest count
+
+    back : drop (end + count) ys ≡ drop count rest
+    back = sym (drop-append_seam (take (start + count) ys) (drop (end + count) ys)) ∙ (λ i. drop (at_count i) (same i))
+        ∙ ap (λ n. drop (n + count) (around start end xs)) (sym at_start) ∙ drop-append-add (take start xs) rest count

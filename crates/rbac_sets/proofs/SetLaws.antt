@@ -13,7 +13,8 @@ use Rattle.std.specs.FinSet.{FinSet}
 use Rattle.std.specs.List.{filter}
 use Rattle.std.proofs.lemmas.List.Elements.{filter-append}
 use Rattle.std.proofs.lemmas.List.{map-append, append-nil}
-use Rattle.std.proofs.Math.Bool.{or_comm, or_assoc}
+use Rattle.std.proofs.Math.Bool.{or_comm, or_assoc, and-true}
+use Rattle.std.proofs.lemmas.List.Folds.{list_any-append}
 use Rattle.std.proofs.lemmas.Bool.{or_cases, or_left, or_right, and_parts, and_from, not-true, true≢false}
 use Rattle.rbac_sets.specs.NameOrder.{name_total, name_exact, pair_total, pair_exact}
 use Rattle.rbac_sets.specs.Sets.{union, insert_all, difference, IsDisjoint, Bytes, Pair, Pairs, empty, contains, insert, remove, retain, members, from_list, any, all, image, seconds, same_name}
@@ -45,6 +46,14 @@ marked None None e = refl
 marked None (Some u) e = absurd (true≢false (sym e))
 marked (Some u) None e = absurd (true≢false e)
 marked (Some u) (Some v) e = refl
+
+one_more : (x s xs : Bool) → (not x && (s && not xs)) ≡ (s && not (xs || (x || false)))
+one_more true true true = refl
+one_more true true false = refl
+one_more true false xs = refl
+one_more false true true = refl
+one_more false true false = refl
+one_more false false xs = refl
 
 pub no_items : {A : Type 0} (xs : List A) → length xs ≡ 0 → xs ≡ []
 no_items [] e = refl
@@ -121,6 +130,19 @@ module _ {K : Type 0} {R : K → K → Ordering} (total : IsTotalOrder R) where
     pub contains-difference : (s t : FinSet R) (x : K) → contains (difference s t) x ≡ (contains s x && not (contains t x))
     unfolding difference
     contains-difference s t x = contains-retain s (λ y. not (contains t y)) x
+
+    pub difference-none : (s : FinSet R) → difference s (from_list []) ≡ s
+    difference-none s = same_set _ _ (λ q. contains-difference s (from_list []) q ∙ ap (λ b. contains s q && not b) (contains-from_list [] q) ∙ and-true (contains s q))
+
+    -- removing one item more
+    pub difference-more : (s : FinSet R) (xs : List K) (x : K) → remove (difference s (from_list xs)) x ≡ difference s (from_list (xs ++ x ∷ []))
+    difference-more s xs x = same_set _ _ (λ q.
+        let there : contains (from_list (xs ++ x ∷ [])) q ≡ (list_any (eq_by_cmp R q) xs || (eq_by_cmp R q x || false)) =
+        contains-from_list (xs ++ x ∷ []) q ∙ list_any-append (eq_by_cmp R q) xs (x ∷ []) in
+        contains-remove (difference s (from_list xs)) x q
+        ∙ ap (λ b. not (eq_by_cmp R q x) && b) (contains-difference s (from_list xs) q ∙ ap (λ b. contains s q && not b) (contains-from_list xs q))
+        ∙ one_more (eq_by_cmp R q x) (contains s q) (list_any (eq_by_cmp R q) xs)
+        ∙ sym (contains-difference s (from_list (xs ++ x ∷ [])) q ∙ ap (λ b. contains s q && not b) there))
 
     -- ---- tests of the members
 

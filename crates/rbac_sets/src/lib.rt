@@ -42,6 +42,7 @@ pub mod kind;
 pub mod name;
 pub mod refusal;
 pub mod removal;
+mod ring;
 pub mod row;
 pub mod sets;
 pub mod sink;

@@ -1,7 +1,8 @@
 //! Removing entries from a set one after another.
-ghost use Rattle.std.specs.Prelude.{◌≡◌, ◌↔◌, ◌+◌, ◌≤◌, IsTrue, length, vec_len, vec_capacity};
+ghost use Rattle.std.specs.Prelude.{◌≡◌, ◌↔◌, ◌+◌, ◌≤◌, IsTrue, true, false, length, vec_len, vec_capacity};
 ghost use Rattle.std.specs.List.{AllWithin};
-ghost use Rattle.std.specs.List.Sorted.{IsStrictlySortedBy};
+ghost use Rattle.std.specs.List.Sorted.{IsStrictlySortedBy, IsPartitionPoint, IsPartitionedBy};
+ghost use Rattle.std.specs.Ordering.{is_lt};
 ghost use Rattle.std.specs.declared.cmp.Ordering.TheVariants.{Less};
 ghost use Rattle.rbac_sets.specs.Sets.{contains, remove};
 ghost use Rattle.rbac_sets.specs.SortedSet.{set_of};
@@ -135,6 +136,7 @@ fn move_gap<K: Entry, P: Probe<K>>(
 // returns how many they are.
 fn pass<K: Entry, P: Probe<K>>(entries: &mut Vec<K>, start: usize, end: usize, probe: P) -> usize
     requires gap { (start ≤ end) × (end ≤ vec_len entries.old) }
+    requires sorted { IsStrictlySortedBy K.cmp (around start end entries.old.items) }
     requires below { AllWithin (λ y. K.cmp y (P.entry probe) ≡ Less) entries.old.items 0 start }
     ensures within { end + result ≤ vec_len entries.new }
     ensures same { around (start + result) (end + result) entries.new.items ≡ around start end entries.old.items }
@@ -142,10 +144,47 @@ fn pass<K: Entry, P: Probe<K>>(entries: &mut Vec<K>, start: usize, end: usize, p
     ensures len { vec_len entries.new ≡ vec_len entries.old }
     ensures capacity { vec_capacity entries.new ≡ vec_capacity entries.old }
 {
-    let mut passed = 0;
-    while end + passed < entries.len() && probe.compare(&entries[end + passed]).is_lt() {
-        entries.swap(start + passed, end + passed);
-        passed += 1;
+    let count = count_less(&entries[end..], probe);
+    move_down(entries, start, end, count);
+    count
+}
+
+// Moves so many entries from `end` to `start`. Those of the gap go after them.
+fn move_down<K: Entry>(entries: &mut Vec<K>, start: usize, end: usize, count: usize)
+    requires gap { (start ≤ end) × (end + count ≤ vec_len entries.old) }
+    ensures same { around (start + count) (end + count) entries.new.items ≡ around start end entries.old.items }
+    ensures len { vec_len entries.new ≡ vec_len entries.old }
+    ensures capacity { vec_capacity entries.new ≡ vec_capacity entries.old }
+{
+    let mut moved = 0;
+    while moved < count {
+        entries.swap(start + moved, end + moved);
+        moved += 1;
     }
-    passed
+}
+
+// How many entries are less than the one that `probe` looks for, if they come first. Its time grows
+// with the logarithm of this number, not with that of the number of entries.
+fn count_less<K: Entry, P: Probe<K>>(entries: &[K], probe: P) -> usize
+    requires { IsPartitionedBy (λ y. is_lt (K.cmp y (P.entry probe))) entries.now }
+    ensures within { result ≤ length entries.now }
+    ensures point { IsPartitionPoint (λ y. is_lt (K.cmp y (P.entry probe)) ≡ true) (λ y. is_lt (K.cmp y (P.entry probe)) ≡ false) entries.now result }
+{
+    let bound = bound_of_less(entries, probe);
+    let near = &entries[..bound];
+    near.partition_point(|entry| probe.compare(entry).is_lt())
+}
+
+// A place after all entries that are less than the one that `probe` looks for, if they come first. It
+// is found by doubling, and is at most twice the place of the last of them, or is 1.
+fn bound_of_less<K: Entry, P: Probe<K>>(entries: &[K], probe: P) -> usize
+    requires { IsPartitionedBy (λ y. is_lt (K.cmp y (P.entry probe))) entries.now }
+    ensures bound { result ≤ length entries.now }
+    ensures behind { AllWithin (λ y. is_lt (K.cmp y (P.entry probe)) ≡ false) entries.now result (length entries.now) }
+{
+    let mut bound = 1;
+    while bound < entries.len() && probe.compare(&entries[bound]).is_lt() {
+        bound = bound.saturating_mul(2);
+    }
+    bound.min(entries.len())
 }

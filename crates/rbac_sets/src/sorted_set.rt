@@ -12,9 +12,9 @@ ghost use Rattle.rbac_sets.specs.SortedSet.{set_of};
 
 use crate::refusal::Refusal;
 use crate::removal::SetRemoval;
+use crate::ring::merge;
 use std::alloc::Global;
 use std::cmp::Ordering;
-use std::collections::VecDeque;
 use std::marker::Model;
 use std::mem;
 use std::slice::Iter;
@@ -205,7 +205,8 @@ impl<K: Entry> SortedSet<K> {
 
     /// Inserts all entries of `other`, none of which is there, into reserved room.
     ///
-    /// It goes once through both sets, doesn't allocate and can't fail.
+    /// It searches the place of each entry of `other`, and moves what lies between two of them as a block. It doesn't allocate and
+    /// can't fail.
     pub fn merge_reserved(&mut self, other: SortedSet<K>)
         requires disjoint { IsDisjoint (set_of K.cmp self.old) (set_of K.cmp other) }
         requires room { len (set_of K.cmp other) ≤ self.old.room }
@@ -219,14 +220,16 @@ impl<K: Entry> SortedSet<K> {
 
     /// Removes each entry of `other` that is there.
     ///
-    /// It goes once through both sets.
+    /// It searches each entry of `other` from the place of the one before it on, and moves no entry more than once.
     pub fn take_all(&mut self, other: &SortedSet<K>)
         ensures taken { set_of K.cmp self.new ≡ difference (set_of K.cmp self.old) (set_of K.cmp other.now) }
         ensures room { self.old.room ≤ self.new.room }
     {
-        let nothing = Vec::new(*self.entries.allocator());
-        let entries = mem::replace(&mut self.entries, nothing);
-        self.entries = without(entries, &other.entries);
+        let mut removal = self.start_removal();
+        for entry in &other.entries {
+            removal.take(entry);
+        }
+        *self = removal.into_set();
     }
 
     /// Starts the removal of entries one after another: returns the set from which they are removed, and
@@ -340,61 +343,4 @@ fn bound_of_first<K: Entry, P: Prefix<K>>(entries: &[K], prefix: P) -> usize
         bound = bound.saturating_mul(2);
     }
     bound.min(entries.len())
-}
-
-// The entries of both, sorted, in the memory of the first. It is used as a ring: merged entries go after the remaining ones.
-fn merge<K: Entry>(entries: Vec<K>, others: Vec<K>) -> Vec<K>
-    requires sorted { IsStrictlySortedBy K.cmp entries.items }
-    requires others_sorted { IsStrictlySortedBy K.cmp others.items }
-    requires disjoint { IsDisjoint (from_list {R = K.cmp} entries.items) (from_list {R = K.cmp} others.items) }
-    requires room { vec_len entries + vec_len others ≤ vec_capacity entries }
-    ensures sorted { IsStrictlySortedBy K.cmp result.items }
-    ensures both { from_list {R = K.cmp} result.items ≡ union (from_list entries.items) (from_list others.items) }
-    ensures len { vec_len result ≡ vec_len entries + vec_len others }
-    ensures capacity { vec_capacity entries ≤ vec_capacity result }
-{
-    let mut ring = VecDeque::from_vec(entries);
-    let mut others = VecDeque::from_vec(others);
-    let mut left = ring.len();
-    while left > 0 && !others.is_empty() {
-        if ring[0].cmp(&others[0]).is_lt() {
-            ring.rotate_left(1);
-            left -= 1;
-        } else {
-            let other = others.pop_front().unwrap();
-            ring.push_back(other).unwrap();
-        }
-    }
-    ring.rotate_left(left);
-    ring.append(&mut others).unwrap();
-    ring.into_vec()
-}
-
-// The entries that are none of the others, by a ring as in `merge`.
-fn without<K: Entry>(entries: Vec<K>, others: &[K]) -> Vec<K>
-    requires sorted { IsStrictlySortedBy K.cmp entries.items }
-    requires others_sorted { IsStrictlySortedBy K.cmp others.now }
-    ensures sorted { IsStrictlySortedBy K.cmp result.items }
-    ensures rest { from_list {R = K.cmp} result.items ≡ difference (from_list entries.items) (from_list others.now) }
-    ensures len { vec_len result ≤ vec_len entries }
-    ensures capacity { vec_capacity result ≡ vec_capacity entries }
-{
-    let mut ring = VecDeque::from_vec(entries);
-    let mut left = ring.len();
-    let mut at = 0;
-    while left > 0 && at < others.len() {
-        match ring[0].cmp(&others[at]) {
-            Ordering::Less => {
-                ring.rotate_left(1);
-                left -= 1;
-            }
-            Ordering::Equal => {
-                ring.pop_front();
-                left -= 1;
-            }
-            Ordering::Greater => at += 1,
-        }
-    }
-    ring.rotate_left(left);
-    ring.into_vec()
 }

@@ -1,4 +1,5 @@
 mod Results
+pub mod Acknowledged
 pub mod Beginning
 pub mod CsvText
 pub mod Faults
@@ -7,6 +8,7 @@ pub mod FileWork
 pub mod Getters
 pub mod GivenValues
 pub mod Machines
+pub mod MemoryPaths
 pub mod PathChanges
 pub mod Served
 pub mod Subcommands

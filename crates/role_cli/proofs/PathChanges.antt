@@ -10,7 +10,7 @@ use Rattle.rbac_sets.proofs.Counting.{one_more-grows, one_more-most, risen_since
 use Rattle.sqlite_disk.specs.declared.Disk.{Ghosts}
 use Rattle.sqlite_disk.specs.declared.Files.{Files}
 use Rattle.role_cli.specs.Leftovers.{HasNoPage, IsBefore, IsBegun, LeavesClosed, LeavesPaths, LeavesUnopened, RemovesEmpty, RemovesSiblings, Restores, leftovers, without_leftover, without_siblings}
-use Rattle.role_cli.specs.Paths.{Changes, ChangesKnown, ChangesOnly, Paths, index_of, length_in, log_of, with_entry, without}
+use Rattle.role_cli.specs.Paths.{Changes, ChangesKnown, ChangesOffice, ChangesOnly, Paths, index_of, length_in, log_of, with_entry, without}
 use Rattle.role_cli.specs.declared.choice.Choice.{Choice}
 use Rattle.role_cli.specs.declared.folder.Entry.{Entry}
 use Rattle.role_cli.specs.declared.folder.Entry.TheVariants as entry
@@ -71,32 +71,43 @@ closed_later before path (after.Left store) e f old now step restores = restores
 closed_later before path after.Untouched e f old now step none = none
 closed_later before path (after.Unopened opened) e f old now step none = none
 
--- what was removed after an opening that failed, which itself had changed no path
-pub unopened_left : {F : Type 0} (opened : Option (Files F)) (before : PathState) (path : List ℕ) (first mid last : ℕ) (old then_paths now : Option Paths) → then_paths ≡ old → first ≤ mid
-    → LeavesUnopened before path opened (HasRisen (one_more mid) last) then_paths now → LeavesUnopened before path opened (HasRisen (one_more first) last) old now
-unopened_left (Some files) before path first mid last old then_paths now same up restores =
-    restores_later before path (HasRisen (one_more mid) last) (HasRisen (one_more first) last) old now (risen_after_one first mid last up)
-    (subst (λ p. Restores before path (HasRisen (one_more mid) last) p now) same restores)
-unopened_left None before path first mid last old then_paths now same up removes =
-    removes_empty_later before path (HasRisen (one_more mid) last) (HasRisen (one_more first) last) old now (risen_after_one first mid last up)
-    (subst (λ p. RemovesEmpty before path (HasRisen (one_more mid) last) p now) same removes)
+-- an opening and then a close
+pub office_then : (path : List ℕ) (old mid now : Option Paths) → ChangesOffice path old mid → ChangesOffice path mid now → ChangesOffice path old now
+office_then path None mid now first later = subst (λ m. ChangesOffice path m now) first later
+office_then path (Some known) mid now (one, is, (beside, at)) later =
+    let (two, is_two, (beside_then, at_then)) = subst (λ m. ChangesOffice path m now) is later in (
+      two,
+      is_two,
+      (
+        beside_then ∙ beside,
+        λ other not_one. at_then other (ap (λ (b : List ℕ → List ℕ → List ℕ). list_any (bytes_eq other) (path ∷ (b path (codes "-wal") ∷ (b path (codes "-shm") ∷ [])))) beside ∙ not_one) ∙ at other not_one,
+      ),
+    )
+
+-- what was removed after an opening that failed
+pub unopened_left : {F : Type 0} (opened : Option (Files F)) (before : PathState) (path : List ℕ) (first mid last : ℕ) (settled now : Option Paths) → first ≤ mid
+    → LeavesUnopened before path opened (HasRisen (one_more mid) last) settled now → LeavesUnopened before path opened (HasRisen (one_more first) last) settled now
+unopened_left (Some files) before path first mid last settled now up restores =
+    restores_later before path (HasRisen (one_more mid) last) (HasRisen (one_more first) last) settled now (risen_after_one first mid last up) restores
+unopened_left None before path first mid last settled now up removes =
+    removes_empty_later before path (HasRisen (one_more mid) last) (HasRisen (one_more first) last) settled now (risen_after_one first mid last up) removes
 
 -- what was removed after a close
-module _ {F : Type 0} {g : Ghosts F} (chosen : Choice) (path : List ℕ) (has_failed : Bool) (before restored : PathState) (first mid last : ℕ) (old then_paths now : Option Paths)
-    (was : IfSome old (IsBefore chosen path before)) (is : restored ≡ (if has_failed then before else Bytes)) (same : then_paths ≡ old) (up : first ≤ mid) where
-  closed_then : (became : StoreAfter F g) → LeavesClosed restored path became (HasRisen mid last) then_paths now → LeavesClosed (if has_failed then before else Bytes) path became (HasRisen first last) old now
-  closed_then became leaves = closed_later (if has_failed then before else Bytes) path became (HasRisen mid last) (HasRisen first last) old now (risen_since first mid last up)
-      (subst (λ p. LeavesClosed (if has_failed then before else Bytes) path became (HasRisen mid last) p now) same (subst (λ r. LeavesClosed r path became (HasRisen mid last) then_paths now) is leaves))
+module _ {F : Type 0} {g : Ghosts F} (chosen : Choice) (path : List ℕ) (has_failed : Bool) (before restored : PathState) (first mid last : ℕ) (old settled now : Option Paths)
+    (was : IfSome old (IsBefore chosen path before)) (is : restored ≡ (if has_failed then before else Bytes)) (touched : ChangesOffice path old settled) (up : first ≤ mid) where
+  closed_then : (became : StoreAfter F g) → LeavesClosed restored path became (HasRisen mid last) settled now → LeavesClosed (if has_failed then before else Bytes) path became (HasRisen first last) settled now
+  closed_then became leaves = closed_later (if has_failed then before else Bytes) path became (HasRisen mid last) (HasRisen first last) settled now (risen_since first mid last up)
+      (subst (λ r. LeavesClosed r path became (HasRisen mid last) settled now) is leaves)
 
-  pub closed_left : (became : StoreAfter F g) → LeavesClosed restored path became (HasRisen mid last) then_paths now → LeavesPaths chosen path has_failed became first last old now
+  pub closed_left : (became : StoreAfter F g) → LeavesClosed restored path became (HasRisen mid last) settled now → LeavesPaths chosen path has_failed became first last old settled now
   closed_left after.Untouched leaves = absurd leaves
   closed_left (after.Unopened opened) leaves = absurd leaves
-  closed_left (after.Closed files) leaves = (before, was, closed_then (after.Closed files) leaves)
-  closed_left (after.Left store) leaves = (before, was, closed_then (after.Left store) leaves)
+  closed_left (after.Closed files) leaves = (before, was, touched, closed_then (after.Closed files) leaves)
+  closed_left (after.Left store) leaves = (before, was, touched, closed_then (after.Left store) leaves)
 
 -- ---- one change after another
 
-or_false : (a b : Bool) → (a || b) ≡ false → (a ≡ false) × (b ≡ false)
+pub or_false : (a b : Bool) → (a || b) ≡ false → (a ≡ false) × (b ≡ false)
 or_false true b is = absurd (true≢false is)
 or_false false b is = (refl, is)
 

@@ -1,5 +1,5 @@
 -- Runs of the program over one file, one after the other, each stopped at any moment: what the file stores in the end.
-use Rattle.std.specs.Prelude.{◌≡◌, ◌⊎◌, ℕ, false, List, [], ◌∷◌, ◌++◌}
+use Rattle.std.specs.Prelude.{◌≡◌, ◌⊎◌, ◌&&◌, ℕ, false, List, [], ◌∷◌, ◌++◌, Ok, All}
 use Rattle.std.specs.Io.KnownBytes.{Consumes}
 use Rattle.sqlite.specs.Files.{over_files}
 use Rattle.sqlite.specs.Held.{state}
@@ -7,17 +7,23 @@ use Rattle.sqlite.specs.Recovery.{Image}
 use Rattle.sqlite_disk.specs.declared.Disk.{Ghosts}
 use Rattle.sqlite_disk.specs.declared.Files.{Files}
 use Rattle.sqlite_store.specs.declared.store.FileStore.{FileStore}
+use Rattle.rbac_sets.specs.CommandContent.{Single}
 use Rattle.rbac_sets.specs.Sets.{Bytes}
+use Rattle.rbac_sets.specs.declared.command.Command.{Command}
+use Rattle.rbac_sets.specs.declared.command.Command.TheVariants.{DeassignUser, RevokePermission}
 use Rattle.admin_mgr.specs.Good.{IsGood}
-use Rattle.admin_mgr.specs.OfficeRun.{Event, IsDeassignedInForce, IsRevokedInForce, Leaves, OfficeRun, events_of, migrated_to_version_2}
+use Rattle.admin_mgr.specs.OfficeRun.{Event, IsDeassignedInForce, IsRevokedInForce, Leaves, OfficeRun, assigns, events_of, grants_to, may_have_taken_effect, migrated_to_version_2}
 use Rattle.admin_mgr.specs.RbacState.{RbacState}
 use Rattle.admin_mgr.specs.StateNames.{AreNamed}
 use Rattle.role_tables.specs.Office.{OfficeModel}
 use Rattle.role_tables.specs.OfficeHistory.{IsAfterPrefix, IsReached, IsWithoutAssignment, IsWithoutGrant}
 use Rattle.role_tables.specs.Runs.{run_of}
+use Rattle.role_json.specs.Answer.{done_text}
+use Rattle.role_json.specs.Request.{request}
+use Rattle.role_json.specs.RequestContent.{Change}
 use Rattle.role_wire.specs.Events.{AddsLines}
 use Rattle.role_wire.specs.OfficeReplay.{IsAnswered}
-use Rattle.role_wire.specs.Outcome.{asking_lines}
+use Rattle.role_wire.specs.Outcome.{after_lines, answer_to, asking_lines}
 use Rattle.role_cli.specs.Environment.{Environment}
 use Rattle.role_cli.specs.FileWork.{MayBeOpened, StoresState, WorksAndCloses}
 use Rattle.role_cli.specs.Work.{DoesOnConnection, WorksOnConnection, makes}
@@ -106,3 +112,40 @@ module _ {D : Type 0} (g : Ghosts D) where
       → (office_run : OfficeRun) × IsFileRun image office_run next
       × ((input : List ℕ) × (answered : ℕ) × Consumes from.remaining to.remaining input
       × IsAnswered office_run.start input from.written to.written answered × AddsLines office_run.start (asking_lines input) office_run.events)
+
+-- ---- the lines of a replay that were acknowledged
+
+-- A line of the run asked for this command and was answered by `{"ok":true}`: the events of the run are those of its lines up to this one,
+-- and then these.
+pub record HasAcknowledged (office_run : OfficeRun) (command : Command) (later : List Event) : Type 0 where
+  pub lines : List (List ℕ)
+  pub line : List ℕ
+  pub asks : request line ≡ Ok (Change (Single command))
+  pub answer : answer_to (after_lines office_run.start lines) line ≡ done_text
+  pub first : List Event
+  pub events : office_run.events ≡ first ++ later
+  pub adds : AddsLines office_run.start (lines ++ line ∷ []) first
+
+-- Each line of a run that was answered by `{"ok":true}` is such a line, and the events after it are those of the lines after it.
+abbrev pub LinesAreAcknowledged : Type 0
+LinesAreAcknowledged = (office_run : OfficeRun) (lines : List (List ℕ)) (line : List ℕ) (more : List (List ℕ)) (command : Command)
+    → AddsLines office_run.start (lines ++ line ∷ more) office_run.events
+    → request line ≡ Ok (Change (Single command)) → answer_to (after_lines office_run.start lines) line ≡ done_text
+    → (later : List Event) × HasAcknowledged office_run command later × AddsLines (after_lines office_run.start (lines ++ line ∷ [])) more later
+
+-- If a line was acknowledged that deassigned the user, and no event after it may have assigned the user again, then the assignment is not in
+-- the state that the files store in the end.
+abbrev pub AcknowledgedDeassignmentStays : Type 0
+AcknowledgedDeassignmentStays = (start end : Image) (S : RbacState) (before : List OfficeRun) (replay : OfficeRun) (after : List OfficeRun)
+    → IsSound S → StoresState start S → AreFileRuns start (before ++ replay ∷ after) end
+    → (user role : Bytes) (later : List Event) → HasAcknowledged replay (DeassignUser user role) later
+    → All (λ (event : Event). (may_have_taken_effect event && assigns user role event.command) ≡ false) (later ++ events_of after)
+    → ∥ ((T : RbacState) × StoresState end T × IsWithoutAssignment T user role) ∥₁
+
+-- The same holds of a grant and its revocation.
+abbrev pub AcknowledgedRevocationStays : Type 0
+AcknowledgedRevocationStays = (start end : Image) (S : RbacState) (before : List OfficeRun) (replay : OfficeRun) (after : List OfficeRun)
+    → IsSound S → StoresState start S → AreFileRuns start (before ++ replay ∷ after) end
+    → (object operation role : Bytes) (later : List Event) → HasAcknowledged replay (RevokePermission object operation role) later
+    → All (λ (event : Event). (may_have_taken_effect event && grants_to object operation role event.command) ≡ false) (later ++ events_of after)
+    → ∥ ((T : RbacState) × StoresState end T × IsWithoutGrant T object operation role) ∥₁

@@ -1,15 +1,20 @@
--- What the work of a subcommand meets, as a source, a sink and a host hold it; the machine that the program runs on; a host in memory.
-use Rattle.std.specs.Prelude.{◌≡◌, ℕ, List, Option, Some, None, map, if◌then◌else◌}
+-- What the work of a subcommand meets, as a source, a sink and a host hold it; the machine that the program runs on; a host and a folder
+-- in memory.
+use Rattle.std.specs.Prelude.{◌≡◌, ◌++◌, ℕ, List, Option, Some, None, map, if◌then◌else◌}
 use Rattle.std.specs.Str.{bytes_eq}
 use Rattle.rbac_sets.specs.Stream.{failed_in_memory as failed_writes_of, left_in_memory, written_in_memory}
 use Rattle.rbac_sets.specs.declared.sink.MemorySink.{MemorySink}
 use Rattle.rbac_sets.specs.declared.sink.Sink as sink
 use Rattle.rbac_sets.specs.declared.source.Source as source
 use Rattle.role_cli.specs.Environment.{CsvTexts, Environment}
+use Rattle.role_cli.specs.Paths.{Paths}
 use Rattle.role_cli.specs.ServedConnections.{Clients, SentReply}
+use Rattle.role_cli.specs.declared.folder.Entry.{Entry}
+use Rattle.role_cli.specs.declared.folder.Entry.TheVariants as entry
 use Rattle.role_cli.specs.declared.host.Accept as accept
 use Rattle.role_cli.specs.declared.host.CsvFiles as csv_files
 use Rattle.role_cli.specs.declared.machine.Machine.{Machine}
+use Rattle.role_cli.specs.declared.memory_folder.MemoryFolder.{MemoryFolder}
 use Rattle.role_cli.specs.declared.memory_host.MemoryHost.{MemoryHost}
 
 -- the input and the output as they are now, beside these CSV files, the count of those that could not be read, and these clients
@@ -64,6 +69,20 @@ clients_in_memory host = record {
   waiting = Some (map left_in_memory host.waiting.items);
   replies = Some (map sent_in_memory host.replies.items);
 }
+
+-- one path leads to this, and each other to nothing; the file with an ending is at the path followed by this ending
+abbrev pub holds_only : List ℕ → Entry → Paths
+holds_only path it = record {
+  at = λ other. if bytes_eq other path then it else entry.Nothing;
+  beside = λ other ending. other ++ ending;
+}
+
+-- the paths of a folder in memory, and what they led to when a store was last opened, or at first
+abbrev pub paths_in_memory : MemoryFolder → Paths
+paths_in_memory folder = holds_only folder.path.now folder.entry
+
+abbrev pub settled_in_memory : MemoryFolder → Paths
+settled_in_memory folder = holds_only folder.path.now folder.settled
 
 -- This holds of what the program met on its machine, where it had listened on no port and read nothing before. No text there is known.
 abbrev pub OnMachine : {R W : Type 0} → source.Ghosts R → sink.Ghosts W → (Environment → Environment → Type 0)

@@ -1,10 +1,10 @@
 -- What is at the path of an office before the work, and what is removed if no office could be opened or created.
-use Rattle.std.specs.Prelude.{◌≡◌, ◌⊎◌, ◌≤◌, ◌<◌, ◌+◌, ℕ, Bool, false, List, [], ◌∷◌, Option, Some, None, IfSome, IsSomeAnd, if◌then◌else◌}
+use Rattle.std.specs.Prelude.{◌≡◌, ◌≢◌, ◌⊎◌, ◌≤◌, ◌<◌, ◌+◌, ℕ, Bool, false, List, [], ◌∷◌, Option, Some, None, IfSome, IsSomeAnd, if◌then◌else◌}
 use Rattle.rbac_sets.specs.Stream.{HasRisen, one_more}
 use Rattle.rbac_sets.specs.declared.refusal.Refusal.TheVariants.{Memory, NotAnOffice, Store}
 use Rattle.sqlite_disk.specs.declared.Disk.{Ghosts}
 use Rattle.sqlite_disk.specs.declared.Files.{Files}
-use Rattle.role_cli.specs.Paths.{Changes, ChangesKnown, Paths, index_of, length_in, log_of, with_empty, without}
+use Rattle.role_cli.specs.Paths.{Changes, ChangesKnown, ChangesOffice, Paths, index_of, length_in, log_of, with_empty, without}
 use Rattle.role_cli.specs.Work.{creates}
 use Rattle.role_cli.specs.declared.choice.Choice.{Choice}
 use Rattle.role_cli.specs.declared.choice.Choice.TheVariants.{Init}
@@ -58,6 +58,10 @@ CannotBegin chosen path failure paths call_failed =
 abbrev pub NeverBegins : {F : Type 0} {g : Ghosts F} → Choice → List ℕ → Failure → Option Paths → (call_failed : Type 0) → StoreAfter F g → Type 0
 NeverBegins chosen path failure paths call_failed (after.Unopened opened) = (failure ≡ Refused Store) × call_failed
 NeverBegins chosen path failure paths call_failed _ = CannotBegin chosen path failure paths call_failed
+
+-- Unless no opening was tried, the last one was at this path, if its path is known.
+abbrev pub OpensAt : {F : Type 0} {g : Ghosts F} → List ℕ → StoreAfter F g → (opened_at : Option (List ℕ)) → Type 0
+OpensAt path became opened_at = became ≢ after.Untouched → IfSome opened_at (λ at. at ≡ path)
 
 -- no file of an office was opened, and the folder was not even asked
 abbrev pub OpensNoFile : {F D : Type 0} {g : Ghosts D} → (folder now_folder : F) → StoreAfter D g → Type 0
@@ -124,14 +128,15 @@ LeavesClosed before path (after.Closed files) call_failed paths now =
 LeavesClosed before path (after.Left store) call_failed paths now = Restores before path call_failed paths now
 LeavesClosed before path _ call_failed paths now = ⊥
 
--- What is at the paths after the work, by how many calls of the folder had failed before and after it: nothing changed if nothing was
--- opened. Otherwise a leftover is removed, unless a call failed that is no opening. The file of work that was done is an office's.
+-- What is at the paths after the work, by how many calls of the folder had failed before and after it. If no opening was tried, nothing
+-- changed. Otherwise the store changed the paths of its office alone, and left `settled`; of this a leftover is removed, unless a call failed
+-- that is no opening. The file of work that was done is an office's.
 abbrev pub LeavesPaths : {F : Type 0} {g : Ghosts F}
-    → Choice → List ℕ → (has_failed : Bool) → StoreAfter F g → (failed now_failed : ℕ) → Option Paths → Option Paths → Type 0
-LeavesPaths chosen path has_failed after.Untouched failed now_failed paths now = now ≡ paths
-LeavesPaths chosen path has_failed (after.Unopened opened) failed now_failed paths now =
-    (before : PathState) × IfSome paths (IsBefore chosen path before)
-    × LeavesUnopened before path opened (HasRisen (one_more failed) now_failed) paths now
-LeavesPaths chosen path has_failed became failed now_failed paths now =
-    (before : PathState) × IfSome paths (IsBefore chosen path before)
-    × LeavesClosed (if has_failed then before else Bytes) path became (HasRisen failed now_failed) paths now
+    → Choice → List ℕ → (has_failed : Bool) → StoreAfter F g → (failed now_failed : ℕ) → (paths settled now : Option Paths) → Type 0
+LeavesPaths chosen path has_failed after.Untouched failed now_failed paths settled now = now ≡ paths
+LeavesPaths chosen path has_failed (after.Unopened opened) failed now_failed paths settled now =
+    (before : PathState) × IfSome paths (IsBefore chosen path before) × ChangesOffice path paths settled
+    × LeavesUnopened before path opened (HasRisen (one_more failed) now_failed) settled now
+LeavesPaths chosen path has_failed became failed now_failed paths settled now =
+    (before : PathState) × IfSome paths (IsBefore chosen path before) × ChangesOffice path paths settled
+    × LeavesClosed (if has_failed then before else Bytes) path became (HasRisen failed now_failed) settled now

@@ -1,5 +1,5 @@
 -- What the paths of a folder lead to, and what calls change of it.
-use Rattle.std.specs.Prelude.{◌≡◌, ◌⊎◌, ℕ, false, List, Option, Some, None, codes, if◌then◌else◌}
+use Rattle.std.specs.Prelude.{◌≡◌, ◌⊎◌, ◌∷◌, [], ℕ, false, List, Option, Some, None, codes, if◌then◌else◌}
 use Rattle.std.specs.List.{list_any}
 use Rattle.std.specs.Str.{bytes_eq}
 use Rattle.role_cli.specs.declared.folder.Entry.{Entry}
@@ -37,6 +37,16 @@ with_empty path known = with_entry path (entry.File 0) known
 -- what is at any other path than these stays
 abbrev pub ChangesOnly : List (List ℕ) → Paths → Paths → Type 0
 ChangesOnly changed old new = (new.beside ≡ old.beside) × ((path : List ℕ) → list_any (bytes_eq path) changed ≡ false → new.at path ≡ old.at path)
+
+-- the paths of an office: its file, its log, and the index of this log
+abbrev pub office_paths : List ℕ → Paths → List (List ℕ)
+office_paths path known = path ∷ (log_of path known ∷ (index_of path known ∷ []))
+
+-- The store of the office at this path was opened or closed: the three paths of this office may lead to anything now, and each other path
+-- leads to what it led to.
+abbrev pub ChangesOffice : List ℕ → Option Paths → Option Paths → Type 0
+ChangesOffice path None now = now ≡ None
+ChangesOffice path (Some old) now = (new : Paths) × (now ≡ Some new) × ChangesOnly (office_paths path old) old new
 
 -- At other paths than these nothing changed. If no call failed, the paths became the wanted ones.
 abbrev pub Changes : List (List ℕ) → (wanted : Paths) → (call_failed : Type 0) → Paths → Option Paths → Type 0

@@ -1,5 +1,5 @@
 //! Offices in files: how they are opened, created and closed, and what is restored if that fails.
-ghost use Rattle.std.specs.Prelude.{◌≡◌, ◌≤◌, ◌+◌, false, is_err, if◌then◌else◌, IfErr, IfOk, OnErr, OnOk};
+ghost use Rattle.std.specs.Prelude.{◌≡◌, ◌≤◌, ◌+◌, false, is_err, if◌then◌else◌, IfErr, IfOk, IfSome, OnErr, OnOk};
 ghost use Rattle.sqlite.specs.Files.{IsOpened, file_state, over_files};
 ghost use Rattle.sqlite.specs.Held.{state};
 ghost use Rattle.sqlite.specs.Start.{FindsIn};
@@ -9,7 +9,8 @@ ghost use Rattle.rbac_sets.specs.Stream.{HasRisen, one_more};
 ghost use Rattle.role_wire.specs.Replay.{most_reads};
 ghost use Rattle.role_cli.specs.Hosts.{IsUntouched, around};
 ghost use Rattle.role_cli.specs.FileWork.{DoesOnStore, FailsOnStore, HoldsCommit, WorksOnFiles};
-ghost use Rattle.role_cli.specs.Leftovers.{LeavesClosed, LeavesPaths, LeavesUnopened, NeverBegins};
+ghost use Rattle.role_cli.specs.Leftovers.{LeavesClosed, LeavesPaths, LeavesUnopened, NeverBegins, OpensAt};
+ghost use Rattle.role_cli.specs.Paths.{ChangesOffice};
 ghost use Rattle.role_cli.specs.Work.{DoesOnConnection, DoesOverSomeState, FailsOnConnection, FailsOrFindsNoOffice, asks_host, reads_input};
 ghost use Rattle.role_cli.specs.private.ClosedConnection.{ClosesConnection};
 
@@ -31,7 +32,8 @@ use std::alloc::Global;
 /// restored.
 ///
 /// `start` represents what the files hold when they are opened: whatever state they store, the work is
-/// done over that state. That these are the files at the path is the promise of the operating system.
+/// done over that state. That these are the files at the path is the promise of the operating system. Nothing may
+/// have been removed from the folder or emptied since a store was last opened or closed.
 ///
 /// # Errors
 ///
@@ -47,6 +49,7 @@ pub fn run_on_path<D: Start, F: Folder, H: Accept + CsvFiles, R: Source, W: Sink
     source: &mut R,
     out: &mut W,
 ) -> Result<(Result<(), Failure>, Connection<FileStore<FileFrom<D>>>), Option<Files<FileFrom<D>>>>
+    requires folder { F.settled folder.old ≡ F.paths folder.old }
     ensures done { IfOk result (λ worked. HasCleanDisk (file_state worked.1) → OnOk worked.0 (WorksOnFiles ⟦<FileFrom<D> as Disk>⟧ (image_at D.Start)
         (λ before. DoesOnConnection (state (over_files {g = ⟦<FileFrom<D> as Disk>⟧})) choice.now before
         (around R.Source W.Sink H.CsvFiles H.Accept source.old out.old host.old)
@@ -71,9 +74,11 @@ pub fn run_on_path<D: Start, F: Folder, H: Accept + CsvFiles, R: Source, W: Sink
 
     ensures unopened { OnErr result ((IsUntouched source.old source.new out.old out.new host.old host.new)
         × HasRisen (F.failed_calls folder.old) (F.failed_calls folder.new)) }
-    ensures kept { OnOk result (F.paths folder.new ≡ F.paths folder.old) }
+    ensures at { IfSome (F.opened_at folder.new) (λ at. at ≡ path.now) }
+    ensures touched { ChangesOffice path.now (F.paths folder.old) (F.settled folder.new) }
+    ensures kept { OnOk result (F.settled folder.new ≡ F.paths folder.new) }
     ensures restored { IfErr result (λ opened. LeavesUnopened before path.now opened
-        (HasRisen (one_more (F.failed_calls folder.old)) (F.failed_calls folder.new)) (F.paths folder.old) (F.paths folder.new)) }
+        (HasRisen (one_more (F.failed_calls folder.old)) (F.failed_calls folder.new)) (F.settled folder.new) (F.paths folder.new)) }
     ensures count { F.failed_calls folder.old ≤ F.failed_calls folder.new }
     ensures unread { reads_input choice.now ≡ false → source.new ≡ source.old }
     ensures unasked { asks_host choice.now ≡ false → host.new ≡ host.old }
@@ -91,6 +96,8 @@ pub fn run_on_path<D: Start, F: Folder, H: Accept + CsvFiles, R: Source, W: Sink
 /// After the close the database file alone stores the state of the office, unless the store failed in a
 /// command: what the commands led to that were acknowledged, from the state on that the files stored before.
 ///
+/// Nothing may have been removed from the folder or emptied since a store was last opened or closed.
+///
 /// # Errors
 ///
 /// - `Refused` with `Store` if there is no such file or it can't be opened or created.
@@ -107,6 +114,7 @@ pub fn run_in_file<D: Start, F: Folder, H: Accept + CsvFiles, R: Source, W: Sink
     source: &mut R,
     out: &mut W,
 ) -> (Result<(), Failure>, StoreAfter<FileFrom<D>>)
+    requires folder { F.settled folder.old ≡ F.paths folder.old }
     ensures done { OnOk result.0 (DoesOnStore ⟦<FileFrom<D> as Disk>⟧ (image_at D.Start) choice.now
         (around R.Source W.Sink H.CsvFiles H.Accept source.old out.old host.old)
         (around R.Source W.Sink H.CsvFiles H.Accept source.new out.new host.new) result.1) }
@@ -128,7 +136,8 @@ pub fn run_in_file<D: Start, F: Folder, H: Accept + CsvFiles, R: Source, W: Sink
         (around R.Source W.Sink H.CsvFiles H.Accept source.new out.new host.new)) }
 
     ensures left { LeavesPaths choice.now path.now (is_err result.0) result.1 (F.failed_calls folder.old) (F.failed_calls folder.new)
-        (F.paths folder.old) (F.paths folder.new) }
+        (F.paths folder.old) (F.settled folder.new) (F.paths folder.new) }
+    ensures at { OpensAt path.now result.1 (F.opened_at folder.new) }
     ensures unread { reads_input choice.now ≡ false → source.new ≡ source.old }
     ensures unasked { asks_host choice.now ≡ false → host.new ≡ host.old }
     ensures reads { R.reads source.new ≤ R.reads source.old + most_reads }
@@ -177,12 +186,15 @@ fn connect<D: Start, F: Folder>(
     before: PathState,
     start: D,
 ) -> Result<Connection<FileStore<FileFrom<D>>>, Option<Files<FileFrom<D>>>>
+    requires folder { F.settled folder.old ≡ F.paths folder.old }
     ensures opened { IfOk result (λ conn. HasCleanDisk (file_state conn) → IsOpened conn) }
     ensures found { IfOk result (λ conn. HasCleanDisk (file_state conn) → FindsIn (image_at D.Start) (file_state conn)) }
-    ensures kept { OnOk result (F.paths folder.new ≡ F.paths folder.old) }
+    ensures at { IfSome (F.opened_at folder.new) (λ at. at ≡ path.now) }
+    ensures touched { ChangesOffice path.now (F.paths folder.old) (F.settled folder.new) }
+    ensures kept { OnOk result (F.settled folder.new ≡ F.paths folder.new) }
     ensures failed { OnErr result (HasRisen (F.failed_calls folder.old) (F.failed_calls folder.new)) }
     ensures restored { IfErr result (λ opened. LeavesUnopened before path.now opened
-        (HasRisen (one_more (F.failed_calls folder.old)) (F.failed_calls folder.new)) (F.paths folder.old) (F.paths folder.new)) }
+        (HasRisen (one_more (F.failed_calls folder.old)) (F.failed_calls folder.new)) (F.settled folder.new) (F.paths folder.new)) }
     ensures count { F.failed_calls folder.old ≤ F.failed_calls folder.new }
 {
     match folder.open(path, start) {
@@ -207,18 +219,21 @@ fn close<D: Start, F: Folder>(
     conn: Connection<FileStore<FileFrom<D>>>,
     before: PathState,
 ) -> StoreAfter<FileFrom<D>>
+    requires folder { F.settled folder.old ≡ F.paths folder.old }
     ensures closed { ClosesConnection ⟦<FileFrom<D> as Disk>⟧ conn result }
-    ensures left { LeavesClosed before path.now result (HasRisen (F.failed_calls folder.old) (F.failed_calls folder.new)) (F.paths folder.old)
+    ensures left { LeavesClosed before path.now result (HasRisen (F.failed_calls folder.old) (F.failed_calls folder.new)) (F.settled folder.new)
         (F.paths folder.new) }
+    ensures at { F.opened_at folder.new ≡ F.opened_at folder.old }
+    ensures touched { ChangesOffice path.now (F.paths folder.old) (F.settled folder.new) }
     ensures count { F.failed_calls folder.old ≤ F.failed_calls folder.new }
 {
-    match conn.close_files() {
+    match folder.close(path, conn) {
         Ok(files) => {
             restore(folder, path, before);
             remove_siblings(folder, path);
             StoreAfter::Closed(files)
         }
-        Err((_, store)) => {
+        Err(store) => {
             restore(folder, path, before);
             StoreAfter::Left(store)
         }

@@ -2,7 +2,7 @@
 ghost use Rattle.sqlite.specs.Files.{over_files};
 ghost use Rattle.sqlite.specs.Held.{state};
 ghost use Rattle.role_cli.specs.Environment.{StartDecides};
-ghost use Rattle.role_cli.specs.FileRuns.{DeassignedStaysInFile, FileLives, ReplayIsFileRun, RevokedStaysInFile, WorkIsFileRun};
+ghost use Rattle.role_cli.specs.FileRuns.{AcknowledgedDeassignmentStays, AcknowledgedRevocationStays, DeassignedStaysInFile, FileLives, LinesAreAcknowledged, ReplayIsFileRun, RevokedStaysInFile, WorkIsFileRun};
 ghost use Rattle.role_cli.specs.FileWork.{MigrationIsStored, NewOfficeIsStored, RefusedOpeningIsStored, RunsCompose, WorkIsStored};
 ghost use Rattle.role_cli.specs.ServedConnections.{ServedAreAccepted};
 ghost use Rattle.role_cli.specs.Work.{DoesSubcommand, FailsSubcommand, NoneBeginsOverRefused};
@@ -78,4 +78,16 @@ pub fn work_is_file_run<D: Disk>(_disk: &D)
 {
     calls();
     lives();
+}
+
+/// What a client of `rbac replay` was told stays so: if a line that deassigns a user was answered by `{"ok":true}`, then after any
+/// list of runs over the file the assignment is not in the state that it stores, unless a later event may have assigned the
+/// user again. The same holds of a line that revokes a grant. The events after the line are those of the later lines, and of
+/// the runs after this one.
+pub fn acknowledged_stays()
+    ensures lines { LinesAreAcknowledged }
+    ensures deassigned { AcknowledgedDeassignmentStays }
+    ensures revoked { AcknowledgedRevocationStays }
+{
+    file_lives();
 }

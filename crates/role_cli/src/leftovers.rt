@@ -76,6 +76,7 @@ pub(crate) fn state_before<F: Folder>(
     ensures refusal { IfErr result (IsOpeningFailure choice.now) }
     ensures count { F.failed_calls folder.old ≤ F.failed_calls folder.new }
     ensures same { F.paths folder.new ≡ F.paths folder.old }
+    ensures settled { F.settled folder.new ≡ F.settled folder.old }
 {
     let found = folder.entry_at(path);
     if let Choice::Init(_) = choice {
@@ -112,6 +113,7 @@ fn require_log<F: Folder>(folder: &mut F, path: &str) -> Result<(), Failure>
         × HasRisen (F.failed_calls folder.old) (F.failed_calls folder.new))) }
     ensures count { F.failed_calls folder.old ≤ F.failed_calls folder.new }
     ensures same { F.paths folder.new ≡ F.paths folder.old }
+    ensures settled { F.settled folder.new ≡ F.settled folder.old }
 {
     let log = match folder.beside(path, LOG) {
         Ok(log) => log,
@@ -138,6 +140,8 @@ fn length_of(entry: Entry) -> Option<u64>
 pub(crate) fn restore<F: Folder>(folder: &mut F, path: &str, before: PathState)
     ensures restored { Restores before path.now (HasRisen (F.failed_calls folder.old) (F.failed_calls folder.new)) (F.paths folder.old)
         (F.paths folder.new) }
+    ensures settled { F.settled folder.new ≡ F.settled folder.old }
+    ensures at { F.opened_at folder.new ≡ F.opened_at folder.old }
     ensures count { F.failed_calls folder.old ≤ F.failed_calls folder.new }
 {
     let Ok(log) = folder.beside(path, LOG) else {
@@ -179,6 +183,8 @@ fn what_to_remove(before: PathState, file: Option<u64>, log: Option<u64>) -> Rem
 pub(crate) fn remove_empty<F: Folder>(folder: &mut F, path: &str, before: PathState)
     ensures removed { RemovesEmpty before path.now (HasRisen (F.failed_calls folder.old) (F.failed_calls folder.new)) (F.paths folder.old)
         (F.paths folder.new) }
+    ensures settled { F.settled folder.new ≡ F.settled folder.old }
+    ensures at { F.opened_at folder.new ≡ F.opened_at folder.old }
     ensures count { F.failed_calls folder.old ≤ F.failed_calls folder.new }
 {
     if before == PathState::Nothing && folder.entry_at(path) == Entry::File(0) {
@@ -190,6 +196,8 @@ pub(crate) fn remove_empty<F: Folder>(folder: &mut F, path: &str, before: PathSt
 pub(crate) fn remove_siblings<F: Folder>(folder: &mut F, path: &str)
     ensures removed { RemovesSiblings path.now (HasRisen (F.failed_calls folder.old) (F.failed_calls folder.new)) (F.paths folder.old)
         (F.paths folder.new) }
+    ensures settled { F.settled folder.new ≡ F.settled folder.old }
+    ensures at { F.opened_at folder.new ≡ F.opened_at folder.old }
     ensures count { F.failed_calls folder.old ≤ F.failed_calls folder.new }
 {
     remove_beside(folder, path, LOG);
@@ -200,6 +208,8 @@ pub(crate) fn remove_siblings<F: Folder>(folder: &mut F, path: &str)
 fn remove_beside<F: Folder>(folder: &mut F, path: &str, ending: &str)
     ensures removed { ChangesKnown (λ known. known.beside path.now ending.now ∷ []) (λ known. without (known.beside path.now ending.now) known)
         (HasRisen (F.failed_calls folder.old) (F.failed_calls folder.new)) (F.paths folder.old) (F.paths folder.new) }
+    ensures settled { F.settled folder.new ≡ F.settled folder.old }
+    ensures at { F.opened_at folder.new ≡ F.opened_at folder.old }
     ensures count { F.failed_calls folder.old ≤ F.failed_calls folder.new }
 {
     let Ok(other) = folder.beside(path, ending) else {

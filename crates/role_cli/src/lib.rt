@@ -8,7 +8,7 @@
 //!    over the state that a connection stores, and what it did if it failed.
 //! 3. `DoesOnStore` and `FailsOnStore`, in specs/FileWork.antt: the same of files, and what the database file alone
 //!    stores after the close.
-//! 4. `LeavesPaths`, in specs/Leftovers.antt: which files are removed.
+//! 4. `LeavesPaths`, in specs/Leftovers.antt: which of the files that a store left are removed.
 //! 5. `laws::work_is_stored`: what was done is in the file; `laws::runs_compose`: and in what the next run opens.
 //!
 //! # How data flows
@@ -25,6 +25,7 @@ pub use files::{run_in_file, run_on_path};
 pub use folder::{Entry, Folder, MachineFolder};
 pub use host::{Accept, CsvFiles};
 pub use machine::Machine;
+pub use memory_folder::MemoryFolder;
 pub use memory_host::MemoryHost;
 pub use program::run;
 pub use serving::serve_on;
@@ -42,6 +43,7 @@ pub mod leftovers;
 pub mod machine;
 mod memory;
 mod memory_file;
+pub mod memory_folder;
 pub mod memory_host;
 pub mod program;
 pub mod serving;

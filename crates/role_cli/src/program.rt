@@ -7,7 +7,7 @@ ghost use Rattle.role_wire.specs.Replay.{most_reads};
 ghost use Rattle.role_cli.specs.CommandLine.{program};
 ghost use Rattle.role_cli.specs.Environment.{HasFailed};
 ghost use Rattle.role_cli.specs.Hosts.{IsUntouched, OnMachine, around};
-ghost use Rattle.role_cli.specs.Leftovers.{LeavesPaths, NeverBegins, OpensNoFile};
+ghost use Rattle.role_cli.specs.Leftovers.{LeavesPaths, NeverBegins, OpensAt, OpensNoFile};
 ghost use Rattle.role_cli.specs.ProgramOutcome.{FailsBy, FailsSomehow, IsDone, IsDoneSomehow, is_memory_replay, path_of};
 ghost use Rattle.role_cli.specs.ErrorOutput.{IsLineOf, Says, SaysSome, both_or_neither_line, no_memory_line};
 ghost use Rattle.role_cli.specs.Work.{asks_host, reads_input};
@@ -100,6 +100,7 @@ pub fn run<R: Source, W: Sink, E: Sink>(
 ///
 /// If the status is 0, the work was done over the state that the files stored, and if it is 1, it failed over
 /// this state or could not begin. After the close the database file alone stores the state that the work led to.
+/// Nothing may have been removed from the folder or emptied since a store was last opened or closed.
 pub fn run_with<D: Start, F: Folder, H: Accept + CsvFiles, R: Source, W: Sink, E: Sink>(
     alloc: Global,
     words: &[&str],
@@ -110,6 +111,7 @@ pub fn run_with<D: Start, F: Folder, H: Accept + CsvFiles, R: Source, W: Sink, E
     out: &mut W,
     err: &mut E,
 ) -> (u8, StoreAfter<FileFrom<D>>)
+    requires folder { F.settled folder.old ≡ F.paths folder.old }
     ensures status { (result.0 ≡ 0) ⊎ ((result.0 ≡ 1) ⊎ (result.0 ≡ 2)) }
 
     // Status 0: help was asked for, or the choice in the arguments was done.
@@ -142,11 +144,13 @@ pub fn run_with<D: Start, F: Folder, H: Accept + CsvFiles, R: Source, W: Sink, E
         (around R.Source W.Sink H.CsvFiles H.Accept source.old out.old host.old)
         (around R.Source W.Sink H.CsvFiles H.Accept source.new out.new host.new) result.1)) }
 
-    // What is at the paths then: what the work made, and nothing is removed but leftovers and a log that was copied.
+    // What is at the paths then: what the store left there, without leftovers and without a log that was copied. The store was that of
+    // the file that was chosen.
     ensures left { OpensNoFile folder.old folder.new result.1
         ⊎ ((choice : Choice) × Chooses (subcommand_of program (map (λ s. s.now) words.entry.now)) choice
         × LeavesPaths choice (path_of choice) (result.0 == 1) result.1 (F.failed_calls folder.old) (F.failed_calls folder.new)
-        (F.paths folder.old) (F.paths folder.new)) }
+        (F.paths folder.old) (F.settled folder.new) (F.paths folder.new)
+        × OpensAt (path_of choice) result.1 (F.opened_at folder.new)) }
     ensures silent { result.0 ≡ 0 → err.new ≡ err.old }
     ensures reads { R.reads source.new ≤ R.reads source.old + most_reads }
 {
@@ -177,6 +181,7 @@ fn run_choice<D: Start, F: Folder, H: Accept + CsvFiles, R: Source, W: Sink>(
     source: &mut R,
     out: &mut W,
 ) -> (Result<(), Failure>, StoreAfter<FileFrom<D>>)
+    requires folder { F.settled folder.old ≡ F.paths folder.old }
     ensures done { OnOk result.0 (IsDone ⟦<MemoryFile as Disk>⟧ ⟦<FileFrom<D> as Disk>⟧ (image_at D.Start) choice.now
         (around R.Source W.Sink H.CsvFiles H.Accept source.old out.old host.old)
         (around R.Source W.Sink H.CsvFiles H.Accept source.new out.new host.new) result.1) }
@@ -188,7 +193,8 @@ fn run_choice<D: Start, F: Folder, H: Accept + CsvFiles, R: Source, W: Sink>(
         (around R.Source W.Sink H.CsvFiles H.Accept source.old out.old host.old)
         (around R.Source W.Sink H.CsvFiles H.Accept source.new out.new host.new) result.1) }
     ensures left { LeavesPaths choice.now (path_of choice.now) (is_err result.0) result.1 (F.failed_calls folder.old) (F.failed_calls folder.new)
-        (F.paths folder.old) (F.paths folder.new) }
+        (F.paths folder.old) (F.settled folder.new) (F.paths folder.new) }
+    ensures at { OpensAt (path_of choice.now) result.1 (F.opened_at folder.new) }
     ensures unread { reads_input choice.now ≡ false → source.new ≡ source.old }
     ensures unasked { asks_host choice.now ≡ false → host.new ≡ host.old }
     ensures reads { R.reads source.new ≤ R.reads source.old + most_reads }

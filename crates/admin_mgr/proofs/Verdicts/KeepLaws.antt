@@ -1,15 +1,17 @@
 -- Separation of duty by the roles of each user or session: with another cardinality, and with one more role.
-use Rattle.std.proofs.Common.{◌≡◌, ℕ, ◌+◌, ◌<◌, ◌≤◌, Bool, true, false, cond, not, ◌||◌, ◌&&◌, List, [], ◌∷◌, refl, sym, ◌∙◌, ap, subst, arith}
-use Rattle.std.specs.Prelude.{IsTrue, Option, Some, None, find, nat_lt, unwrap_or}
+use Rattle.std.proofs.Common.{◌≡◌, ℕ, ◌+◌, ◌<◌, ◌≤◌, Bool, true, false, cond, not, ◌||◌, ◌&&◌, List, [], ◌∷◌, ◌++◌, map, refl, sym, ◌∙◌, ap, subst, arith}
+use Rattle.std.specs.Prelude.{IsTrue, Option, Some, None, count_by, find, nat_lt, unwrap_or}
 use Rattle.std.specs.Option.{option_map}
 use Rattle.std.specs.List.{list_any, list_all}
 use Rattle.std.specs.FinMap as finmap
 use Rattle.std.specs.Ordering.{eq_by_cmp}
 use Rattle.std.proofs.lemmas.Bool.{and_parts, or_left, or_right, ltb-true, lt-ltb, true≢false, false_from_ne_true}
 use Rattle.std.proofs.lemmas.List.Folds.{list_all-map}
+use Rattle.std.proofs.lemmas.List.Sums.{fold-append}
 use Rattle.rbac_sets.specs.Sets.{Bytes, Pair, Pairs, Names, Cardinality, cardinality_cmp, same_name, contains, members, insert, retain, seconds, len, count, all}
 use Rattle.rbac_sets.specs.NameOrder.{name_total, name_exact, cardinality_total, cardinality_exact}
 use Rattle.rbac_sets.proofs.SetLaws.{tie_Decides, contains-members, contains-insert, contains-retain, seconds-Decides, same_set}
+use Rattle.rbac_sets.proofs.Lists.{count_map}
 use Rattle.rbac_sets.proofs.Members.{count-len}
 use Rattle.admin_mgr.specs.declared.separation_of_duty.SeparationOfDuty.{SeparationOfDuty}
 use Rattle.admin_mgr.specs.declared.separation_of_duty.SeparationOfDuty.TheVariants.{Static, Dynamic}
@@ -150,3 +152,22 @@ with_member duty S good name role n there absent =
     ap (λ k. not (is_reached S.edges held role) || nat_lt (k + 1) n) (sym same)
     ∙ fewer_with (is_reached S.edges held) (seconds pairs name) role (no_member pairs name role absent) n (ltb-true _ _ (ap (λ k. nat_lt k n) same ∙ fewer)))
     ∙ sym (kept_by_runs duty S (insert (seconds pairs name) role) n)
+
+-- of the members and one more role, those that pass a test
+count_more : {X : Type 0} (p : Bytes → Bool) (name : X → Bytes) (xs : List X) (role : Bytes) → count_by p (map name xs ++ role ∷ []) ≡ count_by (λ x. p (name x)) xs + cond (p role) 1 0
+count_more p name xs role = fold-append (λ k x. k + cond (p x) 1 0) 0 (map name xs) (role ∷ []) ∙ ap (λ k. k + cond (p role) 1 0) (count_map name p xs)
+
+fewer_by : (b : Bool) (k n : ℕ) → k < n → nat_lt (k + cond b 1 0) n ≡ (not b || nat_lt (k + 1) n)
+fewer_by true k n fewer = refl
+fewer_by false k n fewer = lt-ltb (k + 0) n (omega (arith, fewer))
+
+-- with one more role, a set is kept if each user or session has fewer of the members and this role, counted together
+pub kept_with_names : (duty : SeparationOfDuty) (S : RbacState) → IsGood S → (name role : Bytes) (n : ℕ) → IsTrue (contains (sets_of duty S).cardinalities (name, n)) → contains (sets_of duty S).members (name, role) ≡ false →
+    list_all (λ held. nat_lt (reached_roles S.edges held (map (λ (pair : Pair). pair.1) (run_of (sets_of duty S).members name) ++ role ∷ [])) n) (runs_of duty S)
+    ≡ is_kept duty S (insert (members_of (sets_of duty S) name) role) n
+kept_with_names duty S good name role n there absent =
+    let pairs = run_of (sets_of duty S).members name in
+    same_where _ _ _ (runs_of duty S) (kept_before duty S good (name, n) there) (λ held fewer.
+    ap (λ k. nat_lt k n) (count_more (is_reached S.edges held) (λ (pair : Pair). pair.1) pairs role)
+    ∙ fewer_by (is_reached S.edges held role) (reached_members S.edges held pairs) n (ltb-true _ _ fewer))
+    ∙ with_member duty S good name role n there absent

@@ -4,7 +4,7 @@ use Rattle.std.specs.Prelude.{IsTrue, Some, None, count_by, filter, find, nat_lt
 use Rattle.std.specs.List.{list_all, list_any}
 use Rattle.std.proofs.lemmas.Bool.{and_parts, and_from}
 use Rattle.std.proofs.lemmas.List.{append-nil}
-use Rattle.std.proofs.lemmas.List.Folds.{list_all-map, list_any-append}
+use Rattle.std.proofs.lemmas.List.Folds.{list_all-map, list_all-append, list_any-append}
 use Rattle.std.proofs.Math.Bool.{or-false}
 use Rattle.rbac_sets.specs.Sets.{Bytes, Names, Pair, Pairs, Cardinality, all, contains, members}
 use Rattle.rbac_sets.specs.NameOrder.{pair_total, pair_exact}
@@ -19,7 +19,7 @@ use Rattle.admin_mgr.specs.RbacState.{RbacState, members_of}
 use Rattle.admin_mgr.specs.RowChecks.{IsComplete}
 use Rattle.admin_mgr.specs.StoredSets.{StoredSets}
 use Rattle.admin_mgr.specs.Good.{IsWellFormed}
-use Rattle.admin_mgr.specs.private.HolderRoles.{find_violated, is_reached, is_touched, reached_members, reached_with, run_of}
+use Rattle.admin_mgr.specs.private.HolderRoles.{find_violated, is_reached, is_touched, reached_members, reached_roles, reached_with, run_of}
 use Rattle.admin_mgr.specs.private.Holders.{runs_of}
 use Rattle.admin_mgr.specs.private.NumberedSeparation.{first_violated_by, keep_all, keep_below}
 use Rattle.admin_mgr.specs.private.SeparationOfDuty.{is_kept, sets_of}
@@ -79,9 +79,18 @@ module _ (roles : Names) (edges : Pairs) (table : Table) (is : table ≡ table_o
       (count_map (λ (pair : Pair). number pair.1) (λ m. reaches table (numbers held ++ more) m) pairs
       ∙ count_where there _ _ pairs all_there (λ pair here. same held holds pair.1 here)))
 
-  below_is : (runs : List (List Pair)) → list_all (list_all there) runs ≡ true → (pairs : List Pair) → list_all there pairs ≡ true → (n : ℕ)
+  pub below_is : (runs : List (List Pair)) → list_all (list_all there) runs ≡ true → (pairs : List Pair) → list_all there pairs ≡ true → (n : ℕ)
       → keep_below table (map (λ run. numbers run ++ []) runs) (numbers pairs) n ≡ list_all (λ held. nat_lt (reached_members edges held pairs) n) runs
   below_is = below_by [] (is_reached edges) (λ held each role here. ap (λ ns. reaches table ns (number role)) (append-nil (numbers held)) ∙ reached_is held each role here)
+
+  -- the same of roles that are no pairs
+  pub below_names_is : (runs : List (List Pair)) → list_all (list_all there) runs ≡ true → (names : List Bytes) → list_all (contains roles) names ≡ true → (n : ℕ)
+      → keep_below table (map (λ run. numbers run ++ []) runs) (map number names) n ≡ list_all (λ held. nat_lt (reached_roles edges held names) n) runs
+  below_names_is runs each names all_there n =
+      list_all-map (λ run. nat_lt (count_by (λ m. reaches table run m) (map number names)) n) (λ run. numbers run ++ []) runs
+      ∙ same_where (list_all there) _ _ runs each (λ held holds. ap (λ k. nat_lt k n)
+      (count_map number (λ m. reaches table (numbers held ++ []) m) names
+      ∙ count_where (contains roles) _ _ names all_there (λ role here. ap (λ ns. reaches table ns (number role)) (append-nil (numbers held)) ∙ reached_is held holds role here)))
 
   below_with_is : (more : Bytes) → contains roles more ≡ true → (runs : List (List Pair)) → list_all (list_all there) runs ≡ true → (pairs : List Pair) → list_all there pairs ≡ true → (n : ℕ)
       → keep_below table (map (λ run. numbers run ++ number more ∷ []) runs) (numbers pairs) n ≡ list_all (λ held. nat_lt (reached_with edges held more pairs) n) runs
@@ -152,6 +161,19 @@ module _ (S : RbacState) (there : IsTrue (are_roles_there S)) where
   pub members_are_there : (duty : SeparationOfDuty) → all (λ (pair : Pair). contains S.roles pair.1) (sets_of duty S).members ≡ true
   members_are_there Static = in_each.2
   members_are_there Dynamic = in_each.3
+
+  -- those of one set are
+  pub members_run_is_there : (duty : SeparationOfDuty) (name : Bytes) → list_all (λ (pair : Pair). contains S.roles pair.1) (run_of (sets_of duty S).members name) ≡ true
+  unfolding all
+  members_run_is_there duty name = all_filter _ _ (members (sets_of duty S).members) (members_are_there duty)
+
+  -- and with one more role that is
+  pub members_and_one_are_there : (duty : SeparationOfDuty) (name role : Bytes) → contains S.roles role ≡ true
+      → list_all (contains S.roles) (map (λ (pair : Pair). pair.1) (run_of (sets_of duty S).members name) ++ role ∷ []) ≡ true
+  members_and_one_are_there duty name role here =
+      let seconds = map (λ (pair : Pair). pair.1) (run_of (sets_of duty S).members name) in
+      list_all-append (contains S.roles) seconds (role ∷ [])
+      ∙ and_from _ _ (list_all-map (contains S.roles) (λ (pair : Pair). pair.1) (run_of (sets_of duty S).members name) ∙ members_run_is_there duty name) (and_from _ _ here refl)
 
   -- so are the roles of each user or session
   pub runs_are_there : (duty : SeparationOfDuty) → list_all (list_all (λ (pair : Pair). contains S.roles pair.1)) (runs_of duty S) ≡ true

@@ -1,12 +1,12 @@
 -- What a user could do in some session: exactly what a session could that the user may create.
-use Rattle.std.proofs.Common.{◌≡◌, ℕ, suc, ◌+◌, ◌<◌, ◌≤◌, Bool, true, false, cond, not, ◌||◌, ◌&&◌, List, [], ◌∷◌, length, refl, sym, ◌∙◌, ap, subst, inl, inr, arith}
-use Rattle.std.specs.Prelude.{IsTrue, Option, Some, None, find, nat_lt, count_by}
+use Rattle.std.proofs.Common.{◌≡◌, ◌+◌, ◌≤◌, Bool, true, false, cond, not, ◌&&◌, List, [], ◌∷◌, length, refl, sym, ◌∙◌, ap, subst, inl, inr, arith}
+use Rattle.std.specs.Prelude.{IsTrue, None, find, nat_lt, count_by}
 use Rattle.std.specs.Option.{option_map}
-use Rattle.std.specs.List.{list_any, list_all, filter}
+use Rattle.std.specs.List.{list_all, filter}
 use Rattle.std.proofs.lemmas.List.Sums.{length-filter}
-use Rattle.std.proofs.lemmas.Bool.{and_parts, and_from, or_right, ltb-true, lt-ltb, le-ltb, not-true, true≢false}
+use Rattle.std.proofs.lemmas.Bool.{and_parts, and_from, lt-ltb, le-ltb, not-true, true≢false}
 use Rattle.std.specs.Cmp.{both_ways}
-use Rattle.rbac_sets.specs.Sets.{Bytes, Pair, Names, Cardinality, name_cmp, same_name, contains, members, insert, empty, retain, len, union, seconds, any, all, count, from_list}
+use Rattle.rbac_sets.specs.Sets.{Bytes, Pair, Names, Cardinality, name_cmp, contains, members, insert, empty, retain, len, union, any, all, count, from_list}
 use Rattle.rbac_sets.specs.SortedSet.{Stored, set_of}
 use Rattle.rbac_sets.specs.Kind.{limit_of}
 use Rattle.rbac_sets.specs.NameOrder.{name_total, name_exact, pair_total, pair_exact, cardinality_total, cardinality_exact}
@@ -23,14 +23,12 @@ use Rattle.role_order.proofs.Runs.{count_seconds}
 use Rattle.admin_mgr.specs.RbacState.{RbacState, active_roles, has_session, members_of}
 use Rattle.admin_mgr.specs.Authorization.{authorized_roles, authorized_users, has_access, is_authorized, is_session_role, session_roles}
 use Rattle.admin_mgr.specs.UserAccess.{could_have_access, stands_alone}
-use Rattle.admin_mgr.specs.Refusals.{first, refuse_if, refuse_unless, too_many, violates_dynamic}
+use Rattle.admin_mgr.specs.Refusals.{first, refuse_if, refuse_unless, violates_dynamic}
 use Rattle.admin_mgr.specs.After.{after, changed, paired}
-use Rattle.admin_mgr.specs.Assignment.{end_sessions}
 use Rattle.admin_mgr.specs.Verdict.{verdict, refusals, create_session_refusals}
 use Rattle.admin_mgr.specs.Good.{IsGood}
-use Rattle.admin_mgr.specs.Laws.{CreatesAccess, IsByCreation, UserAccessIsBySessions, SessionsGiveUserAccess}
-use Rattle.admin_mgr.specs.private.HolderRoles.{run_of, is_reached_from, has_all, naming_first, find_set}
-use Rattle.admin_mgr.proofs.Verdicts.AuthorizationLaws.{authorized_reached}
+use Rattle.admin_mgr.specs.Laws.{CreatesAccess, UserAccessIsBySessions, SessionsGiveUserAccess}
+use Rattle.admin_mgr.specs.private.HolderRoles.{run_of, is_reached_from, has_all, naming_first}
 use Rattle.admin_mgr.proofs.Verdicts.SeparationLaws.{authorized-user}
 use Rattle.admin_mgr.proofs.Verdicts.SessionCommandLaws.{created_sessions, created_active, created_goes_on, created_owned, created_roles, create_session}
 use Rattle.admin_mgr.proofs.Verdicts.TouchLaws.{find_same, with_sessions}

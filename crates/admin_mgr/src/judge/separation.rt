@@ -35,7 +35,9 @@ pub(crate) fn judge_create_set(
     ) {
         return Ok(Some(refusal));
     }
-    let kept = keeps(state, duty, roles, cardinality);
+    let Ok(kept) = keeps(alloc, state, duty, roles, cardinality) else {
+        return Err(AllocError);
+    };
     let violated = refuse_violated(alloc, duty, kept, set)?;
     Ok(violated)
 }
@@ -62,7 +64,9 @@ pub(crate) fn judge_add_member(
         return Ok(Some(refusal));
     }
     let cardinality = duty.cardinality(state, set).unwrap();
-    let kept = keeps_with(state, duty, set, cardinality, role);
+    let Ok(kept) = keeps_with(alloc, state, duty, set, cardinality, role) else {
+        return Err(AllocError);
+    };
     let violated = refuse_violated(alloc, duty, kept, set)?;
     Ok(violated)
 }
@@ -107,7 +111,9 @@ pub(crate) fn judge_set_cardinality(
         return Ok(Some(refusal));
     }
     let before = duty.cardinality(state, set).unwrap();
-    let kept = keeps_set(state, duty, set, before, cardinality);
+    let Ok(kept) = keeps_set(alloc, state, duty, set, before, cardinality) else {
+        return Err(AllocError);
+    };
     let violated = refuse_violated(alloc, duty, kept, set)?;
     Ok(violated)
 }

@@ -3,19 +3,51 @@
 //!
 //! If all users or sessions are checked against many sets, the numbers of their roles are looked up once, and
 //! then only the reachability matrix is read.
-ghost use Rattle.std.specs.Prelude.{◌≡◌, ◌++◌, ◌&&◌, not, nat_lt, IfOk, IfErr};
+ghost use Rattle.std.specs.Prelude.{◌≡◌, ◌++◌, [], ◌&&◌, not, nat_lt, IfOk, IfErr};
 ghost use Rattle.std.specs.Prelude.{map as list_map};
 ghost use Rattle.std.specs.List.{list_all, list_any};
 ghost use Rattle.std.specs.List.Sorted.{IsStrictlySortedBy};
 ghost use Rattle.std.specs.Option.{option_copied};
-ghost use Rattle.rbac_sets.specs.Sets.{name_cmp, pair_cmp};
+ghost use Rattle.rbac_sets.specs.Sets.{members, name_cmp, pair_cmp};
 ghost use Rattle.rbac_sets.specs.SortedSet.{set_of};
-ghost use Rattle.order_matrix.specs.Table.{entry, numbers_of};
-ghost use Rattle.admin_mgr.specs.private.NumberedSeparation.{count_reached, first_violated_by, keep_all};
+ghost use Rattle.order_matrix.specs.Table.{entry, number_in, numbers_of, table_of};
+ghost use Rattle.admin_mgr.specs.private.Holders.{runs_of};
+ghost use Rattle.admin_mgr.specs.private.NumberedSeparation.{count_reached, first_violated_by, keep_all, keep_below};
 
-use order_matrix::{OrderMatrix, second_numbers};
+use crate::relations::Relations;
+use crate::separation_of_duty::SeparationOfDuty;
+use order_matrix::{OrderMatrix, number, second_numbers};
 use rbac_sets::{Name, PairSet, Refusal};
-use std::alloc::Global;
+use std::alloc::{AllocError, Global};
+
+// The assignments of each user, or the activated roles of each session.
+pub(crate) fn all_runs<'a>(
+    alloc: Global,
+    relations: &'a Relations,
+    duty: SeparationOfDuty,
+) -> Result<Vec<&'a [(Name, Name)]>, AllocError>
+    ensures { IfOk result (λ runs. list_map (λ run. run.now) runs.items ≡ runs_of duty relations.now.facts) }
+{
+    duty.runs(relations).collect(alloc)
+}
+
+// The numbers of these names.
+pub(crate) fn name_numbers(
+    alloc: Global,
+    roles: &[Name],
+    names: &[Name],
+) -> Result<Vec<usize>, Refusal>
+    requires { IsStrictlySortedBy name_cmp roles.now }
+    ensures ok { IfOk result (λ numbers. numbers.items ≡ list_map (number_in roles.now) names.now) }
+    ensures cause { IfErr result (λ refusal. refusal ≡ Refusal.Memory) }
+{
+    let mut numbers = Vec::new(alloc);
+    numbers.reserve(names.len())?;
+    for name in names {
+        numbers.push(number(roles, name))?;
+    }
+    Ok(numbers)
+}
 
 // The numbers of the roles of each run, followed by the numbers `more`. A run has the pairs (holder, role) of
 // one user or session.
@@ -90,6 +122,25 @@ fn is_violated_by(
         && not (list_all (λ run. nat_lt (count_reached table.now run.items members.now) cardinality) runs.now)) }
 {
     touches(table, role, members) && !keep_below(table, runs, members, cardinality)
+}
+
+// Whether each user or session has fewer of the roles with the numbers `wanted` than `cardinality`.
+pub(crate) fn all_keep_below(
+    alloc: Global,
+    relations: &Relations,
+    duty: SeparationOfDuty,
+    wanted: &[usize],
+    cardinality: u32,
+) -> Result<bool, Refusal>
+    ensures ok { IfOk result (λ kept. kept ≡ keep_below (table_of relations.now.facts.edges (members relations.now.facts.roles))
+        (list_map (λ run. numbers_of (members relations.now.facts.roles) run ++ []) (runs_of duty relations.now.facts)) wanted.now cardinality) }
+    ensures cause { IfErr result (λ refusal. refusal ≡ Refusal.Memory) }
+{
+    let roles = relations.roles().as_slice();
+    let table = OrderMatrix::new(alloc, relations.order(), roles)?;
+    let runs = all_runs(alloc, relations, duty)?;
+    let numbers = run_numbers(alloc, roles, &runs, &[])?;
+    Ok(keep_below(&table, &numbers, wanted, cardinality))
 }
 
 // Whether none of the runs violates any of the sets.

@@ -1,28 +1,29 @@
-use Rattle.std.proofs.Common.{◌≡◌, ◌+◌, ◌<◌, ◌∙◌, arith, rules, length, sym, ap, subst}
-use Rattle.std.specs.declared.cmp.Ordering.TheVariants.{Less}
-use Rattle.std.specs.List.{AllWithin}
+use Rattle.std.proofs.Common.{◌≡◌, ◌-◌, true, false, arith, rules, length, vec_len, take, drop, length-drop, ap, subst, sym}
+use Rattle.std.specs.List.Sorted.{IsStrictlySortedBy, IsPartitionPoint}
 use Rattle.std.specs.Ordering.{is_lt}
-use Rattle.rbac_sets.specs.SetRemoval.{around}
-use Rattle.std.proofs.lemmas.List.{get_or_default}
-use Rattle.rbac_sets.proofs.InOrder.{less_of}
-use Rattle.rbac_sets.proofs.Gaps.{around-swap, below-swap}
+use Rattle.rbac_sets.proofs.Runs.{take_whole}
+use Rattle.rbac_sets.proofs.Gaps.{sorted-last, below_first, passed-around}
 use Rattle.rbac_sets.proofs.removal.pass.Goals as goal
 
-pub loop-passed-preserved : goal.loop-passed-preserved
-loop-passed-preserved g c =
-    let xs = c.loop-passed.entries.items in
-    let ys = c.swap.new.self.items in
+pub count_less-count-requires : goal.count_less-count-requires
+count_less-count-requires g c =
+    let xs = c.args.entries.now.items in
+    let end = c.args.end in
+    let whole : take (length xs - end) (drop end xs) ≡ drop end xs = take_whole (length xs - end) (drop end xs) (omega (arith, length-drop end xs)) in
+    let sorted = sorted-last g.K.Ord.cmp (take c.args.start xs) (drop end xs) c.requires.sorted in
+    rw c.deref.ensures.value (below_first g.met.K.Ord.total (take (length xs - end) (drop end xs)) (g.P.Probe.entry c.args.probe) (subst (IsStrictlySortedBy g.K.Ord.cmp) (sym whole) sorted))
+
+pub returns-clause-passed : goal.returns-clause-passed
+returns-clause-passed g c =
+    let xs = c.args.entries.now.items in
     let x = g.P.Probe.entry c.args.probe in
-    let start = c.args.start + c.loop-passed.passed in
-    let end = c.args.end + c.loop-passed.passed in
-    let one : start + 1 ≡ c.args.start + (c.loop-passed.passed + 1) = omega arith in
-    let two : end + 1 ≡ c.args.end + (c.loop-passed.passed + 1) = omega arith in
-    let within : end < length xs = search rules in
-    let swapped = c.swap.ensures.by_index in
-    let next : g.K.Ord.cmp c.index.result.now x ≡ Less = less_of (g.K.Ord.cmp c.index.result.now x) (sym (c.is_lt.ensures ∙ ap is_lt c.compare.ensures) ∙ c.if-is_lt.true) in (
-      omega arith,
-      sym (λ i. around (one i) (two i) ys) ∙ around-swap xs ys start end c.index.result.now (omega arith) within (swapped.3 c.index.result.now) ∙ c.loop-passed.invariant.1,
-      subst (λ n. AllWithin (λ y. g.K.Ord.cmp y x ≡ Less) ys 0 n) one (below-swap (λ y. g.K.Ord.cmp y x ≡ Less) xs ys start end x (omega arith) swapped.0 swapped.2 c.loop-passed.invariant.2 (λ d. subst (λ y. g.K.Ord.cmp y x ≡ Less) (c.index.ensures ∙ get_or_default xs end c.index.result.now d within) next)),
-      c.swap.ensures.len ∙ c.loop-passed.invariant.3,
-      c.swap.ensures.capacity ∙ c.loop-passed.invariant.4,
-    )
+    let end = c.args.end in
+    let count = c.count_less-count.result in
+    let whole : take (length xs - end) (drop end xs) ≡ drop end xs = take_whole (length xs - end) (drop end xs) (omega (arith, length-drop end xs)) in
+    let size : vec_len c.args.entries.now ≡ length xs = search rules in
+    let size_now : vec_len c.move_down.new.entries ≡ length c.move_down.new.entries.items = search rules in
+    let within = rw c.deref.ensures.value at c.count_less-count.ensures.within in
+    let point = rw c.deref.ensures.value at c.count_less-count.ensures.point in
+    passed-around g.K.Ord.cmp xs c.move_down.new.entries.items x c.args.start end count c.requires.gap.0 (omega (arith, within, ap length whole, length-drop end xs, size, c.requires.gap.1))
+    (omega (arith, size, size_now, c.move_down.ensures.len)) c.move_down.ensures.same c.requires.below
+    (subst (λ l. IsPartitionPoint (λ y. is_lt (g.K.Ord.cmp y x) ≡ true) (λ y. is_lt (g.K.Ord.cmp y x) ≡ false) l count) whole point)

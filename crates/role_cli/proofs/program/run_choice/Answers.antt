@@ -3,7 +3,7 @@ use Rattle.std.specs.Prelude.{is_err}
 use Rattle.std.proofs.lemmas.Bool.{true≢false}
 use Rattle.sqlite.specs.WalFiles.{image_at}
 use Rattle.rbac_sets.specs.Stream.{HasRisen}
-use Rattle.role_cli.specs.Leftovers.{LeavesPaths, NeverBegins}
+use Rattle.role_cli.specs.Leftovers.{LeavesPaths, NeverBegins, OpensAt}
 use Rattle.role_cli.proofs.Beginning.{fails_in_file, fails_in_memory, of_file, of_memory}
 use Rattle.role_cli.proofs.Results.{if_err-join, on_ok-join, on_ok-then}
 use Rattle.role_cli.proofs.program.run_choice.Goals as goal
@@ -25,9 +25,15 @@ pub returns-in-Some-clause-left : goal.returns-in-Some-clause-left
 returns-in-Some-clause-left g c =
     let paths = g.F.Folder.paths c.args.folder.now in
     let now = g.F.Folder.paths c.run_in_file.new.folder in
+    let settled = g.F.Folder.settled c.run_in_file.new.folder in
     let failed = g.F.Folder.failed_calls c.args.folder.now in
     let now_failed = g.F.Folder.failed_calls c.run_in_file.new.folder in
-    subst (λ path. LeavesPaths c.args.choice.now path (is_err c.run_in_file.result.0) c.run_in_file.result.1 failed now_failed paths now) c.in-Some.ensures.some.1 c.run_in_file.ensures.left
+    subst (λ path. LeavesPaths c.args.choice.now path (is_err c.run_in_file.result.0) c.run_in_file.result.1 failed now_failed paths settled now) c.in-Some.ensures.some.1 c.run_in_file.ensures.left
+
+pub returns-in-Some-clause-at : goal.returns-in-Some-clause-at
+returns-in-Some-clause-at g c =
+    let opened_at = g.F.Folder.opened_at c.run_in_file.new.folder in
+    subst (λ path. OpensAt path c.run_in_file.result.1 opened_at) c.in-Some.ensures.some.1 c.run_in_file.ensures.at
 
 -- ---- a replay in memory
 
@@ -41,6 +47,9 @@ returns-in-None-clause-failed g c =
 
 pub returns-in-None-clause-left : goal.returns-in-None-clause-left
 returns-in-None-clause-left g c = refl
+
+pub returns-in-None-clause-at : goal.returns-in-None-clause-at
+returns-in-None-clause-at g c opened = absurd (opened refl)
 
 pub returns-in-None-clause-unread : goal.returns-in-None-clause-unread
 returns-in-None-clause-unread g c reads_none = absurd (true≢false (sym c.in-None.ensures.none.1 ∙ reads_none))

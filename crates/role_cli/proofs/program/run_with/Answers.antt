@@ -29,9 +29,10 @@ returns-in-Ok-clause-left g c =
     let chosen = c.in-Ok.choice in
     let paths = g.F.Folder.paths c.args.folder.now in
     let now = g.F.Folder.paths c.run_choice-done.new.folder in
+    let settled = g.F.Folder.settled c.run_choice-done.new.folder in
     let failed = g.F.Folder.failed_calls c.args.folder.now in
     let now_failed = g.F.Folder.failed_calls c.run_choice-done.new.folder in
-    inr (chosen, c.in-Ok.ensures.ok, subst (λ b. LeavesPaths chosen (path_of chosen) b c.run_choice-done.result.1 failed now_failed paths now) (sym c.status_of.ensures.failed) c.run_choice-done.ensures.left)
+    inr (chosen, c.in-Ok.ensures.ok, subst (λ b. LeavesPaths chosen (path_of chosen) b c.run_choice-done.result.1 failed now_failed paths settled now) (sym c.status_of.ensures.failed) c.run_choice-done.ensures.left, c.run_choice-done.ensures.at)
 
 -- An allocation failed before anything was chosen.
 pub returns-in-Err-Memory-clause-stopped : goal.returns-in-Err-Memory-clause-stopped

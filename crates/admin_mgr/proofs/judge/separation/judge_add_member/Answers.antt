@@ -26,8 +26,8 @@ unwrap-cardinality-requires c =
     let all = passed (add_member_refusals c.args.state.now.facts (sets_of c.args.duty c.args.state.now.facts) c.args.set.now c.args.role.now) (sym front ∙ none_unless_some _ c.in_default.not-Some) in
     ap is_some c.cardinality.ensures ∙ is_some_cardinality (sets_of c.args.duty c.args.state.now.facts) c.args.set.now ∙ refuse_unless-None (has_set (sets_of c.args.duty c.args.state.now.facts) c.args.set.now) NoSet all.0
 
-pub keeps_with-kept-requires-clause-there : goal.keeps_with-kept-requires-clause-there
-keeps_with-kept-requires-clause-there c = cardinality_there (sets_of c.args.duty c.args.state.now.facts) c.args.set.now c.unwrap-cardinality.result (sym c.cardinality.ensures ∙ c.unwrap-cardinality.ensures)
+pub keeps_with-requires-clause-there : goal.keeps_with-requires-clause-there
+keeps_with-requires-clause-there c = cardinality_there (sets_of c.args.duty c.args.state.now.facts) c.args.set.now c.unwrap-cardinality.result (sym c.cardinality.ensures ∙ c.unwrap-cardinality.ensures)
 
 pub returns : goal.returns
 unfolding verdict
@@ -35,7 +35,7 @@ returns c =
     let front = c.refuse_member.ensures ∙ (λ i. first (add_member_refusals c.args.state.now.facts (record { members = c.members.ensures i; cardinalities = c.cardinalities.ensures i }) c.args.set.now c.args.role.now)) in
     let there = cardinality_there (sets_of c.args.duty c.args.state.now.facts) c.args.set.now c.unwrap-cardinality.result (sym c.cardinality.ensures ∙ c.unwrap-cardinality.ensures) in
     c.in_ok-violated.ensures
-    ∙ ap (λ b. cond b None (Some (refusal_of c.args.duty c.args.set.now))) c.keeps_with-kept.ensures
+    ∙ ap (λ b. cond b None (Some (refusal_of c.args.duty c.args.set.now))) c.in-Ok.ensures.ok
     ∙ sym (add_member_violates c.args.duty c.args.state.now.facts c.recall_good.ensures c.args.set.now c.args.role.now c.unwrap-cardinality.result there)
     ∙ sym (last_decides (add_member_refusals c.args.state.now.facts (sets_of c.args.duty c.args.state.now.facts) c.args.set.now c.args.role.now) (violates c.args.duty (after c.args.state.now.facts (add_member c.args.duty c.args.set.now c.args.role.now))) (sym front ∙ none_unless_some _ c.in_default.not-Some))
     ∙ ap first (sym (refusals_add_member c.args.duty c.args.state.now.facts c.args.set.now c.args.role.now))

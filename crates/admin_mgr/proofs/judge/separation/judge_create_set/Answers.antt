@@ -27,7 +27,7 @@ returns c =
     let none = sym front ∙ none_unless_some _ c.in_default.not-Some in
     let absent = refuse_if-None (has_set (sets_of c.args.duty c.args.state.now.facts) c.args.set.now) SetExists (passed (create_set_refusals c.args.state.now.facts (sets_of c.args.duty c.args.state.now.facts) (kind_of c.args.duty) c.args.set.now (set_of name_cmp c.args.roles.now) c.args.cardinality) none).1.0 in
     c.in_ok-violated.ensures
-    ∙ ap (λ b. cond b None (Some (refusal_of c.args.duty c.args.set.now))) c.keeps-kept.ensures
+    ∙ ap (λ b. cond b None (Some (refusal_of c.args.duty c.args.set.now))) c.in-Ok.ensures.ok
     ∙ sym (create_set_violates c.args.duty c.args.state.now.facts c.recall_good.ensures c.args.set.now c.args.roles.now c.args.cardinality absent)
     ∙ sym (last_decides (create_set_refusals c.args.state.now.facts (sets_of c.args.duty c.args.state.now.facts) (kind_of c.args.duty) c.args.set.now (set_of name_cmp c.args.roles.now) c.args.cardinality) (violates c.args.duty (after c.args.state.now.facts (create_set c.args.duty c.args.set.now c.args.roles.now c.args.cardinality))) none)
     ∙ ap first (sym (refusals_create_set c.args.duty c.args.state.now.facts c.args.set.now c.args.roles.now c.args.cardinality))

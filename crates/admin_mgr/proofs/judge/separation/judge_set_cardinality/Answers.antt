@@ -26,15 +26,15 @@ unwrap-before-requires c =
     let all = passed (set_cardinality_refusals (sets_of c.args.duty c.args.state.now.facts) c.args.set.now c.args.cardinality) (sym front ∙ none_unless_some _ c.in_default.not-Some) in
     ap is_some c.cardinality.ensures ∙ is_some_cardinality (sets_of c.args.duty c.args.state.now.facts) c.args.set.now ∙ refuse_unless-None (has_set (sets_of c.args.duty c.args.state.now.facts) c.args.set.now) NoSet all.0
 
-pub keeps_set-kept-requires : goal.keeps_set-kept-requires
-keeps_set-kept-requires c = record { there = cardinality_there (sets_of c.args.duty c.args.state.now.facts) c.args.set.now c.unwrap-before.result (sym c.cardinality.ensures ∙ c.unwrap-before.ensures) }
+pub keeps_set-requires : goal.keeps_set-requires
+keeps_set-requires c = record { there = cardinality_there (sets_of c.args.duty c.args.state.now.facts) c.args.set.now c.unwrap-before.result (sym c.cardinality.ensures ∙ c.unwrap-before.ensures) }
 
 pub returns : goal.returns
 unfolding verdict
 returns c =
     let front = c.refuse_cardinality.ensures ∙ (λ i. first (set_cardinality_refusals (record { members = c.members.ensures i; cardinalities = c.cardinalities.ensures i }) c.args.set.now c.args.cardinality)) in
     c.in_ok-violated.ensures
-    ∙ ap (λ b. cond b None (Some (refusal_of c.args.duty c.args.set.now))) c.keeps_set-kept.ensures
+    ∙ ap (λ b. cond b None (Some (refusal_of c.args.duty c.args.set.now))) c.in-Ok.ensures.ok
     ∙ sym (set_cardinality_violates c.args.duty c.args.state.now.facts c.recall_good.ensures c.args.set.now c.args.cardinality)
     ∙ sym (last_decides (set_cardinality_refusals (sets_of c.args.duty c.args.state.now.facts) c.args.set.now c.args.cardinality) (violates c.args.duty (after c.args.state.now.facts (set_cardinality c.args.duty c.args.set.now c.args.cardinality))) (sym front ∙ none_unless_some _ c.in_default.not-Some))
     ∙ ap first (sym (refusals_set_cardinality c.args.duty c.args.state.now.facts c.args.set.now c.args.cardinality))

@@ -1,6 +1,0 @@
-use Rattle.std.proofs.lemmas.Iterator.Consumers.{YieldsList-from_first, map_from_collect}
-use Rattle.admin_mgr.specs.private.Holders.{runs_left}
-use Rattle.admin_mgr.proofs.checking.all_runs.Goals as goal
-
-pub returns : goal.returns
-returns c = map_from_collect c.collect.result c.collect.ensures.ran (YieldsList-from_first (λ x. x.now) runs_left _ c.runs.ensures)

@@ -1,0 +1,11 @@
+pub mod Appending
+pub mod ChunkLists
+pub mod Homes
+pub mod Inserting
+pub mod Merges
+pub mod Omitting
+pub mod Parts
+pub mod Passing
+pub mod Sets
+pub mod Splitting
+pub mod Taking

@@ -1,0 +1,244 @@
+//! Sets as sorted lists in chunks. Once room is reserved, entries are inserted without allocation.
+ghost use Rattle.std.specs.Prelude.{length, vec_len, filter, slice_index_or, ◌≡◌, ◌+◌, ◌<◌, ◌≤◌, ◌↔◌, true, false, IsTrue, OnOk, IfOk, IfErr};
+ghost use Rattle.std.specs.List.Sorted.{IsStrictlySortedBy};
+ghost use Rattle.std.specs.Ordering.{is_eq};
+ghost use Rattle.chunked_sets.specs.Entries.{entries_left};
+ghost use Rattle.rbac_sets.specs.Sets.{IsDisjoint, empty, contains, insert, remove, union, difference, from_list, len, members};
+ghost use Rattle.rbac_sets.specs.SortedSet.{set_of};
+
+use crate::chunks::{MOST_CHUNKS, add_spare, chunk_of, insert_into};
+use crate::entries::Entries;
+use crate::making::{chunks_from, copy_chunks, entry_at};
+use crate::pass::merge_into;
+use crate::removing::{remove_from, tidy};
+use crate::run::{Run, run_of};
+use rbac_sets::{Entry, Prefix, Probe, Refusal, place};
+use std::alloc::Global;
+use std::marker::Model;
+use std::mem;
+
+/// A set of entries, kept in their order in chunks of at most 128.
+///
+/// An entry is found by binary search. Only `reserve`, `copy` and `of_sorted` allocate: once room is
+/// reserved, entries are inserted without allocation, and so without a refusal. An insertion moves the
+/// entries of one chunk, and takes at most one spare chunk; `room` is the number of these. In contracts
+/// the value is the entries in their order and the room for more; `set_of` is the set of the entries.
+#[derive(Drop)]
+pub struct ChunkedSet<K: Entry> {
+    chunks: Vec<Vec<K>>,
+    // Empty chunks, for insertions into full ones.
+    spare: Vec<Vec<K>>,
+    len: usize,
+}
+
+impl<K: Entry> Model for ChunkedSet<K> {
+    ghost use Rattle.std.specs.Prelude.{◌≡◌, ◌≤◌, ◌-◌, ◌^◌, length, vec_len, vec_capacity, min};
+    ghost use Rattle.std.specs.List.Sorted.{IsStrictlySortedBy};
+    ghost use Rattle.rbac_sets.specs.SortedSet.{Stored, stored_code};
+    ghost use Rattle.chunked_sets.specs.Chunks.{entries_of, AreChunks, AreSpare};
+
+    ghost Value = { Stored K };
+
+    ghost coded = { stored_code K.code };
+
+    ghost view = { λ s. record { in_order = entries_of s.chunks.items; room = min (vec_len s.spare) (min (vec_capacity s.chunks) (2 ^ 56) - vec_len s.chunks) } };
+
+    ghost invariant = { λ s. AreChunks s.chunks.items × AreSpare s.spare.items × IsStrictlySortedBy K.cmp (entries_of s.chunks.items)
+        × (s.len ≡ length (entries_of s.chunks.items)) × (vec_len s.chunks ≤ 2 ^ 56) };
+}
+
+impl<K: Entry> ChunkedSet<K> {
+    /// The set without entries. It doesn't allocate yet.
+    pub fn new(alloc: Global) -> ChunkedSet<K>
+        ensures { set_of K.cmp result ≡ empty }
+    {
+        ChunkedSet {
+            chunks: Vec::new(alloc),
+            spare: Vec::new(alloc),
+            len: 0,
+        }
+    }
+
+    /// How many entries there are.
+    pub fn len(&self) -> usize
+        ensures { result ≡ len (set_of K.cmp self.now) }
+    {
+        self.len
+    }
+
+    /// Whether there is no entry.
+    pub fn is_empty(&self) -> bool
+        ensures { IsTrue result ↔ (len (set_of K.cmp self.now) ≡ 0) }
+    {
+        self.len() == 0
+    }
+
+    /// How many more entries can be inserted without allocation.
+    pub fn room(&self) -> usize
+        ensures { result ≡ self.now.room }
+    {
+        let most = self.chunks.capacity().min(MOST_CHUNKS);
+        self.spare.len().min(most - self.chunks.len())
+    }
+
+    /// Whether the entry that `probe` looks for is there.
+    pub fn contains<P: Probe<K>>(&self, probe: P) -> bool
+        ensures { result ≡ contains (set_of K.cmp self.now) (P.entry probe) }
+    {
+        if self.chunks.is_empty() {
+            return false;
+        }
+        let at = chunk_of(&self.chunks, probe);
+        place(&self.chunks[at], probe).is_ok()
+    }
+
+    /// Reserves room for at least `count` more entries.
+    ///
+    /// # Errors
+    ///
+    /// `Memory` if allocation failed. The entries are kept in any case.
+    pub fn reserve(&mut self, count: usize) -> Result<(), Refusal>
+        ensures ok { OnOk result (count ≤ self.new.room) }
+        ensures keeps { set_of K.cmp self.new ≡ set_of K.cmp self.old }
+        ensures room { self.old.room ≤ self.new.room }
+        ensures cause { IfErr result (λ refusal. refusal ≡ Refusal.Memory) }
+    {
+        if count > MOST_CHUNKS - self.chunks.len() {
+            return Err(Refusal::Memory);
+        }
+        self.chunks.reserve(count)?;
+        let alloc = *self.chunks.allocator();
+        add_spare(&mut self.spare, count, alloc)
+    }
+
+    /// Inserts an entry that is not there, into reserved room.
+    ///
+    /// It doesn't allocate and can't fail.
+    pub fn insert_reserved(&mut self, entry: K)
+        requires absent { contains (set_of K.cmp self.old) entry ≡ false }
+        requires room { 1 ≤ self.old.room }
+        ensures inserted { set_of K.cmp self.new ≡ insert (set_of K.cmp self.old) entry }
+        ensures room { self.old.room ≤ self.new.room + 1 }
+    {
+        insert_into(&mut self.chunks, &mut self.spare, entry);
+        self.len += 1;
+    }
+
+    /// Removes the entry that `probe` looks for, and returns whether it was there.
+    ///
+    /// It doesn't allocate.
+    pub fn remove<P: Probe<K>>(&mut self, probe: P) -> bool
+        ensures was_there { result ≡ contains (set_of K.cmp self.old) (P.entry probe) }
+        ensures removed { set_of K.cmp self.new ≡ remove (set_of K.cmp self.old) (P.entry probe) }
+        ensures room { self.old.room ≤ self.new.room }
+    {
+        match remove_from(&mut self.chunks, &mut self.spare, probe) {
+            Some(at) => {
+                self.len -= 1;
+                tidy(&mut self.chunks, &mut self.spare, at);
+                true
+            }
+            None => false,
+        }
+    }
+
+    /// Inserts all of these sorted entries, none of which is there, into reserved room.
+    ///
+    /// It goes once through the chunks, doesn't allocate and can't fail.
+    pub fn merge_reserved(&mut self, others: Vec<K>)
+        requires sorted { IsStrictlySortedBy K.cmp others.items }
+        requires disjoint { IsDisjoint (set_of K.cmp self.old) (from_list {R = K.cmp} others.items) }
+        requires room { vec_len others ≤ self.old.room }
+        ensures merged { set_of K.cmp self.new ≡ union (set_of K.cmp self.old) (from_list {R = K.cmp} others.items) }
+        ensures room { self.old.room ≤ self.new.room + vec_len others }
+    {
+        self.len += others.len();
+        let nothing = Vec::new(*self.chunks.allocator());
+        let chunks = mem::replace(&mut self.chunks, nothing);
+        self.chunks = merge_into(chunks, &mut self.spare, others);
+    }
+
+    /// Removes each of these entries that is there.
+    ///
+    /// It doesn't allocate.
+    pub fn take_all(&mut self, others: &[K])
+        ensures taken { set_of K.cmp self.new ≡ difference (set_of K.cmp self.old) (from_list {R = K.cmp} others.now) }
+        ensures room { self.old.room ≤ self.new.room }
+    {
+        for other in others {
+            self.remove(other);
+        }
+    }
+
+    /// The entries one by one, in their order.
+    pub fn iter(&self) -> Entries<'_, K>
+        ensures { entries_left result ≡ members (set_of K.cmp self.now) }
+    {
+        Entries {
+            chunk: &[],
+            chunks: &self.chunks,
+            last: &[],
+        }
+    }
+
+    /// The entry at a place in the order. Its time grows with the number of chunks.
+    pub fn at(&self, index: usize) -> &K
+        requires { index < len (set_of K.cmp self.now) }
+        ensures { result.now ≡ slice_index_or (members (set_of K.cmp self.now)) index result.now }
+    {
+        entry_at(&self.chunks, index)
+    }
+
+    /// The entries that begin with the parts of `prefix`, in their order.
+    pub fn with_first<P: Prefix<K>>(&self, prefix: P) -> Run<'_, K>
+        ensures { result ≡ filter (λ entry. is_eq (P.place prefix entry)) (members (set_of K.cmp self.now)) }
+    {
+        run_of(&self.chunks, prefix)
+    }
+
+    /// The set of these sorted entries, in chunks that have space for a few more.
+    ///
+    /// # Errors
+    ///
+    /// `Memory` if allocation failed.
+    pub fn of_sorted(alloc: Global, entries: Vec<K>) -> Result<ChunkedSet<K>, Refusal>
+        requires { IsStrictlySortedBy K.cmp entries.items }
+        ensures ok { IfOk result (λ set. members (set_of K.cmp set) ≡ entries.items) }
+        ensures cause { IfErr result (λ refusal. refusal ≡ Refusal.Memory) }
+    {
+        let len = entries.len();
+        let chunks = chunks_from(entries, alloc)?;
+        Ok(ChunkedSet {
+            chunks,
+            spare: Vec::new(alloc),
+            len,
+        })
+    }
+
+    /// A copy of the set, in memory of its own, without room for more.
+    ///
+    /// # Errors
+    ///
+    /// `Memory` if allocation failed.
+    pub fn copy(&self, alloc: Global) -> Result<ChunkedSet<K>, Refusal>
+        ensures ok { IfOk result (λ copy. set_of K.cmp copy ≡ set_of K.cmp self.now) }
+        ensures room { IfOk result (λ copy. copy.room ≡ 0) }
+        ensures cause { IfErr result (λ refusal. refusal ≡ Refusal.Memory) }
+    {
+        let chunks = copy_chunks(&self.chunks, alloc)?;
+        Ok(ChunkedSet {
+            chunks,
+            spare: Vec::new(alloc),
+            len: self.len,
+        })
+    }
+
+    /// Gives back the spare chunks, so that there is no room for more.
+    pub fn release(&mut self)
+        ensures keeps { set_of K.cmp self.new ≡ set_of K.cmp self.old }
+        ensures room { self.new.room ≡ 0 }
+    {
+        let alloc = *self.chunks.allocator();
+        self.spare = Vec::new(alloc);
+    }
+}

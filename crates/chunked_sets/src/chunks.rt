@@ -1,0 +1,187 @@
+//! Lists of chunks: the chunk of an entry, and insertion and removal in one chunk.
+ghost use Rattle.std.specs.Prelude.{◌∷◌, OnOk, IfErr, MatchOption, ◌≡◌, ◌+◌, ◌<◌, ◌≤◌, length, vec_len, vec_capacity, true, false, [], ◌++◌, IsTrue};
+ghost use Rattle.std.specs.List.{HoldsAt};
+ghost use Rattle.std.specs.List.Sorted.{IsStrictlySortedBy};
+ghost use Rattle.std.specs.Ordering.{is_le};
+ghost use Rattle.rbac_sets.specs.Sets.{contains, insert, remove, from_list};
+ghost use Rattle.chunked_sets.specs.Chunks.{entries_of, AreChunks, AreSpare};
+ghost use Rattle.chunked_sets.specs.private.Places.{first_passes, IsHome};
+
+use rbac_sets::{Entry, Probe, Refusal, place};
+use std::alloc::Global;
+
+/// How many entries a chunk has at most.
+pub(crate) const CHUNK: usize = 128;
+
+/// How many chunks there are at most, so that their entries can be counted.
+pub(crate) const MOST_CHUNKS: usize = 0x0100_0000_0000_0000;
+
+/// Whether the chunk's first entry is not greater than the one that `probe` looks for.
+pub(crate) fn begins_before<K: Entry, P: Probe<K>>(chunk: &[K], probe: P) -> bool
+    ensures { result ≡ first_passes (λ y. is_le (K.cmp y (P.entry probe))) chunk.now }
+{
+    match chunk.first() {
+        Some(first) => probe.compare(first).is_le(),
+        None => false,
+    }
+}
+
+/// The place of the chunk in which the entry that `probe` looks for is, or belongs if it isn't there.
+pub(crate) fn chunk_of<K: Entry, P: Probe<K>>(chunks: &[Vec<K>], probe: P) -> usize
+    requires chunks { AreChunks chunks.now }
+    requires sorted { IsStrictlySortedBy K.cmp (entries_of chunks.now) }
+    requires some { 0 < length chunks.now }
+    ensures { IsHome K.cmp (P.entry probe) chunks.now result }
+{
+    let after = chunks.partition_point(|chunk| begins_before(chunk, probe));
+    if after == 0 { 0 } else { after - 1 }
+}
+
+/// Moves the upper half of a full chunk into an empty one.
+pub(crate) fn halve<K>(lower: &mut Vec<K>, upper: &mut Vec<K>)
+    requires full { vec_len lower.old ≡ CHUNK }
+    requires empty { vec_len upper.old ≡ 0 }
+    requires memory { CHUNK ≤ vec_capacity upper.old }
+    ensures same { lower.new.items ++ upper.new.items ≡ lower.old.items }
+    ensures half { vec_len lower.new ≡ 64 }
+    ensures rest { vec_len upper.new ≡ 64 }
+    ensures capacity { vec_capacity lower.new ≡ vec_capacity lower.old }
+    ensures upper_capacity { CHUNK ≤ vec_capacity upper.new }
+{
+    while lower.len() > CHUNK / 2 {
+        let last = lower.pop().unwrap();
+        upper.push(last).unwrap();
+    }
+    upper.reverse();
+}
+
+/// Inserts an entry that is not there into its chunk, which isn't full.
+pub(crate) fn put_in<K: Entry>(chunks: &mut Vec<Vec<K>>, at: usize, entry: K)
+    requires chunks { AreChunks chunks.old.items }
+    requires sorted { IsStrictlySortedBy K.cmp (entries_of chunks.old.items) }
+    requires home { IsHome K.cmp entry chunks.old.items at }
+    requires free { HoldsAt (λ chunk. vec_len chunk < CHUNK) chunks.old.items at }
+    requires absent { contains (from_list {R = K.cmp} (entries_of chunks.old.items)) entry ≡ false }
+    ensures chunks { AreChunks chunks.new.items }
+    ensures sorted { IsStrictlySortedBy K.cmp (entries_of chunks.new.items) }
+    ensures inserted { from_list {R = K.cmp} (entries_of chunks.new.items) ≡ insert (from_list (entries_of chunks.old.items)) entry }
+    ensures entry_count { length (entries_of chunks.new.items) ≡ length (entries_of chunks.old.items) + 1 }
+    ensures len { vec_len chunks.new ≡ vec_len chunks.old }
+    ensures capacity { vec_capacity chunks.new ≡ vec_capacity chunks.old }
+{
+    let chunk = &mut chunks[at];
+    let gap = place(chunk, &entry).unwrap_err();
+    chunk.insert(gap, entry).unwrap();
+}
+
+/// Splits a full chunk, with an empty one for its upper half, and returns which half an entry belongs in.
+pub(crate) fn split_for<K: Entry>(
+    chunks: &mut Vec<Vec<K>>,
+    at: usize,
+    mut upper: Vec<K>,
+    entry: &K,
+) -> usize
+    requires chunks { AreChunks chunks.old.items }
+    requires sorted { IsStrictlySortedBy K.cmp (entries_of chunks.old.items) }
+    requires home { IsHome K.cmp entry.now chunks.old.items at }
+    requires full { HoldsAt (λ chunk. vec_len chunk ≡ CHUNK) chunks.old.items at }
+    requires empty { vec_len upper ≡ 0 }
+    requires memory { CHUNK ≤ vec_capacity upper }
+    requires room { vec_len chunks.old < vec_capacity chunks.old }
+    ensures home { IsHome K.cmp entry.now chunks.new.items result }
+    ensures free { HoldsAt (λ chunk. vec_len chunk < CHUNK) chunks.new.items result }
+    ensures same { entries_of chunks.new.items ≡ entries_of chunks.old.items }
+    ensures chunks { AreChunks chunks.new.items }
+    ensures len { vec_len chunks.new ≡ vec_len chunks.old + 1 }
+    ensures capacity { vec_capacity chunks.new ≡ vec_capacity chunks.old }
+{
+    halve(&mut chunks[at], &mut upper);
+    let is_above = begins_before(&upper, entry);
+    chunks.insert(at + 1, upper).unwrap();
+    if is_above { at + 1 } else { at }
+}
+
+/// Makes the first chunk of an empty one.
+fn begin<K: Entry>(chunks: &mut Vec<Vec<K>>, mut chunk: Vec<K>, entry: K)
+    requires nothing { vec_len chunks.old ≡ 0 }
+    requires empty { vec_len chunk ≡ 0 }
+    requires memory { CHUNK ≤ vec_capacity chunk }
+    requires room { 1 ≤ vec_capacity chunks.old }
+    ensures entries { entries_of chunks.new.items ≡ entry ∷ [] }
+    ensures chunks { AreChunks chunks.new.items }
+    ensures len { vec_len chunks.new ≡ 1 }
+    ensures capacity { vec_capacity chunks.old ≤ vec_capacity chunks.new }
+{
+    chunk.push(entry).unwrap();
+    chunks.push(chunk).unwrap();
+}
+
+/// Finds the chunk in which an entry belongs, and splits it if it is full.
+fn home_for<K: Entry>(chunks: &mut Vec<Vec<K>>, spare: &mut Vec<Vec<K>>, entry: &K) -> usize
+    requires chunks { AreChunks chunks.old.items }
+    requires sorted { IsStrictlySortedBy K.cmp (entries_of chunks.old.items) }
+    requires some { 0 < vec_len chunks.old }
+    requires spare { AreSpare spare.old.items }
+    requires one_spare { 1 ≤ vec_len spare.old }
+    requires room { vec_len chunks.old < vec_capacity chunks.old }
+    ensures home { IsHome K.cmp entry.now chunks.new.items result }
+    ensures free { HoldsAt (λ chunk. vec_len chunk < CHUNK) chunks.new.items result }
+    ensures same { entries_of chunks.new.items ≡ entries_of chunks.old.items }
+    ensures chunks { AreChunks chunks.new.items }
+    ensures len { vec_len chunks.new ≤ vec_len chunks.old + 1 }
+    ensures capacity { vec_capacity chunks.new ≡ vec_capacity chunks.old }
+    ensures spare { AreSpare spare.new.items }
+    ensures spare_len { vec_len spare.old ≤ vec_len spare.new + 1 }
+{
+    let at = chunk_of(chunks, entry);
+    if chunks[at].len() < CHUNK {
+        return at;
+    }
+    let upper = spare.pop().unwrap();
+    split_for(chunks, at, upper, entry)
+}
+
+/// Inserts an entry that is not there. It takes at most one spare chunk.
+pub(crate) fn insert_into<K: Entry>(chunks: &mut Vec<Vec<K>>, spare: &mut Vec<Vec<K>>, entry: K)
+    requires chunks { AreChunks chunks.old.items }
+    requires sorted { IsStrictlySortedBy K.cmp (entries_of chunks.old.items) }
+    requires absent { contains (from_list {R = K.cmp} (entries_of chunks.old.items)) entry ≡ false }
+    requires spare { AreSpare spare.old.items }
+    requires one_spare { 1 ≤ vec_len spare.old }
+    requires room { vec_len chunks.old < vec_capacity chunks.old }
+    ensures chunks { AreChunks chunks.new.items }
+    ensures sorted { IsStrictlySortedBy K.cmp (entries_of chunks.new.items) }
+    ensures inserted { from_list {R = K.cmp} (entries_of chunks.new.items) ≡ insert (from_list (entries_of chunks.old.items)) entry }
+    ensures entry_count { length (entries_of chunks.new.items) ≡ length (entries_of chunks.old.items) + 1 }
+    ensures len { vec_len chunks.new ≤ vec_len chunks.old + 1 }
+    ensures capacity { vec_capacity chunks.old ≤ vec_capacity chunks.new }
+    ensures spare { AreSpare spare.new.items }
+    ensures spare_len { vec_len spare.old ≤ vec_len spare.new + 1 }
+{
+    if chunks.is_empty() {
+        let chunk = spare.pop().unwrap();
+        begin(chunks, chunk, entry);
+        return;
+    }
+    let at = home_for(chunks, spare, &entry);
+    put_in(chunks, at, entry);
+}
+
+/// Allocates spare chunks until there are `count`.
+pub(crate) fn add_spare<K: Entry>(
+    spare: &mut Vec<Vec<K>>,
+    count: usize,
+    alloc: Global,
+) -> Result<(), Refusal>
+    requires { AreSpare spare.old.items }
+    ensures ok { OnOk result (count ≤ vec_len spare.new) }
+    ensures spare { AreSpare spare.new.items }
+    ensures len { vec_len spare.old ≤ vec_len spare.new }
+    ensures cause { IfErr result (λ refusal. refusal ≡ Refusal.Memory) }
+{
+    while spare.len() < count {
+        let chunk = Vec::with_capacity(alloc, CHUNK)?;
+        spare.push(chunk)?;
+    }
+    Ok(())
+}

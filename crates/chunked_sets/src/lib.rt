@@ -1,0 +1,17 @@
+//! Sets as sorted lists in chunks, for sets of millions of entries.
+//!
+//! A change moves the entries of one chunk, and not all that follow. The contracts are those of
+//! `SortedSet`.
+#![tactic(auto)]
+
+pub use chunked_set::ChunkedSet;
+pub use entries::Entries;
+pub use run::Run;
+
+pub mod chunked_set;
+mod chunks;
+pub mod entries;
+mod making;
+mod pass;
+mod removing;
+pub mod run;

@@ -1,0 +1,9 @@
+pub mod Bits
+pub mod WordLaws
+pub mod Leading
+pub mod Counting
+pub mod RowLaws
+pub mod Joining
+pub mod Parting
+pub mod Reaching
+pub mod Listing

@@ -1,0 +1,4 @@
+pub mod Closing
+pub mod Graph
+pub mod Numbers
+pub mod private
