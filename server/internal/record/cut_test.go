@@ -3,10 +3,12 @@ package record
 import (
 	"bytes"
 	"context"
+	"errors"
 	"os"
 	"path/filepath"
 	"strings"
 	"testing"
+	"time"
 )
 
 // answered records commands with the answers of the office.
@@ -70,5 +72,28 @@ func TestKilledCut(t *testing.T) {
 				t.Errorf("show: %v, %s", err, out)
 			}
 		})
+	}
+}
+
+// A cut is refused while somebody reads the record, who would take the next file for the one at hand.
+func TestCutWaits(t *testing.T) {
+	defer func(before time.Duration) { patience = before }(patience)
+	patience = 100 * time.Millisecond
+	b, ctx := open(t), context.Background()
+	b.answered(addAnn)
+	tool, _ := b.tool()
+	_, release, err := tool.files(ctx)
+	if err != nil {
+		t.Fatal(err)
+	}
+	if err := tool.Cut(ctx); !errors.Is(err, errOthersRead) {
+		t.Errorf("while somebody reads: %v", err)
+	}
+	if files, err := filesOf(b.dir); err != nil || len(files) != 1 {
+		t.Errorf("then there is %q, %v", files, err)
+	}
+	release()
+	if err := tool.Cut(ctx); err != nil {
+		t.Error(err)
 	}
 }

@@ -27,7 +27,7 @@ var (
 	errNoSnapshots  = errors.New("there is no snapshot since the record began")
 )
 
-// share keeps the files of a record as they are until release is called: no node divides it meanwhile.
+// share keeps the files of a record as they are until release is called: nobody divides it or completes a division meanwhile.
 func share(ctx context.Context, dir string) (release func(), err error) {
 	return lockDir(ctx, dir, syscall.LOCK_SH)
 }
@@ -76,7 +76,7 @@ func (t *Tool) cutNode(ctx context.Context) error {
 	defer r.close()
 	closed := ""
 	err = r.withCopy(ctx, snapshot, func(copied, rows string) (err error) {
-		closed, err = cutAt(ctx, r.dir, head, rows, copied)
+		closed, err = cutAt(ctx, r.dir, joinedAt(head, rows), "", copied)
 		return err
 	})
 	if err != nil {
@@ -86,14 +86,14 @@ func (t *Tool) cutNode(ctx context.Context) error {
 	return nil
 }
 
-// cutAt closes the part at hand at a head, while no node writes it, and returns the path of its file.
-func cutAt(ctx context.Context, dir string, head Head, rows, copied string) (closed string, err error) {
+// cutAt closes the part at hand before another one, while nobody writes it, and returns the path of its file.
+func cutAt(ctx context.Context, dir string, p part, at, copied string) (closed string, err error) {
 	release, err := exclude(ctx, dir)
 	if err != nil {
 		return "", err
 	}
 	defer release()
-	next, err := newNext(ctx, dir, joinedAt(head, rows), "", copied)
+	next, err := newNext(ctx, dir, p, at, copied)
 	if err != nil {
 		return "", err
 	}
@@ -250,7 +250,8 @@ func (n *next) putInPlace() (closed string, err error) {
 }
 
 // tidyParts removes the other name of the file at hand, and from the last earlier part the entries that come after it, which the file at
-// hand has too. That completes a division, also after a crash. Nobody else writes the files.
+// hand has too. That completes a division, also after a crash. Nobody else reads or writes the files: if somebody read the part, what is
+// removed would stay in it beside a log, which isn't moved with it.
 func tidyParts(dir string) error {
 	if err := removeLeftNames(dir); err != nil {
 		return err
@@ -290,6 +291,20 @@ func hasLater(ctx context.Context, part querier, path string, named int64) (bool
 	return err == nil && at == last && has(ctx, current, last.head()) == nil, nil
 }
 
+// tidyLater completes a division that a crash has ended, once nobody reads the record. Until then whoever reads it passes over what is
+// there twice.
+func (f *Follower) tidyLater() {
+	defer f.checking.Done()
+	release, err := lockDir(f.life, f.dir, syscall.LOCK_EX)
+	if err == nil {
+		defer release()
+		err = tidyParts(f.dir)
+	}
+	if err != nil && f.life.Err() == nil {
+		f.Log.Error("a division of the record, which a crash has ended, isn't completed before the next one", "why", err)
+	}
+}
+
 // hideLater hides the entries that a crash has left in an earlier part.
 func (v *view) hideLater(ctx context.Context) error {
 	_, named, is := namesOf(v.path)
@@ -300,8 +315,16 @@ func (v *view) hideLater(ctx context.Context) error {
 	if err != nil || !has {
 		return err
 	}
-	_, err = v.tx.ExecContext(ctx, fmt.Sprintf("CREATE TEMP VIEW entry AS SELECT * FROM main.entry WHERE n <= %d", named))
-	return err
+	for _, statement := range []string{
+		"PRAGMA query_only = 0", // Otherwise SQLite refuses the view too, which is in no file.
+		fmt.Sprintf("CREATE TEMP VIEW entry AS SELECT * FROM main.entry WHERE n <= %d", named),
+		"PRAGMA query_only = 1",
+	} {
+		if _, err := v.tx.ExecContext(ctx, statement); err != nil {
+			return err
+		}
+	}
+	return nil
 }
 
 // mergeLog merges the log of a file.

@@ -1,13 +1,18 @@
 package record
 
 import (
+	"bytes"
 	"context"
+	"database/sql"
+	"errors"
+	"fmt"
 	"os"
 	"path/filepath"
 	"strings"
 	"testing"
 	"time"
 
+	"rbac-node/internal/disk"
 	"rbac-node/internal/recorded"
 )
 
@@ -158,6 +163,64 @@ func TestKilledDivide(t *testing.T) {
 	}
 }
 
+// A start leaves what a killed division has left as long as somebody reads the record, and removes it then.
+func TestTidyLater(t *testing.T) {
+	m := newMachine(t, "")
+	m.resume("", false)
+	m.begin()
+	m.do(addAnn)
+	path, head := m.snapshot(7)
+	_ = m.Close()
+	m.divideUntil("the file at hand has two names", path, head)
+	isLeft := func() bool {
+		_, left, err := partsIn(m.dir)
+		return err != nil || len(left) > 0
+	}
+	_, release, err := (&Tool{Data: m.data}).files(context.Background())
+	if err != nil {
+		t.Fatal(err)
+	}
+	m.start(path)
+	m.resume(head, false)
+	m.do(addRole)
+	if m.flush("NORMAL"); !isLeft() || m.Failure() != nil {
+		t.Errorf("while somebody reads, something is left: %v, %v", isLeft(), m.Failure())
+	}
+	release()
+	within(t, "the other name is still there", func() bool { return !isLeft() })
+}
+
+// A node that is killed while it divides its record, and lacks entries before its next start, closes the file: no entry is there twice.
+func TestKilledDivideBehind(t *testing.T) {
+	for _, test := range []string{"the file at hand has two names", "the next file is in place"} {
+		t.Run(test, func(t *testing.T) {
+			first, second := newMachine(t, ""), newMachine(t, "")
+			var path, head string
+			for _, m := range []*machine{second, first} {
+				m.resume("", false)
+				m.begin()
+				m.do(addAnn)
+				path, head = m.snapshot(7)
+				m.do(addRole)
+				m.flush("NORMAL")
+			}
+			_ = first.Close()
+			first.divideUntil(test, path, head)
+			second.do(assign)
+			path, head = second.snapshot(8)
+			first.start(path)
+			first.resume(head, true)
+			first.do(login)
+			if has := first.entries(); strings.Count(has, "addRole") != 1 || strings.Count(has, "\n") != 5 || !strings.Contains(has, "entries 4 to 4 are not here") {
+				t.Errorf("it has\n%s", has)
+			}
+			if said, err := first.verify(nil); !errors.Is(err, ErrMissing) {
+				t.Errorf("%s%v", said, err)
+			}
+		})
+	}
+}
+
 // divideUntil does what divide does, up to a step.
 func (m *machine) divideUntil(step, snapshot, text string) {
 	m.Helper()
@@ -181,5 +244,85 @@ func (m *machine) divideUntil(step, snapshot, text string) {
 	}
 	if err != nil {
 		m.Fatal(err)
+	}
+}
+
+// halfDivided lays out a record as a division at an entry leaves it that is killed before its last step, and returns its last entry. Its
+// entries take several pages of SQLite.
+func halfDivided(t *testing.T, dir string, at int64) (last int64) {
+	t.Helper()
+	if err := os.Mkdir(dir, 0o700); err != nil {
+		t.Fatal(err)
+	}
+	if err := makeFile(dir, part{first: 1, why: beginning}, now(), "/dev/null"); err != nil {
+		t.Fatal(err)
+	}
+	db, err := openFile(filepath.Join(dir, fileName), "")
+	if err != nil {
+		t.Fatal(err)
+	}
+	e, _, err := lastOf(db)
+	if err != nil {
+		t.Fatal(err)
+	}
+	var head Head
+	var added []entry
+	for e.n < at+12 {
+		before := e.ch
+		e = entry{n: e.n + 1, at: now(), caller: "token:desk", reason: "why", request: fmt.Sprintf(`{"fn":"addUser","user":"u%d"}`, e.n), answer: accepted}
+		e.ch = chained(before, &e)
+		if added = append(added, e); e.n == at {
+			head = e.head()
+		}
+	}
+	if err := disk.Close(db, inTransaction(db, func(tx *sql.Tx) error { return insertAll(tx, added, "NORMAL") })); err != nil {
+		t.Fatal(err)
+	}
+	made, err := newNext(context.Background(), dir, joinedAt(head, ""), "", "/dev/null")
+	if err == nil {
+		_, err = made.putInPlace()
+	}
+	if err != nil {
+		t.Fatal(err)
+	}
+	return e.n
+}
+
+// A hookedBuffer does something before it is first written to.
+type hookedBuffer struct {
+	bytes.Buffer
+	before func()
+}
+
+func (b *hookedBuffer) Write(text []byte) (int, error) {
+	if b.before != nil {
+		b.before()
+		b.before = nil
+	}
+	return b.Buffer.Write(text)
+}
+
+// Somebody completes a killed division while the record is shown, and does not wait for the reader. Each entry is shown once.
+func TestShowKilledDivide(t *testing.T) {
+	for at := int64(360); at < 390; at += 4 {
+		data := t.TempDir()
+		last := halfDivided(t, DirIn(data), at)
+		out := &hookedBuffer{before: func() {
+			if err := tidyParts(DirIn(data)); err != nil {
+				t.Error(err)
+			}
+		}}
+		if err := (&Tool{Data: data, Out: out, Err: out}).Show(context.Background(), Filter{}, Text); err != nil {
+			t.Error(err)
+		}
+		n := int64(0)
+		for _, line := range strings.Split(strings.TrimSuffix(out.String(), "\n"), "\n") {
+			if n++; !strings.HasPrefix(line, fmt.Sprintf("%d\t", n)) {
+				t.Fatalf("divided at %d, it shows %.20q in place of entry %d", at, line, n)
+			}
+		}
+		if n != last {
+			t.Errorf("divided at %d, it shows %d entries of %d", at, n, last)
+		}
 	}
 }

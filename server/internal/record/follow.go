@@ -39,7 +39,7 @@ type Follower struct {
 	// prepared is the part that begins with the office as it was at Resume.
 	prepared part
 	// writing is held by whoever writes entries. checked is the last entry up to which the file was read again, and checking counts
-	// those who read what is before it.
+	// those who read what is before it, or complete a division.
 	writing  sync.Mutex
 	checked  entry
 	checking sync.WaitGroup
@@ -172,6 +172,9 @@ func (f *Follower) closeBefore(n int64) (has bool, err error) {
 		return true, err
 	}
 	defer release()
+	if err := tidyParts(f.dir); err != nil { // Later nobody would find out which entries are there twice.
+		return true, err
+	}
 	if err := mergeLog(f.path()); err != nil {
 		return true, err
 	}

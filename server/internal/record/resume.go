@@ -10,9 +10,6 @@ import (
 // openAt opens the record, which has to have a head, and expects that the entries after it come again. What is before the head was read
 // when the snapshot was made that has it. It is read again while the node goes on, so that a start takes no longer with a long record.
 func (f *Follower) openAt(ctx context.Context, head Head) error {
-	if err := tidyParts(f.dir); err != nil {
-		return err
-	}
 	if err := f.load(); err != nil {
 		return err
 	}
@@ -40,8 +37,9 @@ func (f *Follower) openAt(ctx context.Context, head Head) error {
 	}
 	f.added = last
 	f.begun = head.N > 0
-	f.checking.Add(1)
+	f.checking.Add(2)
 	go f.checkEarlier(f.checked)
+	go f.tidyLater()
 	return nil
 }
 

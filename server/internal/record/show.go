@@ -110,7 +110,7 @@ func (t *Tool) Show(ctx context.Context, filter Filter, format Format) error {
 	}
 	next := int64(1)
 	where, values := filter.where()
-	err = t.eachView(ctx, func(v *view) error {
+	err = t.eachWhole(ctx, func(v *view) error {
 		if v.parts[0].first > next && t.Part == "" {
 			fmt.Fprintln(t.Err, missing(next, v.parts[0]))
 		}

@@ -5,9 +5,12 @@ import (
 	"context"
 	"encoding/csv"
 	"encoding/json"
+	"errors"
+	"os"
 	"path/filepath"
 	"strings"
 	"testing"
+	"time"
 
 	"rbac-node/internal/state"
 )
@@ -57,6 +60,40 @@ func TestShowLetters(t *testing.T) {
 	const want = `{"fn":"addUser","user":"ä\u009b2J\u202eb\u2028c\u200d\udb40\udc01"}`
 	if err := tool.Show(context.Background(), Filter{Caller: "token:desk"}, Text); err != nil || !strings.Contains(out.String(), "\t"+want+"\t") {
 		t.Errorf("%v, %q", err, out)
+	}
+}
+
+// TestShowGap doesn't show a record in which an entry is missing between others as if it were whole.
+func TestShowGap(t *testing.T) {
+	b := open(t)
+	b.answered(addAnn, addRole, assign)
+	tool, out := b.tool()
+	change(t, filepath.Join(b.dir, fileName), "DELETE FROM entry WHERE n = 3")
+	if err := tool.Show(context.Background(), Filter{}, Text); !errors.Is(err, errGap) || !strings.Contains(err.Error(), "has 3 entries from 1 to 4") {
+		t.Errorf("%v, %s", err, out)
+	}
+}
+
+// TestWrittenUnlocked writes a file that is read without locks.
+func TestWrittenUnlocked(t *testing.T) {
+	b := open(t)
+	b.answered(addAnn)
+	b.tool()
+	path, before := filepath.Join(b.dir, fileName), time.Now().Add(-time.Hour)
+	if err := os.Chtimes(path, before, before); err != nil {
+		t.Fatal(err)
+	}
+	v, err := openUnlocked(context.Background(), path)
+	if err != nil {
+		t.Fatal(err)
+	}
+	defer v.Close()
+	if err := v.judgeStill(); err != nil {
+		t.Error(err)
+	}
+	change(t, path, "UPDATE entry SET reason = 'another one' WHERE n = 2")
+	if err := v.judgeStill(); err == nil || !strings.Contains(err.Error(), "was written while it was read") {
+		t.Error(err)
 	}
 }
 

@@ -196,19 +196,41 @@ func removeLeftNames(dir string) error {
 	return nil
 }
 
-// eachView does something with each file of the record, in the order of their entries.
+// eachView does something with each file of the record as it is now, in the order of their entries.
 func (t *Tool) eachView(ctx context.Context, do func(v *view) error) error {
+	return t.eachFile(ctx, func(path string) error { return withView(ctx, path, do) })
+}
+
+// eachFile does something with each file of the record, in the order of their entries. They stay as they are meanwhile.
+func (t *Tool) eachFile(ctx context.Context, do func(path string) error) error {
 	files, release, err := t.files(ctx)
 	if err != nil {
 		return err
 	}
 	defer release()
 	for _, path := range files {
-		if err := withView(ctx, path, do); err != nil {
+		if err := do(path); err != nil {
 			return err
 		}
 	}
 	return nil
+}
+
+// eachWhole is eachView for what doesn't follow the chain: the numbers of the entries of each file have to follow one another.
+func (t *Tool) eachWhole(ctx context.Context, do func(v *view) error) error {
+	whole := func(v *view) error {
+		if err := v.judgeWhole(ctx); err != nil {
+			return err
+		}
+		return do(v)
+	}
+	return t.eachFile(ctx, func(path string) error {
+		err := withView(ctx, path, whole)
+		if errors.Is(err, errGap) {
+			err = withView(ctx, path, whole) // Without locks somebody may have written it meanwhile.
+		}
+		return err
+	})
 }
 
 // PrintHead prints the head.
@@ -260,16 +282,12 @@ func (t *Tool) Cut(ctx context.Context) error {
 		return err
 	}
 	closed := ""
-	err = r.withCopy(ctx, r.Office, func(copied, rows string) error {
+	err = r.withCopy(ctx, r.Office, func(copied, rows string) (err error) {
 		if err := r.db.Close(); err != nil {
 			return err
 		}
 		p := part{first: r.head.n + 1, why: continued, before: r.head.ch, rows: rows}
-		next, err := newNext(ctx, r.dir, p, now(), copied)
-		if err == nil {
-			closed, err = next.putInPlace()
-		}
-		if err != nil {
+		if closed, err = cutAt(ctx, r.dir, p, now(), copied); err != nil {
 			return err
 		}
 		return addBase(r.dir, copied, base{p.first, rows})

@@ -21,6 +21,8 @@ type view struct {
 	// parts are those of the file, at least one. answered is the last entry with an answer, and last the last one.
 	parts          []part
 	answered, last entry
+	// before is what the file was before it was opened, if it is read without locks.
+	before os.FileInfo
 }
 
 // openView opens a file as it is now.
@@ -30,14 +32,50 @@ func openView(ctx context.Context, path string) (*view, error) {
 	}
 	v, err := openViewBy(ctx, path, readingOf(path)+"&_busy_timeout="+busy)
 	if err != nil && (strings.Contains(err.Error(), "unable to open") || strings.Contains(err.Error(), "readonly database")) {
-		// A file beside which SQLite can't make its own, as in a backup that can't be written, isn't written by others either. Opened
-		// in this way it is read without its log.
+		// Beside this file SQLite can't make its own, as in a backup that can't be written. Mostly nobody else can write it then.
 		if log, logErr := os.Stat(path + walSuffix); logErr == nil && log.Size() > 0 {
 			return nil, fmt.Errorf("%s: it has a log, which can't be read in a folder that can't be written: copy the folder", path)
 		}
-		v, err = openViewBy(ctx, path, "mode=ro&immutable=1")
+		v, err = openUnlocked(ctx, path)
 	}
 	return v, err
+}
+
+// openUnlocked opens a file without locks, and without its log.
+func openUnlocked(ctx context.Context, path string) (*view, error) {
+	before, err := os.Stat(path)
+	if err != nil {
+		return nil, err
+	}
+	v, err := openViewBy(ctx, path, "mode=ro&immutable=1")
+	if err == nil {
+		v.before = before
+	}
+	return v, err
+}
+
+// judgeStill refuses a file that somebody has written while it was read without locks: what was read may never have been its state.
+func (v *view) judgeStill() error {
+	if v.before == nil {
+		return nil
+	}
+	after, err := os.Stat(v.path)
+	if err == nil && (after.Size() != v.before.Size() || !after.ModTime().Equal(v.before.ModTime())) {
+		err = fmt.Errorf("%s was written while it was read: try again", v.path)
+	}
+	return err
+}
+
+var errGap = errors.New("their numbers don't follow one another")
+
+// judgeWhole refuses a file whose entries don't have each number from its first part on.
+func (v *view) judgeWhole(ctx context.Context) error {
+	var count int64
+	err := v.tx.QueryRowContext(ctx, "SELECT count(*) FROM entry").Scan(&count)
+	if first := v.parts[0].first; err == nil && count != v.last.n-first+1 {
+		err = fmt.Errorf("%s has %d entries from %d to %d: %w", v.path, count, first, v.last.n, errGap)
+	}
+	return err
 }
 
 // readingOf returns how a file is opened that isn't written. SQLite makes two files beside it. Unless the log has something, they are
@@ -136,7 +174,10 @@ func withView(ctx context.Context, path string, do func(v *view) error) error {
 		return err
 	}
 	defer v.Close()
-	return do(v)
+	if err := do(v); err != nil {
+		return err
+	}
+	return v.judgeStill()
 }
 
 // begin returns what the first part says of the entry before it.
