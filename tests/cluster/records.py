@@ -177,28 +177,33 @@ class Asker:
             {"fn": "deleteSession", "user": user, "session": session},
         ])  # fmt: skip
 
+    def send(self, line):
+        """Sends a command to any node, as any caller, for a reason of its own. Whether it is answered."""
+        self.number += 1
+        caller, reason = self.random.choice(sorted(CALLERS)), f"ticket {self.number} \u00e9"
+        fields = {**bearer(CALLERS[caller]), "Office-Reason": reason.encode()}
+        address = self.cluster.network.address(self.random.randrange(MACHINES), 8080)
+        connection = http.client.HTTPConnection(address, timeout=10)
+        body = json.dumps({key: value for key, value in line.items() if key != "fn"})
+        try:
+            connection.request("POST", f"/v1/{line['fn']}", body, fields)
+            reply = connection.getresponse()
+            text = reply.read().decode()
+        except (OSError, http.client.HTTPException):
+            return False  # It may be done or not.
+        finally:
+            connection.close()
+        if reply.status in (200, 409):
+            self.answered.append((f"token:{caller}", reason, recorded_text(json.dumps(line)), text))
+        return reply.status in (200, 409)
+
     def ask(self, count):
-        """Sends commands until this many are answered."""
+        """Sends random commands until this many are answered."""
         wanted, deadline = len(self.answered) + count, time.monotonic() + 5 * SECONDS
         while len(self.answered) < wanted:
             if time.monotonic() > deadline:
                 raise TimeoutError(f"{count} commands are not answered")
-            self.number += 1
-            line, caller, reason = self.drawn(), self.random.choice(sorted(CALLERS)), f"ticket {self.number} \u00e9"
-            fields = {**bearer(CALLERS[caller]), "Office-Reason": reason.encode()}
-            address = self.cluster.network.address(self.random.randrange(MACHINES), 8080)
-            connection = http.client.HTTPConnection(address, timeout=10)
-            body = json.dumps({key: value for key, value in line.items() if key != "fn"})
-            try:
-                connection.request("POST", f"/v1/{line['fn']}", body, fields)
-                reply = connection.getresponse()
-                text = reply.read().decode()
-                if reply.status in (200, 409):
-                    self.answered.append((f"token:{caller}", reason, recorded_text(json.dumps(line)), text))
-            except (OSError, http.client.HTTPException):
-                pass  # It may be done or not.
-            finally:
-                connection.close()
+            self.send(self.drawn())
 
 
 def same_head(cluster):
@@ -229,7 +234,7 @@ def check_records(bench, seed, node=None):
         judge_backup(bench, cluster, asker)
         judge_joined(bench, cluster, asker)
         judge_written(bench, cluster, asker)
-        judge_secret(bench, cluster)
+        judge_secret(bench, cluster, asker)
 
 
 def end_of(name):
@@ -438,8 +443,12 @@ def judge_written(bench, cluster, asker):
     cluster.until(lambda: same_head(cluster), "all have the same head")
 
 
-def judge_secret(bench, cluster):
+def judge_secret(bench, cluster, asker):
     """No name of a session is in a record, in what a node logs, or in what a command about a record says."""
+    # Random commands may have deleted all sessions: here is one again, whoever has it.
+    for line in {"fn": "addUser", "user": "a"}, {"fn": "createSession", "user": "a", "roles": [], "session": SECRETS[0]}:
+        cluster.until(lambda line=line: asker.send(line), f"{line} is answered")
+    cluster.until(lambda: same_head(cluster), "all have the same head")
     for i in range(MACHINES):
         data = cluster.data(f"node{i}")
         said = "".join(str(tool(cluster.node, *words, "--data", data)) for words in (["show"], ["verify"], ["head"]))
