@@ -26,6 +26,9 @@ SORTS = r"(?P<sort>fn|trait|impl|struct|enum)\b(?:<.*?>+)? (?P<name>\w*)"
 ITEM = re.compile(r"(?P<pub>pub )?(?:pub\(\w+\) )?(?:ghost |const |unsafe |extern \"C\" )*" + SORTS)
 FUNCTION = re.compile(r" *(?P<pub>pub )?(?:pub\(\w+\) )?(?:ghost |const |unsafe |extern \"C\" )*fn \w")
 
+# What an item has for itself: its imports, and the invariant of a type.
+INSIDE = re.compile(r"^ *ghost (?:use|invariant)\b.*?;\n", re.M | re.S)
+
 # What a source exports to other crates: modules, and names out of modules.
 OPENS = re.compile(r"^pub mod (\w+);", re.M)
 GIVES = re.compile(r"^pub use [\w:]+::(\{[^}]*\}|\w+);", re.M)
@@ -152,8 +155,9 @@ def named_by_contracts():
 
 
 def named_by(item):
-    """The places that the public contracts in an item name."""
-    return places_in("\n".join(contracts(item)), *uses_of(item.text))
+    """The places that the public contracts in an item name, without invariants: a wrong one can't weaken a contract, since each
+    function that makes a value has to meet it."""
+    return places_in(INSIDE.sub("", "\n".join([*contracts(item), ""])), *uses_of(item.text))
 
 
 def reached(places, named=None):

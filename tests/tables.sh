@@ -4,7 +4,7 @@
 # tables.sh [-- WORD]      with WORD, only the tests that have it in their names
 
 folder=tables
-crates='rbac_sets role_order order_matrix admin_mgr review_mgr role_tables'
+crates='bit_rows short_text rbac_sets chunked_sets reach_bits role_order order_matrix admin_mgr review_mgr role_tables'
 libraries='sqlite sqlite_disk'
 readers='office/answers office/asking office/beginnings office/script office/showing office/drawn/drawing'
 . "$(dirname "$0")/crate_tests"

@@ -5,7 +5,7 @@
 # wire.sh [-- WORD]      with WORD, only the tests that have it in their names
 
 folder=wire
-crates='bit_rows bit_tables rbac_sets role_order order_matrix admin_mgr review_mgr access_index role_tables role_functions role_csv role_json role_lines role_http role_wire
+crates='bit_rows bit_tables short_text rbac_sets chunked_sets reach_bits role_order order_matrix admin_mgr review_mgr access_index role_tables role_functions role_csv role_json role_lines role_http role_wire
     role_cli'
 libraries='sqlite sqlite_disk http'
 readers='office/answers office/asking office/beginnings office/narrow office/script office/showing tables/files

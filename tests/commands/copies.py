@@ -166,7 +166,7 @@ def check_definition(bench, copy):
         ),
         (
             "a crate that uses another library",
-            lambda copy: copy.change("crates.txt", "^rbac_sets: thiserror$", "rbac_sets: thiserror itoa"),
+            lambda copy: copy.change("crates.txt", "^rbac_sets: short_text thiserror$", "rbac_sets: short_text thiserror itoa"),
             1,
         ),
         ("a file of which only the time differs", lambda copy: (copy.folder / "crates/rbac/src/main.rt").touch(), 0),

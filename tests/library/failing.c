@@ -229,10 +229,12 @@ static long try_load(void)
                 CHECK(code == (count == 1 ? RBAC_DONE : RBAC_ABSENT));
                 if (code == RBAC_ABSENT)
                     break;
-                CHECK(rbac_add_row(&other, table, names, row.first, names + row.first, row.second,
-                          names + row.first + row.second, row.third, row.number) == RBAC_MEMORY);
+                code = rbac_add_row(&other, table, names, row.first, names + row.first, row.second,
+                    names + row.first + row.second, row.third, row.number);
+                /* A row of short names needs a block only if its set has no room. */
+                CHECK(code == RBAC_MEMORY || (code == RBAC_DONE && left == 0));
                 left = -1;
-                CHECK(rbac_add_row(&other, table, names, row.first, names + row.first, row.second,
+                CHECK(code == RBAC_DONE || rbac_add_row(&other, table, names, row.first, names + row.first, row.second,
                           names + row.first + row.second, row.third, row.number) == RBAC_DONE);
             }
         left = more;

@@ -20,5 +20,4 @@ pub mod SetCommandTurns
 pub mod SetRows
 pub mod StepLaws
 pub mod RemovalPlans
-pub mod RemovedTogether
 pub mod TurnLaws

@@ -14,6 +14,7 @@ use crate::relations::Relations;
 use crate::separation_of_duty::SeparationOfDuty;
 use crate::separation_of_duty::by_name::is_reached;
 use crate::separation_of_duty::by_number::{all_runs, keep_all, run_numbers};
+use chunked_sets::Run;
 use order_matrix::OrderMatrix;
 use rbac_sets::{CountSet, Name, PairSet, Refusal};
 use role_order::RoleOrder;
@@ -73,9 +74,7 @@ fn has_cardinalities(members: &PairSet, cardinalities: &CountSet) -> bool
 fn have_authorized_users(relations: &Relations) -> bool
     ensures { result ≡ have_authorized_users relations.now.facts }
 {
-    relations.sessions().as_slice().iter().all(|session| is_authorized_in(
-        relations, &session.0, &session.1,
-    ))
+    relations.sessions().iter().all(|session| is_authorized_in(relations, &session.0, &session.1))
 }
 
 // Whether the user is authorized for each role that was activated in the session.
@@ -84,11 +83,15 @@ fn is_authorized_in(relations: &Relations, session: &Name, user: &Name) -> bool
 {
     let held = relations.assignments().with_first(user);
     let active = relations.active().with_first(session);
-    are_reached(relations.order(), held, active)
+    are_reached(relations.order(), &held, &active)
 }
 
 // Whether the holder has the role of each of the pairs.
-fn are_reached(order: &RoleOrder, held: &[(Name, Name)], pairs: &[(Name, Name)]) -> bool
+fn are_reached(
+    order: &RoleOrder,
+    held: &Run<'_, (Name, Name)>,
+    pairs: &Run<'_, (Name, Name)>,
+) -> bool
     ensures { result ≡ list_all (λ (pair : Pair). is_reached order.now.edges held.now pair.1) pairs.now }
 {
     pairs.iter().all(|pair| is_reached(order, held, &pair.1))
@@ -99,7 +102,7 @@ fn are_kept(
     alloc: Global,
     relations: &Relations,
     duty: SeparationOfDuty,
-    table: &OrderMatrix,
+    table: &OrderMatrix<'_>,
 ) -> Result<bool, Refusal>
     requires there { IsTrue (are_roles_there relations.now.facts) }
     requires table { table.now ≡ table_of relations.now.facts.edges (members relations.now.facts.roles) }
@@ -122,7 +125,6 @@ fn have_unlocked_users(relations: &Relations) -> bool
 {
     relations
         .sessions()
-        .as_slice()
         .iter()
         .all(|session| !relations.locked().contains(&session.1))
 }

@@ -6,7 +6,8 @@ ghost use Rattle.rbac_sets.specs.Sets.{Pair, Cardinality, name_cmp, pair_cmp, ca
 ghost use Rattle.rbac_sets.specs.SortedSet.{set_of};
 ghost use Rattle.admin_mgr.specs.private.CheckTests.{are_firsts_in, are_seconds_in};
 
-use rbac_sets::{CountSet, Name, NameSet, PairSet, is_same};
+use chunked_sets::EntrySet;
+use rbac_sets::{CountSet, Name, NameSet, is_same};
 
 // Whether a pair begins or ends with this name.
 pub(crate) fn has_part(pairs: &[(Name, Name)], name: &Name) -> bool
@@ -19,33 +20,39 @@ pub(crate) fn has_part(pairs: &[(Name, Name)], name: &Name) -> bool
 
 // Whether each pair begins with one of the names.
 #[tactic(auto, unfolding(rbac_sets::specs::Sets::all))]
-pub(crate) fn are_firsts_in(names: &NameSet, pairs: &PairSet) -> bool
-    ensures { result ≡ are_firsts_in (set_of name_cmp names.now) (set_of pair_cmp pairs.now) }
+pub(crate) fn are_firsts_in<N: EntrySet<Name>, P: EntrySet<(Name, Name)>>(
+    names: &N,
+    pairs: &P,
+) -> bool
+    ensures { result ≡ are_firsts_in (set_of name_cmp (N.stored names.now)) (set_of pair_cmp (P.stored pairs.now)) }
 {
-    pairs.as_slice().iter().all(|pair| names.contains(&pair.0))
+    pairs.entries().iter().all(|pair| names.has(&pair.0))
 }
 
 // Whether each pair ends with one of the names.
 #[tactic(auto, unfolding(rbac_sets::specs::Sets::all))]
-pub(crate) fn are_seconds_in(names: &NameSet, pairs: &PairSet) -> bool
-    ensures { result ≡ are_seconds_in (set_of name_cmp names.now) (set_of pair_cmp pairs.now) }
+pub(crate) fn are_seconds_in<N: EntrySet<Name>, P: EntrySet<(Name, Name)>>(
+    names: &N,
+    pairs: &P,
+) -> bool
+    ensures { result ≡ are_seconds_in (set_of name_cmp (N.stored names.now)) (set_of pair_cmp (P.stored pairs.now)) }
 {
-    pairs.as_slice().iter().all(|pair| names.contains(&pair.1))
+    pairs.entries().iter().all(|pair| names.has(&pair.1))
 }
 
 // Whether each of the names is one of the others.
 #[tactic(auto, unfolding(rbac_sets::specs::Sets::all))]
-pub(crate) fn are_among(names: &NameSet, others: &NameSet) -> bool
-    ensures { result ≡ all (contains (set_of name_cmp others.now)) (set_of name_cmp names.now) }
+pub(crate) fn are_among<N: EntrySet<Name>>(names: &NameSet, others: &N) -> bool
+    ensures { result ≡ all (contains (set_of name_cmp (N.stored others.now))) (set_of name_cmp names.now) }
 {
     are_in(names.as_slice(), others)
 }
 
 // Whether each of the names is in the set.
-pub(crate) fn are_in(names: &[Name], set: &NameSet) -> bool
-    ensures { result ≡ list_all (contains (set_of name_cmp set.now)) names.now }
+pub(crate) fn are_in<N: EntrySet<Name>>(names: &[Name], set: &N) -> bool
+    ensures { result ≡ list_all (contains (set_of name_cmp (N.stored set.now))) names.now }
 {
-    names.iter().all(|name| set.contains(name))
+    names.iter().all(|name| set.has(name))
 }
 
 // The number that is paired with the name, if there is one.

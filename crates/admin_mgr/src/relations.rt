@@ -4,12 +4,12 @@ ghost use Rattle.rbac_sets.specs.Sets.{name_cmp, pair_cmp, triple_cmp, cardinali
 ghost use Rattle.rbac_sets.specs.SortedSet.{set_of};
 ghost use Rattle.admin_mgr.specs.RbacState.{empty_state};
 
-use rbac_sets::{CountSet, GrantSet, NameSet, PairSet};
+use chunked_sets::{ChunkedGrants, ChunkedNames, ChunkedPairs};
+use rbac_sets::{CountSet, NameSet, PairSet};
 use role_order::RoleOrder;
 use std::alloc::Global;
 use std::marker::Model;
 
-mod bulk_removal;
 mod changing;
 pub(crate) mod gathered;
 
@@ -20,16 +20,16 @@ pub(crate) mod gathered;
 #[derive(Drop)]
 pub(crate) struct Relations {
     version: u32,
-    users: NameSet,
+    users: ChunkedNames,
     locked: NameSet,
     roles: NameSet,
-    objects: NameSet,
-    permissions: PairSet,
-    assignments: PairSet,
-    grants: GrantSet,
+    objects: ChunkedNames,
+    permissions: ChunkedPairs,
+    assignments: ChunkedPairs,
+    grants: ChunkedGrants,
     order: RoleOrder,
-    sessions: PairSet,
-    active: PairSet,
+    sessions: ChunkedPairs,
+    active: ChunkedPairs,
     ssd_members: PairSet,
     ssd_cardinalities: CountSet,
     dsd_members: PairSet,
@@ -55,16 +55,16 @@ impl Relations {
     {
         Relations {
             version,
-            users: NameSet::new(alloc),
+            users: ChunkedNames::new(alloc),
             locked: NameSet::new(alloc),
             roles: NameSet::new(alloc),
-            objects: NameSet::new(alloc),
-            permissions: PairSet::new(alloc),
-            assignments: PairSet::new(alloc),
-            grants: GrantSet::new(alloc),
+            objects: ChunkedNames::new(alloc),
+            permissions: ChunkedPairs::new(alloc),
+            assignments: ChunkedPairs::new(alloc),
+            grants: ChunkedGrants::new(alloc),
             order: RoleOrder::new(alloc),
-            sessions: PairSet::new(alloc),
-            active: PairSet::new(alloc),
+            sessions: ChunkedPairs::new(alloc),
+            active: ChunkedPairs::new(alloc),
             ssd_members: PairSet::new(alloc),
             ssd_cardinalities: CountSet::new(alloc),
             dsd_members: PairSet::new(alloc),
@@ -86,7 +86,7 @@ impl Relations {
         self.version
     }
 
-    pub(crate) fn users(&self) -> &NameSet
+    pub(crate) fn users(&self) -> &ChunkedNames
         ensures { set_of name_cmp result.now ≡ self.now.facts.users }
     {
         &self.users
@@ -104,37 +104,37 @@ impl Relations {
         &self.roles
     }
 
-    pub(crate) fn objects(&self) -> &NameSet
+    pub(crate) fn objects(&self) -> &ChunkedNames
         ensures { set_of name_cmp result.now ≡ self.now.facts.objects }
     {
         &self.objects
     }
 
-    pub(crate) fn permissions(&self) -> &PairSet
+    pub(crate) fn permissions(&self) -> &ChunkedPairs
         ensures { set_of pair_cmp result.now ≡ self.now.facts.permissions }
     {
         &self.permissions
     }
 
-    pub(crate) fn assignments(&self) -> &PairSet
+    pub(crate) fn assignments(&self) -> &ChunkedPairs
         ensures { set_of pair_cmp result.now ≡ self.now.facts.assignments }
     {
         &self.assignments
     }
 
-    pub(crate) fn grants(&self) -> &GrantSet
+    pub(crate) fn grants(&self) -> &ChunkedGrants
         ensures { set_of triple_cmp result.now ≡ self.now.facts.grants }
     {
         &self.grants
     }
 
-    pub(crate) fn sessions(&self) -> &PairSet
+    pub(crate) fn sessions(&self) -> &ChunkedPairs
         ensures { set_of pair_cmp result.now ≡ self.now.facts.sessions }
     {
         &self.sessions
     }
 
-    pub(crate) fn active(&self) -> &PairSet
+    pub(crate) fn active(&self) -> &ChunkedPairs
         ensures { set_of pair_cmp result.now ≡ self.now.facts.active }
     {
         &self.active

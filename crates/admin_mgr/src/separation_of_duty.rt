@@ -7,7 +7,7 @@ ghost use Rattle.admin_mgr.specs.RbacState.{cardinality_of};
 ghost use Rattle.admin_mgr.specs.private.SeparationOfDuty.{cardinality_rows, kind_of, member_rows, refusal_of, sets_of};
 
 use crate::relations::Relations;
-use crate::separation_of_duty::holders::Runs;
+use crate::separation_of_duty::holders::{Holders, Runs};
 use crate::state::State;
 use rbac_sets::{CountSet, Kind, Name, PairSet, Refusal, Row};
 
@@ -117,12 +117,14 @@ impl SeparationOfDuty {
         ensures { runs_left result ≡ runs_of self relations.now.facts }
     {
         match self {
-            SeparationOfDuty::Static => {
-                Runs::OfUsers(relations.users().as_slice(), relations.assignments())
-            }
-            SeparationOfDuty::Dynamic => {
-                Runs::OfSessions(relations.sessions().as_slice(), relations.active())
-            }
+            SeparationOfDuty::Static => Runs {
+                holders: Holders::Users(relations.users().iter()),
+                pairs: relations.assignments(),
+            },
+            SeparationOfDuty::Dynamic => Runs {
+                holders: Holders::Sessions(relations.sessions().iter()),
+                pairs: relations.active(),
+            },
         }
     }
 }

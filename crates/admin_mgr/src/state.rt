@@ -14,7 +14,8 @@ use crate::lookup::number_of;
 use crate::plan::{Plan, Report};
 use crate::relations::Relations;
 use crate::relations::gathered::StoredSets;
-use rbac_sets::{CountSet, GrantSet, Name, NameSet, PairSet, Refusal, Row};
+use chunked_sets::{ChunkedGrants, ChunkedNames, ChunkedPairs};
+use rbac_sets::{CountSet, Name, NameSet, PairSet, Refusal, Row};
 use role_order::RoleOrder;
 use std::alloc::Global;
 use std::marker::Model;
@@ -144,7 +145,7 @@ impl State {
     }
 
     /// USERS.
-    pub fn users(&self) -> &NameSet
+    pub fn users(&self) -> &ChunkedNames
         ensures { set_of name_cmp result.now ≡ self.now.facts.users }
     {
         self.relations.users()
@@ -165,35 +166,35 @@ impl State {
     }
 
     /// OBS, the objects.
-    pub fn objects(&self) -> &NameSet
+    pub fn objects(&self) -> &ChunkedNames
         ensures { set_of name_cmp result.now ≡ self.now.facts.objects }
     {
         self.relations.objects()
     }
 
     /// PRMS, the permissions, as pairs (object, operation).
-    pub fn permissions(&self) -> &PairSet
+    pub fn permissions(&self) -> &ChunkedPairs
         ensures { set_of pair_cmp result.now ≡ self.now.facts.permissions }
     {
         self.relations.permissions()
     }
 
     /// UA, the user assignments, as pairs (user, role).
-    pub fn assignments(&self) -> &PairSet
+    pub fn assignments(&self) -> &ChunkedPairs
         ensures { set_of pair_cmp result.now ≡ self.now.facts.assignments }
     {
         self.relations.assignments()
     }
 
     /// PA, the permission assignments, as triples (object, operation, role).
-    pub fn grants(&self) -> &GrantSet
+    pub fn grants(&self) -> &ChunkedGrants
         ensures { set_of triple_cmp result.now ≡ self.now.facts.grants }
     {
         self.relations.grants()
     }
 
     /// SESSIONS with the user of each, as pairs (session, user).
-    pub fn sessions(&self) -> &PairSet
+    pub fn sessions(&self) -> &ChunkedPairs
         ensures { set_of pair_cmp result.now ≡ self.now.facts.sessions }
     {
         self.relations.sessions()
@@ -201,7 +202,7 @@ impl State {
 
     /// The roles that were activated in the sessions, as pairs (session, role). `session_roles` of the
     /// standard has the juniors of these too.
-    pub fn active(&self) -> &PairSet
+    pub fn active(&self) -> &ChunkedPairs
         ensures { set_of pair_cmp result.now ≡ self.now.facts.active }
     {
         self.relations.active()
@@ -286,8 +287,8 @@ impl State {
     /// and each system function on sessions does to the sets and relations once it is accepted.
     ///
     /// `plan` has to lead from this state to a good one, as a plan that `State::plan` made of this state
-    /// does, and the state is that one afterwards. Returns the plan's report. It doesn't allocate and can't
-    /// fail.
+    /// does, and the state is that one afterwards. Returns the plan's report. Room that is left over in the
+    /// sets that are kept in chunks is given back. It doesn't allocate and can't fail.
     pub fn commit(&mut self, plan: Plan) -> Report
         requires planned { (T : RbacState) × LeadsTo self.old.facts plan T }
         requires room { HasRoomFor self.old plan }

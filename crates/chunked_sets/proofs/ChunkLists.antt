@@ -8,7 +8,8 @@ use Rattle.std.specs.declared.cmp.Ordering.{Ordering}
 use Rattle.std.specs.declared.cmp.Ordering.TheVariants.{Less}
 use Rattle.std.proofs.lemmas.List.{take-append-drop}
 use Rattle.std.proofs.lemmas.List.Concat.{flat_map-append}
-use Rattle.chunked_sets.specs.Chunks.{entries_of, AreChunks}
+use Rattle.chunked_sets.specs.Chunks.{entries_of}
+use Rattle.chunked_sets.specs.private.Chunks.{AreChunks}
 
 -- ---- what holds of each item
 

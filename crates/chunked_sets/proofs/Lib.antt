@@ -1,5 +1,6 @@
 pub mod Appending
 pub mod ChunkLists
+pub mod Emptiness
 pub mod Homes
 pub mod Inserting
 pub mod Merges
@@ -7,5 +8,6 @@ pub mod Omitting
 pub mod Parts
 pub mod Passing
 pub mod Sets
+pub mod Skipping
 pub mod Splitting
 pub mod Taking

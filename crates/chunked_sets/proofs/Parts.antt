@@ -3,15 +3,18 @@ use Rattle.std.proofs.Common.{◌≡◌, ℕ, suc, ◌+◌, ◌<◌, ◌≤◌, 
 use Rattle.std.specs.List.{AllByRecursion, All}
 use Rattle.std.specs.Vec.{vec_len}
 use Rattle.std.specs.declared.vec.Vec.{Vec}
-use Rattle.std.specs.List.Sorted.{IsStrictlySortedBy, IsPartitionPoint}
+use Rattle.std.specs.List.Sorted.{IsNonDecreasingBy, IsPartitionPoint, IsPartitionedBy, IsStrictlySortedBy}
 use Rattle.std.specs.declared.cmp.Ordering.{Ordering}
 use Rattle.std.specs.declared.cmp.Ordering.TheVariants.{Less, Equal, Greater}
 use Rattle.std.specs.Ordering.{is_eq, is_lt, is_le, ordering_index}
-use Rattle.std.proofs.lemmas.List.{append-nil}
+use Rattle.std.proofs.lemmas.List.{append-nil, length-take-le, take-append-drop}
+use Rattle.std.specs.Prelude.{count_by}
+use Rattle.std.proofs.lemmas.List.Sums.{length-filter}
 use Rattle.std.proofs.lemmas.List.Folds.{length-flat_map-take}
 use Rattle.std.proofs.lemmas.List.Elements.{filter-append}
 use Rattle.rbac_sets.proofs.InOrder.{all_map, all_take, all_drop}
-use Rattle.chunked_sets.specs.Chunks.{entries_of, AreChunks}
+use Rattle.chunked_sets.specs.Chunks.{entries_of}
+use Rattle.chunked_sets.specs.private.Chunks.{AreChunks}
 use Rattle.chunked_sets.specs.private.Places.{first_passes}
 use Rattle.chunked_sets.proofs.ChunkLists.{each_of, all_of, each_left, each_right, each_take, each_drop}
 use Rattle.chunked_sets.proofs.ChunkLists.{sorted_left, sorted_right, sorted_before, sorted_first, entries_join, entries_parts, filled_of}
@@ -33,6 +36,21 @@ lt_index : (a : Ordering) → is_lt a ≡ true → ordering_index a ≡ 0
 lt_index Less e = refl
 lt_index Equal e = cc
 lt_index Greater e = cc
+
+index_lt : (a : Ordering) → ordering_index a ≤ 0 → is_lt a ≡ true
+index_lt Less le = refl
+index_lt Equal le = absurd (omega arith)
+index_lt Greater le = absurd (omega arith)
+
+not_lt_index : (a : Ordering) → is_lt a ≡ false → 1 ≤ ordering_index a
+not_lt_index Less e = cc
+not_lt_index Equal e = omega arith
+not_lt_index Greater e = omega arith
+
+high_not_lt : (a : Ordering) → 1 ≤ ordering_index a → is_lt a ≡ false
+high_not_lt Less low = absurd (omega arith)
+high_not_lt Equal low = refl
+high_not_lt Greater low = refl
 
 low_not_eq : (a : Ordering) → ordering_index a ≤ 0 → is_eq a ≡ false
 low_not_eq Less le = refl
@@ -75,12 +93,7 @@ module _ {K : Type 0} (R : K → K → Ordering) (f : K → Ordering) (rises : (
   index y = ordering_index (f y)
 
   pub lt_falls : (y z : K) → R y z ≡ Less → is_lt (f z) ≡ true → is_lt (f y) ≡ true
-  lt_falls y z less lt = from (f y) (omega (arith, rises y z less, lt_index (f z) lt))
-    where
-      from : (a : Ordering) → ordering_index a ≤ 0 → is_lt a ≡ true
-      from Less le = refl
-      from Equal le = absurd (omega arith)
-      from Greater le = absurd (omega arith)
+  lt_falls y z less lt = index_lt (f y) (omega (arith, rises y z less, lt_index (f z) lt))
 
   pub le_falls_too : (y z : K) → R y z ≡ Less → is_le (f z) ≡ true → is_le (f y) ≡ true
   le_falls_too y z less le = from (f y) (f z) (rises y z less) le
@@ -102,6 +115,9 @@ module _ {K : Type 0} (R : K → K → Ordering) (f : K → Ordering) (rises : (
   abbrev pub passes : List K → List K
   passes = filter (λ y. is_eq (f y))
 
+  abbrev pub lows : List K → List K
+  lows = filter (λ y. is_lt (f y))
+
   module _ {Z : Type 0} where
     last_items : (others : List (Vec K Z)) (last : Vec K Z) → entries_of (others ++ last ∷ []) ≡ entries_of others ++ last.items
     last_items others last = entries_join others (last ∷ []) ∙ ap (λ l. entries_of others ++ l) (append-nil last.items)
@@ -118,6 +134,32 @@ module _ {K : Type 0} (R : K → K → Ordering) (f : K → Ordering) (rises : (
         from (z ∷ items) t e =
             filter_none (λ y. is_eq (f y)) (entries_of others) (all_map (λ y. index y ≤ 0) (λ y. is_eq (f y) ≡ false) (λ y le. low_not_eq (f y) le) (entries_of others)
             (up_to 0 (entries_of others) items z t (omega (arith, lt_index (f z) e))))
+
+    -- in chunks that begin below, all are below but some of the last one
+    pub lows_last : (chunks others : List (Vec K Z)) (last : Vec K Z) → chunks ≡ others ++ last ∷ [] → IsStrictlySortedBy R (entries_of chunks) → first_passes (λ y. is_lt (f y)) last.items ≡ true
+        → entries_of others ++ lows last.items ≡ lows (entries_of chunks)
+    lows_last chunks others last is s lt =
+        let whole = ap entries_of is ∙ last_items others last in
+        sym (ap lows whole ∙ filter-append (λ y. is_lt (f y)) (entries_of others) last.items ∙ ap (λ l. l ++ lows last.items) (from last.items (subst (IsStrictlySortedBy R) whole s) lt))
+      where
+        from : (items : List K) → IsStrictlySortedBy R (entries_of others ++ items) → first_passes (λ y. is_lt (f y)) items ≡ true → lows (entries_of others) ≡ entries_of others
+        from [] t e = cc
+        from (z ∷ items) t e =
+            filter_each (λ y. is_lt (f y)) (entries_of others) (all_map (λ y. index y ≤ 0) (λ y. is_lt (f y) ≡ true) (λ y le. index_lt (f y) le) (entries_of others)
+            (up_to 0 (entries_of others) items z t (omega (arith, lt_index (f z) e))))
+
+    -- from a chunk on that doesn't begin below, none is
+    pub lows_none : (chunks : List (Vec K Z)) → AllByRecursion (λ (chunk : Vec K Z). 0 < length chunk.items) chunks → AllByRecursion
+        (λ (chunk : Vec K Z). first_passes (λ y. is_lt (f y)) chunk.items ≡ false) chunks
+        → IsStrictlySortedBy R (entries_of chunks) → lows (entries_of chunks) ≡ []
+    lows_none [] filled begin s = refl
+    lows_none (c ∷ cs) filled begin s = from c.items filled.0 begin.0 s
+      where
+        from : (items : List K) → 0 < length items → first_passes (λ y. is_lt (f y)) items ≡ false → IsStrictlySortedBy R (items ++ entries_of cs) → lows (items ++ entries_of cs) ≡ []
+        from [] some e t = absurd (omega arith)
+        from (z ∷ items) some e t =
+            filter_none (λ y. is_lt (f y)) (z ∷ (items ++ entries_of cs)) (all_map (λ y. 1 ≤ index y) (λ y. is_lt (f y) ≡ false) (λ y le. high_not_lt (f y) le) (z ∷ (items ++ entries_of cs))
+            (down_to 1 (items ++ entries_of cs) z t (omega (arith, not_lt_index (f z) e))))
 
     -- in chunks that begin with one that passes, none is below
     none_below : (chunks : List (Vec K Z)) → AllByRecursion (λ (chunk : Vec K Z). first_passes (λ y. is_eq (f y)) chunk.items ≡ true) chunks → IsStrictlySortedBy R (entries_of chunks)
@@ -225,6 +267,72 @@ module _ {K Z : Type 0} (R : K → K → Ordering) (f : K → Ordering) (rises :
             ∙ ap (λ l. filter p (entries_of (take after chunks)) ++ l) (sym equal_passes ∙ ap (λ l. filter p (entries_of l)) rest_is)
             ∙ sym (filter-append p (entries_of (take after chunks)) (entries_of (drop after chunks))) ∙ ap (filter p) (sym (entries_parts after chunks));
       }
+
+-- the chunks that begin below: all entries that are below are in them
+pub record Lows {K Z : Type 0} (R : K → K → Ordering) (f : K → Ordering) (chunks low : List (Vec K Z)) : Type 0 where
+  pub sorted : IsStrictlySortedBy R (entries_of low)
+  pub below : All (λ (chunk : Vec K Z). first_passes (λ y. is_lt (f y)) chunk.items ≡ true) low
+  pub whole : filter (λ y. is_lt (f y)) (entries_of low) ≡ filter (λ y. is_lt (f y)) (entries_of chunks)
+
+pub begin_below : {K Z : Type 0} (R : K → K → Ordering) (f : K → Ordering) → ((x y : K) → R x y ≡ Less → ordering_index (f x) ≤ ordering_index (f y)) → (chunks : List (Vec K Z)) → AreChunks chunks
+    → IsStrictlySortedBy R (entries_of chunks) → (after : ℕ) (low : List (Vec K Z)) → low ≡ take after chunks → after ≤ length chunks
+    → IsPartitionPoint (λ (chunk : Vec K Z). first_passes (λ y. is_lt (f y)) chunk.items ≡ true) (λ (chunk : Vec K Z). first_passes (λ y. is_lt (f y)) chunk.items ≡ false) chunks after
+    → Lows R f chunks low
+begin_below {K} {Z} R f rises chunks are s after low low_is inside parted =
+    let p : K → Bool = λ y. is_lt (f y) in
+    let Low : Vec K Z → Type 0 = λ (chunk : Vec K Z). first_passes p chunk.items ≡ true in
+    let NotLow : Vec K Z → Type 0 = λ (chunk : Vec K Z). first_passes p chunk.items ≡ false in
+    let front = entries_of (take after chunks) in
+    let back = entries_of (drop after chunks) in
+    let parts : IsStrictlySortedBy R (front ++ back) = subst (IsStrictlySortedBy R) (entries_parts after chunks) s in
+    let none : filter p back ≡ [] =
+    lows_none R f rises (drop after chunks) (each_drop (λ (chunk : Vec K Z). 0 < length chunk.items) after chunks (filled_of chunks are)) (all_drop NotLow chunks after parted.1)
+    (sorted_right R front back parts) in
+    record {
+      sorted = subst (λ l. IsStrictlySortedBy R (entries_of l)) (sym low_is) (sorted_left R front back parts);
+      below = subst (All Low) (sym low_is) (all_of Low (take after chunks) (all_take Low chunks after inside parted.0));
+      whole = ap (λ l. filter p (entries_of l)) low_is
+          ∙ sym (ap (filter p) (entries_parts after chunks) ∙ filter-append p front back ∙ ap (λ l. filter p front ++ l) none ∙ append-nil (filter p front));
+    }
+
+-- those that pass come first, and end there
+pub count_parted : {K : Type 0} (p : K → Bool) (xs : List K) (i : ℕ) → i ≤ length xs → IsPartitionPoint (λ y. p y ≡ true) (λ y. p y ≡ false) xs i → i ≡ count_by p xs
+count_parted p xs i within parts =
+    let front : filter p (take i xs) ≡ take i xs = filter_each p (take i xs) (all_take (λ y. p y ≡ true) xs i within parts.0) in
+    let back : filter p (drop i xs) ≡ [] = filter_none p (drop i xs) (all_drop (λ y. p y ≡ false) xs i parts.1) in
+    let kept : filter p xs ≡ take i xs =
+    ap (filter p) (sym (take-append-drop i xs)) ∙ filter-append p (take i xs) (drop i xs) ∙ rw (front, back) (append-nil (take i xs)) in
+    sym (length-take-le i xs within) ∙ ap length (sym kept) ∙ length-filter p xs
+
+not_above : (a b : Ordering) → ordering_index a ≤ ordering_index b → is_le b ≡ true → is_le a ≡ true
+not_above Less b le e = refl
+not_above Equal b le e = refl
+not_above Greater Less le e = absurd (omega arith)
+not_above Greater Equal le e = absurd (omega arith)
+not_above Greater Greater le e = cc
+
+-- the entries that aren't greater come first
+pub not_greater_first : {K : Type 0} (f : K → Ordering) (xs : List K) → IsNonDecreasingBy (λ y. ordering_index (f y)) xs → IsPartitionedBy (λ y. is_le (f y)) xs
+not_greater_first f xs rise i j d le within low = not_above (f (get_or xs i d)) (f (get_or xs j d)) (rise i j d le within) low
+
+-- those that aren't greater are the lesser and the equal ones
+not_greater : {K : Type 0} (f : K → Ordering) (xs : List K)
+    → length (filter (λ y. is_lt (f y)) xs) + length (filter (λ y. is_eq (f y)) xs) ≡ length (filter (λ y. is_le (f y)) xs)
+not_greater f [] = refl
+not_greater {K} f (x ∷ xs) = from (f x) (not_greater f xs)
+  where
+    from : (a : Ordering) → length (filter (λ y. is_lt (f y)) xs) + length (filter (λ y. is_eq (f y)) xs) ≡ length (filter (λ y. is_le (f y)) xs)
+        → length (cond (is_lt a) (x ∷ filter (λ y. is_lt (f y)) xs) (filter (λ y. is_lt (f y)) xs)) + length (cond (is_eq a) (x ∷ filter (λ y. is_eq (f y)) xs) (filter (λ y. is_eq (f y)) xs))
+        ≡ length (cond (is_le a) (x ∷ filter (λ y. is_le (f y)) xs) (filter (λ y. is_le (f y)) xs))
+    from Less e = omega arith
+    from Equal e = omega arith
+    from Greater e = e
+
+pub count_not_greater : {K : Type 0} (f : K → Ordering) (xs : List K) → count_by (λ y. is_lt (f y)) xs + length (filter (λ y. is_eq (f y)) xs) ≡ count_by (λ y. is_le (f y)) xs
+count_not_greater f xs =
+    let below = length-filter (λ y. is_lt (f y)) xs in
+    let all = length-filter (λ y. is_le (f y)) xs in
+    omega (arith, below, all, not_greater f xs)
 
 pub length_filter : {K : Type 0} (p : K → Bool) (xs : List K) → length (filter p xs) ≤ length xs
 length_filter p [] = omega arith

@@ -10,7 +10,8 @@ use Rattle.std.specs.Ordering.{is_le}
 use Rattle.std.specs.Cmp.{IsTotalOrder}
 use Rattle.std.specs.FinMap.{IsAntisymmetric}
 use Rattle.std.proofs.lemmas.List.{take_at, drop_at, set_at, get_or_at, take-append-le, drop-append-le}
-use Rattle.chunked_sets.specs.Chunks.{entries_of, AreChunks}
+use Rattle.chunked_sets.specs.Chunks.{entries_of}
+use Rattle.chunked_sets.specs.private.Chunks.{AreChunks}
 use Rattle.chunked_sets.specs.private.Places.{first_passes, IsHome}
 use Rattle.chunked_sets.specs.private.Passes.{in_order, HasPassed}
 use Rattle.chunked_sets.proofs.ChunkLists.{each_right, sorted_right, entries_join, filled_of}

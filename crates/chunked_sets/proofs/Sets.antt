@@ -12,7 +12,8 @@ use Rattle.std.proofs.Math.Bool.{or-false}
 use Rattle.rbac_sets.specs.Sets.{contains, insert, from_list}
 use Rattle.rbac_sets.proofs.SetLaws.{contains-from_list}
 use Rattle.rbac_sets.proofs.InOrder.{all_map, none_passes}
-use Rattle.chunked_sets.specs.Chunks.{entries_of, AreChunks}
+use Rattle.chunked_sets.specs.Chunks.{entries_of}
+use Rattle.chunked_sets.specs.private.Chunks.{AreChunks}
 use Rattle.chunked_sets.specs.private.Places.{IsHome}
 use Rattle.chunked_sets.proofs.ChunkLists.{each_of, entries_bound}
 use Rattle.chunked_sets.proofs.Inserting.{parts_of}

@@ -11,7 +11,8 @@ use Rattle.std.specs.Ordering.{is_le}
 use Rattle.std.specs.Cmp.{IsTotalOrder}
 use Rattle.std.specs.FinMap.{IsAntisymmetric}
 use Rattle.rbac_sets.proofs.Lists.{all_join}
-use Rattle.chunked_sets.specs.Chunks.{entries_of, AreChunks}
+use Rattle.chunked_sets.specs.Chunks.{entries_of}
+use Rattle.chunked_sets.specs.private.Chunks.{AreChunks}
 use Rattle.chunked_sets.specs.private.Places.{first_passes, IsHome}
 use Rattle.chunked_sets.proofs.ChunkLists.{each_of, all_of, each_take, each_drop, sorted_right, entries_at, entries_join, entries_parts, filled_of}
 use Rattle.chunked_sets.proofs.Homes.{before_begin, from_begin}

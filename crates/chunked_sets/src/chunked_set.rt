@@ -1,7 +1,7 @@
 //! Sets as sorted lists in chunks. Once room is reserved, entries are inserted without allocation.
-ghost use Rattle.std.specs.Prelude.{length, vec_len, filter, slice_index_or, ◌≡◌, ◌+◌, ◌<◌, ◌≤◌, ◌↔◌, true, false, IsTrue, OnOk, IfOk, IfErr};
+ghost use Rattle.std.specs.Prelude.{length, vec_len, count_by, filter, slice_index_or, ◌≡◌, ◌+◌, ◌<◌, ◌≤◌, ◌^◌, ◌↔◌, true, false, IsTrue, OnOk, IfOk, IfErr};
 ghost use Rattle.std.specs.List.Sorted.{IsStrictlySortedBy};
-ghost use Rattle.std.specs.Ordering.{is_eq};
+ghost use Rattle.std.specs.Ordering.{is_eq, is_le, is_lt};
 ghost use Rattle.chunked_sets.specs.Entries.{entries_left};
 ghost use Rattle.rbac_sets.specs.Sets.{IsDisjoint, empty, contains, insert, remove, union, difference, from_list, len, members};
 ghost use Rattle.rbac_sets.specs.SortedSet.{set_of};
@@ -11,7 +11,7 @@ use crate::entries::Entries;
 use crate::making::{chunks_from, copy_chunks, entry_at};
 use crate::pass::merge_into;
 use crate::removing::{remove_from, tidy};
-use crate::run::{Run, run_of};
+use crate::run::{Run, count_below, run_of};
 use rbac_sets::{Entry, Prefix, Probe, Refusal, place};
 use std::alloc::Global;
 use std::marker::Model;
@@ -35,7 +35,8 @@ impl<K: Entry> Model for ChunkedSet<K> {
     ghost use Rattle.std.specs.Prelude.{◌≡◌, ◌≤◌, ◌-◌, ◌^◌, length, vec_len, vec_capacity, min};
     ghost use Rattle.std.specs.List.Sorted.{IsStrictlySortedBy};
     ghost use Rattle.rbac_sets.specs.SortedSet.{Stored, stored_code};
-    ghost use Rattle.chunked_sets.specs.Chunks.{entries_of, AreChunks, AreSpare};
+    ghost use Rattle.chunked_sets.specs.Chunks.{entries_of};
+    ghost use Rattle.chunked_sets.specs.private.Chunks.{AreChunks, AreSpare};
 
     ghost Value = { Stored K };
 
@@ -124,6 +125,21 @@ impl<K: Entry> ChunkedSet<K> {
         self.len += 1;
     }
 
+    /// Inserts an entry that is not there.
+    ///
+    /// # Errors
+    ///
+    /// `Memory` if allocation failed. The entry is dropped then, and the set is as it was.
+    pub fn insert(&mut self, entry: K) -> Result<(), Refusal>
+        requires { contains (set_of K.cmp self.old) entry ≡ false }
+        ensures ok { OnOk result (set_of K.cmp self.new ≡ insert (set_of K.cmp self.old) entry) }
+        ensures err { IfErr result (λ refusal. (refusal ≡ Refusal.Memory) × (set_of K.cmp self.new ≡ set_of K.cmp self.old)) }
+    {
+        self.reserve(1)?;
+        self.insert_reserved(entry);
+        Ok(())
+    }
+
     /// Removes the entry that `probe` looks for, and returns whether it was there.
     ///
     /// It doesn't allocate.
@@ -181,6 +197,13 @@ impl<K: Entry> ChunkedSet<K> {
         }
     }
 
+    /// All entries, in their order.
+    pub fn as_run(&self) -> Run<'_, K>
+        ensures { result ≡ members (set_of K.cmp self.now) }
+    {
+        Run::new(&[], &self.chunks, &[])
+    }
+
     /// The entry at a place in the order. Its time grows with the number of chunks.
     pub fn at(&self, index: usize) -> &K
         requires { index < len (set_of K.cmp self.now) }
@@ -194,6 +217,24 @@ impl<K: Entry> ChunkedSet<K> {
         ensures { result ≡ filter (λ entry. is_eq (P.place prefix entry)) (members (set_of K.cmp self.now)) }
     {
         run_of(&self.chunks, prefix)
+    }
+
+    // How many entries begin with lesser parts than those of `prefix`.
+    fn count_below<P: Prefix<K>>(&self, prefix: P) -> usize
+        ensures count { result ≡ count_by (λ entry. is_lt (P.place prefix entry)) (members (set_of K.cmp self.now)) }
+        ensures few { length (members (set_of K.cmp self.now)) ≤ 2 ^ 63 }
+    {
+        count_below(&self.chunks, prefix)
+    }
+
+    /// How many entries begin with lesser parts than those of `prefix`, and how many with parts that aren't greater. Its
+    /// time grows with the number of chunks.
+    pub fn range<P: Prefix<K>>(&self, prefix: P) -> (usize, usize)
+        ensures start { result.0 ≡ count_by (λ entry. is_lt (P.place prefix entry)) (members (set_of K.cmp self.now)) }
+        ensures end { result.1 ≡ count_by (λ entry. is_le (P.place prefix entry)) (members (set_of K.cmp self.now)) }
+    {
+        let start = self.count_below(prefix);
+        (start, start + self.with_first(prefix).len())
     }
 
     /// The set of these sorted entries, in chunks that have space for a few more.

@@ -4,7 +4,8 @@ ghost use Rattle.std.specs.List.{HoldsAt};
 ghost use Rattle.std.specs.List.Sorted.{IsStrictlySortedBy};
 ghost use Rattle.std.specs.Ordering.{is_le};
 ghost use Rattle.rbac_sets.specs.Sets.{contains, insert, remove, from_list};
-ghost use Rattle.chunked_sets.specs.Chunks.{entries_of, AreChunks, AreSpare};
+ghost use Rattle.chunked_sets.specs.Chunks.{entries_of};
+ghost use Rattle.chunked_sets.specs.private.Chunks.{AreChunks, AreSpare};
 ghost use Rattle.chunked_sets.specs.private.Places.{first_passes, IsHome};
 
 use rbac_sets::{Entry, Probe, Refusal, place};

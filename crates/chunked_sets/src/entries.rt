@@ -1,5 +1,5 @@
 //! The iterator over entries in chunks.
-ghost use Rattle.std.specs.Prelude.{◌≡◌};
+ghost use Rattle.std.specs.Prelude.{◌≡◌, ◌<◌, ◌++◌, [], IfSome, IfNone, length};
 ghost use Rattle.std.specs.Iterator.{YieldsFirstRef, item_count};
 ghost use Rattle.chunked_sets.specs.Entries.{entries_left};
 
@@ -22,6 +22,19 @@ impl<'a, K: Entry> Iterator for Entries<'a, K> {
     ghost remaining = { item_count entries_left };
 
     fn next(&mut self) -> Option<&'a K> {
+        self.advance();
+        let (first, others) = self.chunk.split_first()?;
+        self.chunk = others;
+        Some(first)
+    }
+}
+
+impl<'a, K: Entry> Entries<'a, K> {
+    // Goes on to the next chunk if nothing is left of this one, so that something is, unless there are no more entries.
+    fn advance(&mut self)
+        ensures same { entries_left self.new ≡ entries_left self.old }
+        ensures end { self.new.chunk.now ≡ [] → entries_left self.old ≡ [] }
+    {
         while self.chunk.is_empty() {
             match self.chunks.split_first() {
                 Some((chunk, others)) => {
@@ -30,15 +43,26 @@ impl<'a, K: Entry> Iterator for Entries<'a, K> {
                 }
                 None => {
                     if self.last.is_empty() {
-                        return None;
+                        return;
                     }
                     self.chunk = self.last;
                     self.last = &self.last[..0];
                 }
             }
         }
-        let (first, others) = self.chunk.split_first()?;
-        self.chunk = others;
-        Some(first)
+    }
+
+    /// The next entries that lie in one piece of memory, in their order. `None` if there are no more.
+    pub fn next_part(&mut self) -> Option<&'a [K]>
+        ensures some { IfSome result (λ part. (entries_left self.old ≡ part.now ++ entries_left self.new) × (0 < length part.now)) }
+        ensures none { IfNone result (entries_left self.old ≡ []) }
+    {
+        self.advance();
+        if self.chunk.is_empty() {
+            return None;
+        }
+        let part = self.chunk;
+        self.chunk = &part[..0];
+        Some(part)
     }
 }

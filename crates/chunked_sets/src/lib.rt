@@ -6,12 +6,16 @@
 
 pub use chunked_set::ChunkedSet;
 pub use entries::Entries;
+pub use entry_set::EntrySet;
+pub use of_names::{ChunkedGrants, ChunkedNames, ChunkedPairs, has_first};
 pub use run::Run;
 
 pub mod chunked_set;
 mod chunks;
 pub mod entries;
+pub mod entry_set;
 mod making;
+pub mod of_names;
 mod pass;
 mod removing;
 pub mod run;

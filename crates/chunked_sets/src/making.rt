@@ -1,6 +1,7 @@
 //! Chunks made from entries, and the entry at a place in all chunks.
 ghost use Rattle.std.specs.Prelude.{◌≡◌, ◌+◌, ◌<◌, ◌≤◌, ◌^◌, [], ◌∷◌, ◌++◌, length, vec_len, vec_capacity, slice_index_or, OnOk, IfOk, IfErr};
-ghost use Rattle.chunked_sets.specs.Chunks.{entries_of, AreChunks};
+ghost use Rattle.chunked_sets.specs.Chunks.{entries_of};
+ghost use Rattle.chunked_sets.specs.private.Chunks.{AreChunks};
 
 use crate::chunks::{CHUNK, MOST_CHUNKS};
 use rbac_sets::{Entry, Refusal};

@@ -4,7 +4,8 @@ ghost use Rattle.std.specs.VecDeque.{deque_len, deque_capacity};
 ghost use Rattle.std.specs.List.{list_any};
 ghost use Rattle.std.specs.List.Sorted.{IsStrictlySortedBy};
 ghost use Rattle.rbac_sets.specs.Sets.{IsDisjoint, contains, insert, union, from_list};
-ghost use Rattle.chunked_sets.specs.Chunks.{entries_of, AreChunks, AreSpare};
+ghost use Rattle.chunked_sets.specs.Chunks.{entries_of};
+ghost use Rattle.chunked_sets.specs.private.Chunks.{AreChunks, AreSpare};
 ghost use Rattle.chunked_sets.specs.private.Places.{IsHome};
 ghost use Rattle.chunked_sets.specs.private.Passes.{chunks_in, entries_in, HasPassed};
 

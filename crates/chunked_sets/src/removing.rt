@@ -5,7 +5,8 @@ ghost use Rattle.std.specs.List.{HoldsAt};
 ghost use Rattle.std.specs.List.{remove as remove_at};
 ghost use Rattle.std.specs.List.Sorted.{IsStrictlySortedBy};
 ghost use Rattle.rbac_sets.specs.Sets.{contains, remove, from_list};
-ghost use Rattle.chunked_sets.specs.Chunks.{entries_of, AreChunks, AreSpare};
+ghost use Rattle.chunked_sets.specs.Chunks.{entries_of};
+ghost use Rattle.chunked_sets.specs.private.Chunks.{AreChunks, AreSpare};
 
 use crate::chunks::chunk_of;
 use rbac_sets::{Entry, Probe, place};

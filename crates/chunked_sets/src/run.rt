@@ -1,9 +1,10 @@
 //! Runs of entries, which may lie in several chunks.
-ghost use Rattle.std.specs.Prelude.{◌≡◌, ◌+◌, ◌≤◌, ◌^◌, ◌↔◌, [], ◌++◌, length, true, false, IsTrue, filter};
+ghost use Rattle.std.specs.Prelude.{◌≡◌, ◌+◌, ◌<◌, ◌≤◌, ◌^◌, ◌↔◌, [], ◌++◌, length, true, false, IsTrue, count_by, drop, filter};
 ghost use Rattle.std.specs.List.{All};
 ghost use Rattle.std.specs.List.Sorted.{IsStrictlySortedBy};
 ghost use Rattle.std.specs.Ordering.{is_eq, is_lt, is_le};
-ghost use Rattle.chunked_sets.specs.Chunks.{entries_of, AreChunks};
+ghost use Rattle.chunked_sets.specs.Chunks.{entries_of};
+ghost use Rattle.chunked_sets.specs.private.Chunks.{AreChunks};
 ghost use Rattle.chunked_sets.specs.Entries.{entries_left};
 ghost use Rattle.chunked_sets.specs.private.Places.{first_passes};
 
@@ -21,7 +22,7 @@ pub struct Run<'a, K: Entry> {
 }
 
 impl<'a, K: Entry> Model for Run<'a, K> {
-    ghost use Rattle.std.specs.Prelude.{◌≤◌, ◌^◌, ◌++◌, List, length};
+    ghost use Rattle.std.specs.Prelude.{◌<◌, ◌^◌, ◌++◌, List, length};
     ghost use Rattle.std.specs.Coded.{coded_list};
     ghost use Rattle.chunked_sets.specs.Chunks.{entries_of};
 
@@ -31,13 +32,13 @@ impl<'a, K: Entry> Model for Run<'a, K> {
 
     ghost view = { λ r. r.first.now ++ (entries_of r.middle.now ++ r.last.now) };
 
-    ghost invariant = { λ r. length (r.first.now ++ (entries_of r.middle.now ++ r.last.now)) ≤ 2 ^ 63 };
+    ghost invariant = { λ r. length (r.first.now ++ (entries_of r.middle.now ++ r.last.now)) < 2 ^ 64 };
 }
 
 impl<'a, K: Entry> Run<'a, K> {
     /// A run of these parts.
     pub(crate) fn new(first: &'a [K], middle: &'a [Vec<K>], last: &'a [K]) -> Run<'a, K>
-        requires { length (first.now ++ (entries_of middle.now ++ last.now)) ≤ 2 ^ 63 }
+        requires { length (first.now ++ (entries_of middle.now ++ last.now)) < 2 ^ 64 }
         ensures { result ≡ first.now ++ (entries_of middle.now ++ last.now) }
     {
         Run {
@@ -45,6 +46,13 @@ impl<'a, K: Entry> Run<'a, K> {
             middle,
             last,
         }
+    }
+
+    /// The run of these entries, which lie in one piece of memory.
+    pub fn of(entries: &'a [K]) -> Run<'a, K>
+        ensures { result ≡ entries.now }
+    {
+        Run::new(entries, &[], &[])
     }
 
     /// The entries one by one.
@@ -56,6 +64,16 @@ impl<'a, K: Entry> Run<'a, K> {
             chunks: self.middle,
             last: self.last,
         }
+    }
+
+    /// The entries after the first `count`: none if there are no more. Its time grows with the number of chunks.
+    pub fn skip(&self, count: usize) -> Run<'a, K>
+        ensures { result ≡ drop count self.now }
+    {
+        if count < self.first.len() {
+            return Run::new(&self.first[count..], self.middle, self.last);
+        }
+        rest_of_chunks(self.middle, self.last, count - self.first.len())
     }
 
     /// Whether there is no entry.
@@ -75,6 +93,34 @@ impl<'a, K: Entry> Run<'a, K> {
         }
         count
     }
+}
+
+/// The entries after the first ones.
+fn rest_of<K>(entries: &[K], count: usize) -> &[K]
+    ensures { result.now ≡ drop count entries.now }
+{
+    if count < entries.len() {
+        &entries[count..]
+    } else {
+        &[]
+    }
+}
+
+/// The entries of chunks, and others after them, after the first ones.
+fn rest_of_chunks<'a, K: Entry>(chunks: &'a [Vec<K>], last: &'a [K], count: usize) -> Run<'a, K>
+    requires { length (entries_of chunks.now ++ last.now) < 2 ^ 64 }
+    ensures { result ≡ drop count (entries_of chunks.now ++ last.now) }
+{
+    let mut rest = chunks;
+    let mut left = count;
+    while let Some((chunk, others)) = rest.split_first() {
+        if left < chunk.len() {
+            return Run::new(&chunk[left..], others, last);
+        }
+        left -= chunk.len();
+        rest = others;
+    }
+    Run::of(rest_of(last, left))
 }
 
 /// The entries of a chunk that begin with these parts.
@@ -146,4 +192,41 @@ pub(crate) fn run_of<K: Entry, P: Prefix<K>>(chunks: &[Vec<K>], prefix: P) -> Ru
     let first = first_part(low, prefix);
     let (middle, last) = last_part(equal, prefix);
     Run::new(first, middle, last)
+}
+
+/// How many of sorted entries begin with lesser parts.
+pub(crate) fn count_in<K: Entry, P: Prefix<K>>(entries: &[K], prefix: P) -> usize
+    requires { IsStrictlySortedBy K.cmp entries.now }
+    ensures { result ≡ count_by (λ entry. is_lt (P.place prefix entry)) entries.now }
+{
+    entries.partition_point(|entry| prefix.compare(entry).is_lt())
+}
+
+/// How many entries there are in chunks that begin with lesser parts, that begin with lesser parts themselves: all but some of
+/// the last chunk.
+fn count_low<K: Entry, P: Prefix<K>>(chunks: &[Vec<K>], prefix: P) -> usize
+    requires sorted { IsStrictlySortedBy K.cmp (entries_of chunks.now) }
+    requires below { All (λ chunk. first_passes (λ y. is_lt (P.place prefix y)) chunk.items ≡ true) chunks.now }
+    requires few { length (entries_of chunks.now) ≤ 2 ^ 63 }
+    ensures { result ≡ count_by (λ entry. is_lt (P.place prefix entry)) (entries_of chunks.now) }
+{
+    match chunks.split_last() {
+        Some((last, others)) => {
+            let some = Run::new(&[], others, &[]);
+            some.len() + count_in(last, prefix)
+        }
+        None => 0,
+    }
+}
+
+/// How many entries of sorted chunks begin with lesser parts.
+pub(crate) fn count_below<K: Entry, P: Prefix<K>>(chunks: &[Vec<K>], prefix: P) -> usize
+    requires chunks { AreChunks chunks.now }
+    requires sorted { IsStrictlySortedBy K.cmp (entries_of chunks.now) }
+    requires few { length (entries_of chunks.now) ≤ 2 ^ 63 }
+    ensures { result ≡ count_by (λ entry. is_lt (P.place prefix entry)) (entries_of chunks.now) }
+{
+    let after = chunks.partition_point(|chunk| begins_below(chunk, prefix));
+    let (low, _) = chunks.split_at(after);
+    count_low(low, prefix)
 }

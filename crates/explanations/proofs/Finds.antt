@@ -17,6 +17,11 @@ pub is_some_copied : {X : Type 0} (o : Option (Bor X)) → is_some (option_copie
 is_some_copied None = refl
 is_some_copied (Some x) = refl
 
+-- the value behind a reference, if there is one
+pub copied_is : {X : Type 0} (o : Option (Bor X)) → option_copied o ≡ option_map (λ (x : Bor X). x.now) o
+copied_is None = refl
+copied_is (Some x) = refl
+
 pub is_some_map : {X Y : Type 0} (f : X → Y) (o : Option X) → is_some (option_map f o) ≡ is_some o
 is_some_map f None = refl
 is_some_map f (Some x) = refl

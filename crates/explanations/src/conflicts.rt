@@ -13,7 +13,8 @@ ghost use Rattle.explanations.specs.Conflicts.{activation_refused, assignment_re
 ghost use Rattle.explanations.specs.private.Found.{has_too_many_with, violated_with};
 
 use admin_mgr::{State, is_reached};
-use rbac_sets::{Name, PairSet, Refusal, has_first};
+use chunked_sets::{Run, has_first};
+use rbac_sets::{Name, PairSet, Refusal};
 use role_order::RoleOrder;
 use std::alloc::Global;
 
@@ -44,7 +45,7 @@ pub fn violated_by_assignment(
     let held = state.assignments().with_first(user);
     let sets = state.ssd_cardinalities().as_slice();
     state.recall_good();
-    violated_with(alloc, state.order(), held, role, state.ssd_members(), sets)
+    violated_with(alloc, state.order(), &held, role, state.ssd_members(), sets)
 }
 
 /// The dynamic separation of duty sets that the session would violate with one more role, in byte order. It is of no
@@ -75,7 +76,7 @@ pub fn violated_by_activation(
     let held = state.active().with_first(session);
     let sets = state.dsd_cardinalities().as_slice();
     state.recall_good();
-    violated_with(alloc, state.order(), held, role, state.dsd_members(), sets)
+    violated_with(alloc, state.order(), &held, role, state.dsd_members(), sets)
 }
 
 // Why there is no answer for the activation of the role in the session.
@@ -105,14 +106,14 @@ pub(crate) fn is_authorized(state: &State, user: &Name, role: &Name) -> bool
     ensures { result ≡ is_authorized state.now.facts user.now role.now }
 {
     let held = state.assignments().with_first(user);
-    is_reached(state.order(), held, role)
+    is_reached(state.order(), &held, role)
 }
 
 // The sets that a holder of these pairs violates with one more role.
 fn violated_with(
     alloc: Global,
     order: &RoleOrder,
-    held: &[(Name, Name)],
+    held: &Run<'_, (Name, Name)>,
     more: &Name,
     members: &PairSet,
     sets: &[(Name, u32)],
@@ -132,7 +133,7 @@ fn violated_with(
 // Whether a holder of these pairs has no fewer of the members than the cardinality with one more role.
 pub(crate) fn has_too_many_with(
     order: &RoleOrder,
-    held: &[(Name, Name)],
+    held: &Run<'_, (Name, Name)>,
     more: &Name,
     members: &[(Name, Name)],
     cardinality: u32,

@@ -12,6 +12,7 @@ ghost use Rattle.explanations.specs.private.Found.{conflicts_with, first_holder_
 
 use crate::conflicts::has_too_many_with;
 use admin_mgr::{State, is_reached};
+use chunked_sets::{ChunkedPairs, Run};
 use rbac_sets::{Name, PairSet, Refusal};
 use role_order::RoleOrder;
 use std::alloc::Global;
@@ -127,7 +128,7 @@ fn first_holder_below<'a>(
 {
     let order = state.order();
     if of_sessions {
-        let sessions = state.sessions().as_slice();
+        let sessions = state.sessions().as_run();
         first_session_below(
             order,
             state.active(),
@@ -135,10 +136,10 @@ fn first_holder_below<'a>(
             desc,
             members,
             cardinality,
-            sessions,
+            &sessions,
         )
     } else {
-        let users = state.users().as_slice();
+        let users = state.users().as_run();
         first_user_below(
             order,
             state.assignments(),
@@ -146,7 +147,7 @@ fn first_holder_below<'a>(
             desc,
             members,
             cardinality,
-            users,
+            &users,
         )
     }
 }
@@ -154,19 +155,19 @@ fn first_holder_below<'a>(
 // The first of the users with too many of the members.
 fn first_user_below<'a>(
     order: &RoleOrder,
-    assignments: &PairSet,
+    assignments: &ChunkedPairs,
     asc: &Name,
     desc: &Name,
     members: &[(Name, Name)],
     cardinality: u32,
-    users: &'a [Name],
+    users: &Run<'a, Name>,
 ) -> Option<&'a Name>
     ensures { option_copied result
         ≡ first_user_below order.now.edges (set_of pair_cmp assignments.now) asc.now desc.now members.now cardinality users.now }
 {
     users.iter().find(|user| has_too_many_below(
         order,
-        assignments.with_first(*user),
+        &assignments.with_first(*user),
         asc,
         desc,
         members,
@@ -177,19 +178,19 @@ fn first_user_below<'a>(
 // The first of the sessions, pairs (session, user), with too many of the members.
 fn first_session_below<'a>(
     order: &RoleOrder,
-    active: &PairSet,
+    active: &ChunkedPairs,
     asc: &Name,
     desc: &Name,
     members: &[(Name, Name)],
     cardinality: u32,
-    sessions: &'a [(Name, Name)],
+    sessions: &Run<'a, (Name, Name)>,
 ) -> Option<&'a Name>
     ensures { option_copied result
         ≡ first_session_below order.now.edges (set_of pair_cmp active.now) asc.now desc.now members.now cardinality sessions.now }
 {
     let session = sessions.iter().find(|session| has_too_many_below(
         order,
-        active.with_first(&session.0),
+        &active.with_first(&session.0),
         asc,
         desc,
         members,
@@ -202,7 +203,7 @@ fn first_session_below<'a>(
 #[tactic(auto, unfolding(crate::specs::private::Found::has_too_many_below))]
 fn has_too_many_below(
     order: &RoleOrder,
-    held: &[(Name, Name)],
+    held: &Run<'_, (Name, Name)>,
     asc: &Name,
     desc: &Name,
     members: &[(Name, Name)],

@@ -8,6 +8,7 @@ ghost use Rattle.explanations.specs.SessionReasons.{IsSessionReason, SessionReas
 
 use crate::user_access::{granted_for, role_above, served_role};
 use admin_mgr::State;
+use chunked_sets::Run;
 use rbac_sets::{BorrowedName, Name, Refusal};
 use review_mgr::check_access;
 
@@ -68,9 +69,9 @@ fn session_reason<'a>(
     }
     let order = state.order();
     let held = activated_in(state, session);
-    match served_role(order, held, granted) {
+    match served_role(order, &held, &granted) {
         Some(role) => SessionReason::Allowed {
-            active: role_above(order, held, role),
+            active: role_above(order, &held, role),
             granted: role,
         },
         None => SessionReason::NotActive,
@@ -78,8 +79,8 @@ fn session_reason<'a>(
 }
 
 // The roles that were activated in the session, as pairs (session, role).
-fn activated_in<'a>(state: &'a State, session: &BorrowedName<'_>) -> &'a [(Name, Name)]
-    ensures { result.now ≡ run_of state.now.facts.active session.now }
+fn activated_in<'a>(state: &'a State, session: &BorrowedName<'_>) -> Run<'a, (Name, Name)>
+    ensures { result ≡ run_of state.now.facts.active session.now }
 {
     state.active().with_first(session)
 }

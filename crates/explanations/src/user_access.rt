@@ -13,6 +13,7 @@ ghost use Rattle.explanations.specs.UserReasons.{IsUserReason, UserReasonContent
 ghost use Rattle.explanations.specs.private.Found.{first_full, first_served, first_usable, is_full};
 
 use admin_mgr::{State, is_reached, stands_alone};
+use chunked_sets::Run;
 use rbac_sets::{BorrowedName, Name, PairSet, Refusal};
 use review_mgr::check_user_access;
 use role_order::RoleOrder;
@@ -87,12 +88,12 @@ fn user_reason<'a>(
     }
     let order = state.order();
     let held = assigned_to_user(state, user);
-    let Some(served) = served_role(order, held, granted) else {
+    let Some(served) = served_role(order, &held, &granted) else {
         return UserReason::NotAuthorized;
     };
-    match usable_role(state, held, granted) {
+    match usable_role(state, &held, &granted) {
         Some(role) => UserReason::Allowed {
-            assigned: role_above(order, held, role),
+            assigned: role_above(order, &held, role),
             granted: role,
         },
         None => UserReason::Separated {
@@ -114,15 +115,15 @@ pub(crate) fn granted_for<'a>(
     state: &'a State,
     operation: &BorrowedName<'_>,
     object: &BorrowedName<'_>,
-) -> &'a [(Name, Name, Name)]
-    ensures { result.now ≡ filter (is_grant_of object.now operation.now) (members state.now.facts.grants) }
+) -> Run<'a, (Name, Name, Name)>
+    ensures { result ≡ filter (is_grant_of object.now operation.now) (members state.now.facts.grants) }
 {
     state.grants().with_first((object, operation))
 }
 
 // The roles that are assigned to the user, as pairs (user, role).
-fn assigned_to_user<'a>(state: &'a State, user: &BorrowedName<'_>) -> &'a [(Name, Name)]
-    ensures { result.now ≡ run_of state.now.facts.assignments user.now }
+fn assigned_to_user<'a>(state: &'a State, user: &BorrowedName<'_>) -> Run<'a, (Name, Name)>
+    ensures { result ≡ run_of state.now.facts.assignments user.now }
 {
     state.assignments().with_first(user)
 }
@@ -131,8 +132,8 @@ fn assigned_to_user<'a>(state: &'a State, user: &BorrowedName<'_>) -> &'a [(Name
 // junior of one, and a session may have it alone.
 fn usable_role<'a>(
     state: &State,
-    held: &[(Name, Name)],
-    granted: &'a [(Name, Name, Name)],
+    held: &Run<'_, (Name, Name)>,
+    granted: &Run<'a, (Name, Name, Name)>,
 ) -> Option<&'a Name>
     ensures { option_copied result ≡ first_usable state.now.facts held.now granted.now }
 {
@@ -144,8 +145,8 @@ fn usable_role<'a>(
 // The first role of the grants that is one of `held`, pairs (holder, role), or a junior of one.
 pub(crate) fn served_role<'a>(
     order: &RoleOrder,
-    held: &[(Name, Name)],
-    granted: &'a [(Name, Name, Name)],
+    held: &Run<'_, (Name, Name)>,
+    granted: &Run<'a, (Name, Name, Name)>,
 ) -> Option<&'a Name>
     ensures { option_copied result ≡ first_served order.now.edges held.now granted.now }
 {
@@ -156,7 +157,11 @@ pub(crate) fn served_role<'a>(
 }
 
 // The first role of `held`, pairs (holder, role), that is this role or a senior of it.
-pub(crate) fn role_above<'a>(order: &RoleOrder, held: &'a [(Name, Name)], role: &Name) -> &'a Name
+pub(crate) fn role_above<'a>(
+    order: &RoleOrder,
+    held: &Run<'a, (Name, Name)>,
+    role: &Name,
+) -> &'a Name
     requires { IsTrue (is_reached order.now.edges held.now role.now) }
     ensures { option_map (λ (pair : Pair). pair.1) (find (λ (pair : Pair). geq order.now.edges pair.1 role.now) held.now) ≡ Some result.now }
 {
@@ -167,7 +172,7 @@ pub(crate) fn role_above<'a>(order: &RoleOrder, held: &'a [(Name, Name)], role: 
 // The first of the pairs (holder, role) whose role is this role or a senior of it.
 fn first_above<'a>(
     order: &RoleOrder,
-    held: &'a [(Name, Name)],
+    held: &Run<'a, (Name, Name)>,
     role: &Name,
 ) -> Option<&'a (Name, Name)>
     ensures { option_copied result ≡ find (λ (pair : Pair). geq order.now.edges pair.1 role.now) held.now }

@@ -2,4 +2,3 @@ pub mod Entries
 pub mod Mapped
 pub mod Places
 pub mod Roles
-pub mod Rows

@@ -5,6 +5,7 @@ ghost use Rattle.std.specs.List.Sorted.{IsStrictlySortedBy};
 ghost use Rattle.rbac_sets.specs.Sets.{name_cmp, contains, from_list};
 ghost use Rattle.order_matrix.specs.Table.{number_in, numbers_of};
 
+use chunked_sets::Run;
 use rbac_sets::{Name, Refusal};
 use std::alloc::Global;
 
@@ -28,7 +29,7 @@ pub fn number(names: &[Name], name: &Name) -> usize
 pub fn second_numbers(
     alloc: Global,
     names: &[Name],
-    pairs: &[(Name, Name)],
+    pairs: &Run<'_, (Name, Name)>,
 ) -> Result<Vec<usize>, Refusal>
     requires { IsStrictlySortedBy name_cmp names.now }
     ensures ok { IfOk result (λ numbers. numbers.items ≡ numbers_of names.now pairs.now) }
@@ -36,7 +37,7 @@ pub fn second_numbers(
 {
     let mut numbers = Vec::new(alloc);
     numbers.reserve(pairs.len())?;
-    for pair in pairs {
+    for pair in pairs.iter() {
         numbers.push(number(names, &pair.1))?;
     }
     Ok(numbers)

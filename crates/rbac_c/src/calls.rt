@@ -16,13 +16,13 @@ ghost use Rattle.rbac_c.specs.Reasons.{ExplainsSession, ExplainsUser};
 ghost use Rattle.rbac_c.specs.Results.{done, no_memory};
 
 use crate::conflicts::{copy_activation, copy_assignment, copy_creation, copy_inheritance};
-use crate::copying::{Rows, copy, copy_row, copy_rows};
+use crate::copying::{copy, copy_row, copy_rows};
 use crate::explaining::{reason_row, session_reason, session_reason_row, user_reason};
 use crate::handle::OfficeHandle;
 use crate::range::range;
 use bit_tables::Seed;
 use rbac_sets::Refusal;
-use role_lines::{MemoryOffice, row_at, row_of, table_numbered};
+use role_lines::{MemoryOffice, row_at, row_of, rows_from, table_numbered};
 use std::alloc::Global;
 use std::mem::replace;
 
@@ -262,7 +262,8 @@ pub extern "C" fn rbac_office_activation_conflicts(
     total: &mut usize,
 ) -> u32
     ensures keeps { office.new.office ≡ office.old.office }
-    ensures copies { CopiesActivation office.old.office user.now session.now role.now index (out.old, lengths.old) (out.new, lengths.new) (record { count = count.new; total = total.new; code = result }) }
+    ensures copies { CopiesActivation office.old.office user.now session.now role.now index (out.old, lengths.old) (out.new, lengths.new)
+        (record { count = count.new; total = total.new; code = result }) }
 {
     *count = 0;
     *total = 0;
@@ -295,7 +296,8 @@ pub extern "C" fn rbac_office_inheritance_conflicts(
     total: &mut usize,
 ) -> u32
     ensures keeps { office.new.office ≡ office.old.office }
-    ensures copies { CopiesInheritance office.old.office of_sessions asc.now desc.now index (out.old, lengths.old) (out.new, lengths.new) (record { count = count.new; total = total.new; code = result }) }
+    ensures copies { CopiesInheritance office.old.office of_sessions asc.now desc.now index (out.old, lengths.old) (out.new, lengths.new)
+        (record { count = count.new; total = total.new; code = result }) }
 {
     *count = 0;
     *total = 0;
@@ -338,7 +340,8 @@ pub extern "C" fn rbac_office_creation_conflicts(
     total: &mut usize,
 ) -> u32
     ensures keeps { office.new.office ≡ office.old.office }
-    ensures copies { CopiesCreation office.old.office user.now (divided roles.now role_lengths.now) index (out.old, lengths.old) (out.new, lengths.new) (record { count = count.new; total = total.new; code = result }) }
+    ensures copies { CopiesCreation office.old.office user.now (divided roles.now role_lengths.now) index (out.old, lengths.old) (out.new, lengths.new)
+        (record { count = count.new; total = total.new; code = result }) }
 {
     *count = 0;
     *total = 0;
@@ -634,7 +637,7 @@ fn rows(
         *count = 0;
         return ABSENT;
     };
-    *count = copy_rows(Rows::OfTable(office.state(), table), index, out, lengths);
+    *count = copy_rows(rows_from(office.state(), table, index), out, lengths);
     DONE
 }
 

@@ -7,14 +7,14 @@ ghost use Rattle.role_lines.specs.Decision.{IsNameText};
 ghost use Rattle.rbac_c.specs.Conflicts.{CopiesActivation, CopiesAssignment, CopiesCreation, CopiesInheritance, CopiesNames, CopiesPairs, RefusesActivation, RefusesAssignment, RefusesCreation, RefusesInheritance, ViolatesByCreation, ViolatesByInheritance, ViolatesInSession, ViolatesSets, divided};
 
 use crate::calls::{DONE, RowLengths};
-use crate::copying::{Rows, copy_rows};
+use crate::copying::copy_rows;
 use admin_mgr::State;
 use explanations::{
     violated_by_activation, violated_by_assignment, violated_by_creation, violated_by_inheritance,
     violated_in_sessions,
 };
 use rbac_sets::{Name, NameSet, Refusal};
-use role_lines::MemoryOffice;
+use role_lines::{MemoryOffice, TableRows};
 use std::alloc::Global;
 
 // Copies the sets from this place on of those that the assignment would violate.
@@ -98,7 +98,8 @@ pub(crate) fn copy_creation(
     count: &mut usize,
     total: &mut usize,
 ) -> u32
-    ensures { CopiesCreation (Some office.now) user.now (divided roles.now role_lengths.now) index (out.old, lengths.old) (out.new, lengths.new) (record { count = count.new; total = total.new; code = result }) }
+    ensures { CopiesCreation (Some office.now) user.now (divided roles.now role_lengths.now) index (out.old, lengths.old) (out.new, lengths.new)
+        (record { count = count.new; total = total.new; code = result }) }
 {
     *count = 0;
     *total = 0;
@@ -119,7 +120,7 @@ fn copy_names(
 ) -> u32
     ensures { CopiesNames names.now index (out.old, lengths.old) (out.new, lengths.new) (record { count = count.new; total = total.new; code = result }) }
 {
-    *count = copy_rows(Rows::Names(names), index, out, lengths);
+    *count = copy_rows(TableRows::of_names(names, index), out, lengths);
     *total = names.len();
     DONE
 }
@@ -135,7 +136,7 @@ fn copy_pairs(
 ) -> u32
     ensures { CopiesPairs pairs.now index (out.old, lengths.old) (out.new, lengths.new) (record { count = count.new; total = total.new; code = result }) }
 {
-    *count = copy_rows(Rows::Pairs(pairs), index, out, lengths);
+    *count = copy_rows(TableRows::of_pairs(pairs, index), out, lengths);
     *total = pairs.len();
     DONE
 }

@@ -1,12 +1,9 @@
 //! The rows of a table that begin with a name.
-ghost use Rattle.std.specs.Prelude.{◌≡◌, ℕ, List, count_by};
-ghost use Rattle.std.specs.Ordering.{is_le, is_lt};
-ghost use Rattle.rbac_sets.specs.Sets.{members};
-ghost use Rattle.rbac_sets.specs.SortedSet.{set_of};
 ghost use Rattle.rbac_c.specs.Range.{HasRange};
 
 use admin_mgr::State;
-use rbac_sets::{Entry, Name, Prefix, SortedSet, Table};
+use chunked_sets::EntrySet;
+use rbac_sets::{Name, Prefix, Table};
 use std::cmp::Ordering;
 
 // The bytes with which the first name of a row is compared. They may be those of no name.
@@ -74,31 +71,20 @@ pub(crate) fn range(state: &State, table: Table, first: &[u8]) -> (usize, usize)
 {
     let first = FirstName { text: first };
     match table {
-        Table::Users => range_of(state.users(), first),
-        Table::Roles => range_of(state.roles(), first),
-        Table::Objects => range_of(state.objects(), first),
-        Table::Permissions => range_of(state.permissions(), first),
-        Table::Assignments => range_of(state.assignments(), first),
-        Table::Inheritances => range_of(state.order().edges(), first),
-        Table::ClosurePairs => range_of(state.order().pairs(), first),
-        Table::StaticMembers => range_of(state.ssd_members(), first),
-        Table::DynamicMembers => range_of(state.dsd_members(), first),
-        Table::Sessions => range_of(state.sessions(), first),
-        Table::ActivatedRoles => range_of(state.active(), first),
-        Table::Grants => range_of(state.grants(), first),
-        Table::StaticCardinalities => range_of(state.ssd_cardinalities(), first),
-        Table::DynamicCardinalities => range_of(state.dsd_cardinalities(), first),
-        Table::Locks => range_of(state.locked(), first),
+        Table::Users => state.users().range(first),
+        Table::Roles => state.roles().range(first),
+        Table::Objects => state.objects().range(first),
+        Table::Permissions => state.permissions().range(first),
+        Table::Assignments => state.assignments().range(first),
+        Table::Inheritances => state.order().edges().range(first),
+        Table::ClosurePairs => state.order().pairs().range(first),
+        Table::StaticMembers => state.ssd_members().range(first),
+        Table::DynamicMembers => state.dsd_members().range(first),
+        Table::Sessions => state.sessions().range(first),
+        Table::ActivatedRoles => state.active().range(first),
+        Table::Grants => state.grants().range(first),
+        Table::StaticCardinalities => state.ssd_cardinalities().range(first),
+        Table::DynamicCardinalities => state.dsd_cardinalities().range(first),
+        Table::Locks => state.locked().range(first),
     }
-}
-
-// How many entries begin with lesser parts, and how many with parts that aren't greater.
-fn range_of<K: Entry, P: Prefix<K>>(set: &SortedSet<K>, prefix: P) -> (usize, usize)
-    ensures start { result.0 ≡ count_by (λ entry. is_lt (P.place prefix entry)) (members (set_of K.cmp set.now)) }
-    ensures end { result.1 ≡ count_by (λ entry. is_le (P.place prefix entry)) (members (set_of K.cmp set.now)) }
-{
-    let entries = set.as_slice();
-    let start = entries.partition_point(|entry| prefix.compare(entry).is_lt());
-    let end = entries.partition_point(|entry| prefix.compare(entry).is_le());
-    (start, end)
 }

@@ -5,9 +5,10 @@ ghost use Rattle.std.specs.Ordering.{nat_cmp};
 ghost use Rattle.rbac_sets.specs.Name.{first_bytes, is_name};
 ghost use Rattle.rbac_sets.specs.Sets.{same_name};
 
-use crate::name::{Name, front_of, is_name, order};
+use crate::name::{Name, is_name, order};
 use crate::refusal::Refusal;
 use crate::sorted_set::{Prefix, Probe};
+use short_text::front_of;
 use std::cmp::Ordering;
 use std::marker::Model;
 
@@ -16,7 +17,7 @@ use std::marker::Model;
 /// Names are searched for by it. In contracts its value is its bytes, as that of a `Name` is.
 #[derive(Drop)]
 pub struct BorrowedName<'a> {
-    // The first eight bytes of the text as a number, as in a `Name`.
+    // The first eight bytes of the text as a number. Most names differ in them, and then no text is read.
     front: u64,
     text: &'a str,
 }

@@ -1,5 +1,5 @@
 //! Names of users, roles, objects, operations, sessions and separation of duty sets.
-ghost use Rattle.std.specs.Prelude.{◌≡◌, ◌<◌, ◌⊎◌, ◌&&◌, ◌↔◌, IsTrue, true, false, Err, IfOk, IfErr, nat_le, length, slice_index_or};
+ghost use Rattle.std.specs.Prelude.{◌≡◌, ◌<◌, ◌⊎◌, ◌&&◌, ◌↔◌, IsTrue, true, false, Err, IfOk, IfErr, nat_le, length};
 ghost use Rattle.std.specs.List.{list_all};
 ghost use Rattle.std.specs.Ordering.{nat_cmp};
 ghost use Rattle.std.specs.Cmp.Lexicographic.{slice_cmp};
@@ -8,6 +8,7 @@ ghost use Rattle.rbac_sets.specs.Sets.{same_name};
 
 use crate::borrowed_name::BorrowedName;
 use crate::refusal::Refusal;
+use short_text::ShortText;
 use std::alloc::Global;
 use std::cmp::Ordering;
 use std::marker::Model;
@@ -28,20 +29,18 @@ const SPREAD: u64 = 11_400_714_819_323_198_485;
 /// no case folding. In contracts the value of a name is its bytes.
 #[derive(Debug, Drop)]
 pub struct Name {
-    // The first eight bytes of the text as a number. Most names differ in them, and then no text is read.
-    front: u64,
-    text: String,
+    text: ShortText,
 }
 
 impl Model for Name {
-    ghost use Rattle.std.specs.Prelude.{◌≡◌, true, List, ℕ, string_bytes};
-    ghost use Rattle.rbac_sets.specs.Name.{first_bytes, is_name};
+    ghost use Rattle.std.specs.Prelude.{◌≡◌, true, List, ℕ};
+    ghost use Rattle.rbac_sets.specs.Name.{is_name};
 
     ghost Value = { List ℕ };
 
-    ghost view = { λ name. string_bytes name.text };
+    ghost view = { λ name. name.text };
 
-    ghost invariant = { λ name. (is_name (string_bytes name.text) ≡ true) × (name.front ≡ first_bytes 8 (string_bytes name.text)) };
+    ghost invariant = { λ name. is_name name.text ≡ true };
 }
 
 impl Name {
@@ -59,9 +58,8 @@ impl Name {
         if !is_name(text) {
             return Err(Refusal::BadName);
         }
-        let front = front_of(text);
-        let text = String::from_str(alloc, text)?;
-        Ok(Name { front, text })
+        let text = ShortText::new(alloc, text)?;
+        Ok(Name { text })
     }
 
     /// The name's text.
@@ -77,10 +75,10 @@ impl Name {
     pub fn as_borrowed(&self) -> BorrowedName<'_>
         ensures { result ≡ self.now }
     {
-        BorrowedName::of_parts(self.front, self.as_str())
+        BorrowedName::of_parts(self.text.front(), self.as_str())
     }
 
-    /// A copy of the name, in memory of its own.
+    /// A copy of the name. A name of more than 22 bytes has memory of its own.
     ///
     /// # Errors
     ///
@@ -89,11 +87,8 @@ impl Name {
         ensures ok { IfOk result (λ name. name ≡ self.now) }
         ensures cause { IfErr result (λ refusal. refusal ≡ Refusal.Memory) }
     {
-        let text = String::from_str(alloc, self.as_str())?;
-        Ok(Name {
-            front: self.front,
-            text,
-        })
+        let text = self.text.copy(alloc)?;
+        Ok(Name { text })
     }
 
     /// A number below `FINGERPRINTS`, computed from the name's first eight bytes. Equal names have the
@@ -105,7 +100,7 @@ impl Name {
         ensures value { result ≡ fingerprint self.now }
         ensures within { result < FINGERPRINTS }
     {
-        (self.front.wrapping_mul(SPREAD) >> 52) as usize
+        (self.text.front().wrapping_mul(SPREAD) >> 52) as usize
     }
 }
 
@@ -119,7 +114,7 @@ impl PartialEq for Name {
     ghost laws = { partial_equiv_from_equiv nat_list_eq_equiv };
 
     fn eq(&self, other: &Name) -> bool {
-        self.front == other.front && self.as_str() == other.as_str()
+        self.text == other.text
     }
 }
 
@@ -158,7 +153,12 @@ impl Ord for Name {
     ghost matches_eq = { texts_ties };
 
     fn cmp(&self, other: &Name) -> Ordering {
-        order(self.as_str(), self.front, other.as_str(), other.front)
+        order(
+            self.as_str(),
+            self.text.front(),
+            other.as_str(),
+            other.text.front(),
+        )
     }
 }
 
@@ -187,30 +187,6 @@ pub(crate) fn order(text: &str, front: u64, other: &str, other_front: u64) -> Or
         return Ordering::Equal;
     }
     text.cmp(other)
-}
-
-// The first eight bytes of the text as a big-endian number. A shorter text is padded with zeros.
-pub(crate) fn front_of(text: &str) -> u64
-    ensures { result ≡ first_bytes 8 text.now }
-{
-    let bytes = text.as_bytes();
-    u64::from_be_bytes([
-        byte_or_zero(bytes, 0),
-        byte_or_zero(bytes, 1),
-        byte_or_zero(bytes, 2),
-        byte_or_zero(bytes, 3),
-        byte_or_zero(bytes, 4),
-        byte_or_zero(bytes, 5),
-        byte_or_zero(bytes, 6),
-        byte_or_zero(bytes, 7),
-    ])
-}
-
-// The byte at this place, or zero if the text has ended before it.
-fn byte_or_zero(bytes: &[u8], place: usize) -> u8
-    ensures { result ≡ slice_index_or bytes.now place 0 }
-{
-    if place < bytes.len() { bytes[place] } else { 0 }
 }
 
 // Whether the text is a valid name. It is UTF-8 already, as every `&str`.

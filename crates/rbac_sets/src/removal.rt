@@ -149,7 +149,7 @@ fn pass<K: Entry, P: Probe<K>>(entries: &mut Vec<K>, start: usize, end: usize, p
     count
 }
 
-// Moves so many entries from `end` to `start`. Those of the gap go after them.
+// Moves `count` entries from `end` to `start`, and those of the gap behind them.
 fn move_down<K: Entry>(entries: &mut Vec<K>, start: usize, end: usize, count: usize)
     requires gap { (start ≤ end) × (end + count ≤ vec_len entries.old) }
     ensures same { around (start + count) (end + count) entries.new.items ≡ around start end entries.old.items }

@@ -5,7 +5,7 @@ use Rattle.std.proofs.lemmas.Bool.{cases_eq, cases_lt, true≢false}
 use Rattle.std.proofs.lemmas.List.{get_or_append_left, get_or_push, length_push, length-set, get_or-set_other}
 use Rattle.bit_rows.specs.Rows.{has_bit}
 use Rattle.reach_bits.specs.Graph.{Graph, HasEdge, has_edge}
-use Rattle.reach_bits.specs.Closing.{AreWide}
+use Rattle.reach_bits.specs.private.Closing.{AreWide}
 use Rattle.reach_bits.specs.private.Renewing.{IsOver}
 use Rattle.reach_bits.proofs.RowLaws.{edge_kept, edge_written, either, has_row, past_rows, put_is, wide_written}
 

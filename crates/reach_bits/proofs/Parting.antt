@@ -4,7 +4,7 @@ use Rattle.std.specs.Prelude.{IsTrue, Option, IfSome, IfNone, slice_set}
 use Rattle.std.proofs.lemmas.Bool.{cases_eq, true≢false}
 use Rattle.bit_rows.specs.Rows.{has_bit}
 use Rattle.reach_bits.specs.Graph.{Graph, HasEdge, Leads, has_edge, once}
-use Rattle.reach_bits.specs.Closing.{AreWide, HasClosure, IsRight}
+use Rattle.reach_bits.specs.private.Closing.{AreWide, HasClosure, IsRight}
 use Rattle.reach_bits.specs.private.Renewing.{IsOver, IsPartlyRight}
 use Rattle.reach_bits.proofs.Leading.{AreLed, Leads-mono, first_step, from_step, led_less, led_more, led_trans}
 use Rattle.reach_bits.proofs.Counting.{count, count_less}

@@ -5,7 +5,7 @@ use Rattle.std.proofs.lemmas.Bool.{true≢false}
 use Rattle.std.proofs.lemmas.List.{append-nil, drop_all, take_all}
 use Rattle.bit_rows.specs.Rows.{has_bit}
 use Rattle.reach_bits.specs.Graph.{Graph, HasEdge, Leads, has_edge}
-use Rattle.reach_bits.specs.Closing.{AreWide, HasClosure, IsReach, IsRight}
+use Rattle.reach_bits.specs.private.Closing.{AreWide, HasClosure, IsReach, IsRight}
 use Rattle.reach_bits.proofs.Leading.{Leads-mono, first_step}
 use Rattle.reach_bits.proofs.RowLaws.{past_rows, wide_at, wide_written}
 use Rattle.reach_bits.proofs.Parting.{closed_less, closed_more}

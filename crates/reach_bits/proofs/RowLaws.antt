@@ -8,7 +8,7 @@ use Rattle.std.proofs.lemmas.Nat.Bits.{bit_at-zero}
 use Rattle.bit_rows.specs.Rows.{has_bit}
 use Rattle.bit_rows.proofs.RowLaws.{absent_from_bit, absent_past}
 use Rattle.reach_bits.specs.Graph.{Graph, HasEdge, has_edge}
-use Rattle.reach_bits.specs.Closing.{AreWide}
+use Rattle.reach_bits.specs.private.Closing.{AreWide}
 
 zeros : (none : ℕ) (count k : ℕ) → get_or (replicate count none) k none ≡ none
 zeros none zero k = refl

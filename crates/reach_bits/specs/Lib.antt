@@ -1,4 +1,3 @@
-pub mod Closing
 pub mod Graph
 pub mod Numbers
 pub mod private

@@ -31,7 +31,7 @@ pub struct Reach {
 impl Model for Reach {
     ghost use Rattle.std.specs.Prelude.{vec_len};
     ghost use Rattle.reach_bits.specs.Graph.{Graph};
-    ghost use Rattle.reach_bits.specs.Closing.{IsReach};
+    ghost use Rattle.reach_bits.specs.private.Closing.{IsReach};
 
     ghost Value = { Graph };
 
@@ -70,6 +70,7 @@ impl Reach {
         requires { count ≤ MOST }
         ensures ok { OnOk result (count ≤ room self.new) }
         ensures room { room self.old ≤ room self.new }
+        ensures most { room self.new ≤ MOST }
         ensures same { (a b : ℕ) → has_edge self.new a b ≡ has_edge self.old a b }
         ensures err { OnErr result (self.new ≡ self.old) }
     {

@@ -2,7 +2,7 @@
 ghost use Rattle.std.specs.Prelude.{◌≡◌, ◌↔◌, ◌⊎◌, ◌*◌, ◌<◌, ◌≤◌, ℕ, [], IsTrue, length, get_or, IfOk};
 ghost use Rattle.bit_rows.specs.Rows.{has_bit};
 ghost use Rattle.reach_bits.specs.Graph.{HasEdge, has_edge};
-ghost use Rattle.reach_bits.specs.Closing.{AreWide};
+ghost use Rattle.reach_bits.specs.private.Closing.{AreWide};
 ghost use Rattle.reach_bits.specs.private.Renewing.{IsOver};
 
 use crate::row::Row;

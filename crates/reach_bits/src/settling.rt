@@ -2,7 +2,7 @@
 ghost use Rattle.std.specs.Prelude.{◌≡◌, ◌↔◌, ◌*◌, ◌<◌, ◌≤◌, ℕ, IsTrue, false, length, IfSome, IfNone};
 ghost use Rattle.bit_rows.specs.Rows.{has_bit};
 ghost use Rattle.reach_bits.specs.Graph.{HasEdge, Leads, has_edge};
-ghost use Rattle.reach_bits.specs.Closing.{AreWide, IsRight};
+ghost use Rattle.reach_bits.specs.private.Closing.{AreWide, IsRight};
 ghost use Rattle.reach_bits.specs.private.Renewing.{IsPartlyRight};
 
 use crate::row::Row;

@@ -1,7 +1,8 @@
 //! Commands: after a failed allocation the state is the one before, and the same command is accepted later.
 use super::command_parser::read_command;
 use admin_mgr::State;
-use rbac_sets::{Command, CountSet, GrantSet, Name, NameSet, PairSet, Refusal};
+use chunked_sets::{ChunkedGrants, EntrySet};
+use rbac_sets::{Command, CountSet, Name, Refusal};
 use std::alloc::{AllocError, Global};
 use std::process::Abort;
 use std::test::Fail;
@@ -83,7 +84,12 @@ fn push_name(text: &mut String, name: &Name) -> Result<(), AllocError> {
     text.push_str(name.as_str())
 }
 
-fn push_names(text: &mut String, about: &str, names: &NameSet) -> Result<(), AllocError> {
+fn push_names(
+    text: &mut String,
+    about: &str,
+    names: &impl EntrySet<Name>,
+) -> Result<(), AllocError> {
+    let names = names.entries();
     if names.is_empty() {
         return Ok(());
     }
@@ -104,7 +110,12 @@ fn push_pair(text: &mut String, first: &Name, second: &Name) -> Result<(), Alloc
     push_part(text, second)
 }
 
-fn push_pairs(text: &mut String, about: &str, pairs: &PairSet) -> Result<(), AllocError> {
+fn push_pairs(
+    text: &mut String,
+    about: &str,
+    pairs: &impl EntrySet<(Name, Name)>,
+) -> Result<(), AllocError> {
+    let pairs = pairs.entries();
     if pairs.is_empty() {
         return Ok(());
     }
@@ -115,7 +126,7 @@ fn push_pairs(text: &mut String, about: &str, pairs: &PairSet) -> Result<(), All
     text.push_str("\n")
 }
 
-fn push_grants(text: &mut String, grants: &GrantSet) -> Result<(), AllocError> {
+fn push_grants(text: &mut String, grants: &ChunkedGrants) -> Result<(), AllocError> {
     if grants.is_empty() {
         return Ok(());
     }

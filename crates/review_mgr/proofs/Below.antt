@@ -85,22 +85,17 @@ pub record Reaches (edges : Pairs) (items : List Pair) (entries : List Bytes) : 
   pub all : (q : Bytes) → contains (from_list {R = name_cmp} entries) q ≡ is_reached edges items q
 
 -- without pairs there are none
-pub reaches_start : (edges : Pairs) (items : List Pair) (entries : List Bytes) → entries ≡ [] → Reaches edges (take 0 items) entries
+pub reaches_start : (edges : Pairs) (entries : List Bytes) → entries ≡ [] → Reaches edges [] entries
 unfolding IsStrictlySortedBy from_list
-reaches_start edges items entries none = subst (Reaches edges []) (sym none) (record { sorted = tt; all = λ q. contains-empty name_cmp q })
+reaches_start edges entries none = subst (Reaches edges []) (sym none) (record { sorted = tt; all = λ q. contains-empty name_cmp q })
 
 -- with the next role and its juniors inserted, it has those of one more pair
-pub reaches_put : (edges : Pairs) (entries more : List Bytes) (items : List Pair) (i : ℕ) (x : Pair) → i < length items → x ≡ get_or items i x → Reaches edges (take i items) entries
-    → IsStrictlySortedBy name_cmp more → ((q : Bytes) → contains (from_list {R = name_cmp} more) q ≡ (geq edges x.1 q || contains (from_list {R = name_cmp} entries) q)) → Reaches edges (take (i + 1) items) more
-reaches_put edges entries more items i x within is old sorted put = record {
+pub reaches_put : (edges : Pairs) (entries more : List Bytes) (items : List Pair) (x : Pair) → Reaches edges items entries
+    → IsStrictlySortedBy name_cmp more → ((q : Bytes) → contains (from_list {R = name_cmp} more) q ≡ (geq edges x.1 q || contains (from_list {R = name_cmp} entries) q)) → Reaches edges (items ++ x ∷ []) more
+reaches_put edges entries more items x old sorted put = record {
   sorted = sorted;
-  all = λ q. put q ∙ ap (λ b. geq edges x.1 q || b) (old.all q) ∙ sym (any-more (λ (pair : Pair). geq edges pair.1 q) items i x within is);
+  all = λ q. put q ∙ ap (λ b. geq edges x.1 q || b) (old.all q) ∙ sym (any-push (λ (pair : Pair). geq edges pair.1 q) items x);
 }
-
--- after the last of the pairs it has those of all pairs
-pub reached-all : (edges : Pairs) (entries : List Bytes) (items : List Pair) (i : ℕ) → length items ≤ i → Reaches edges (take i items) entries
-    → (q : Bytes) → contains (from_list {R = name_cmp} entries) q ≡ is_reached edges items q
-reached-all edges entries items i past all q = all.all q ∙ ap (λ ys. is_reached edges ys q) (take_whole i items past)
 
 -- ---- juniors of roles of a state are roles of the state
 

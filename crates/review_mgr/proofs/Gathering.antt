@@ -1,5 +1,5 @@
 -- What a loop collects: the values of a function at the items that pass a test, as a sorted list.
-use Rattle.std.proofs.Common.{◌≡◌, ℕ, ◌+◌, ◌<◌, ◌≤◌, Bool, true, false, cond, List, [], ◌∷◌, ◌++◌, length, map, take, get_or, refl, sym, ◌∙◌, ap, subst, inl, inr}
+use Rattle.std.proofs.Common.{◌≡◌, ℕ, ◌<◌, ◌≤◌, Bool, true, false, cond, List, [], ◌∷◌, ◌++◌, length, map, refl, sym, ◌∙◌, ap, subst, inl, inr}
 use Rattle.std.specs.Prelude.{IsTrue}
 use Rattle.std.specs.List as lists
 use Rattle.std.specs.List.{filter, HoldsAt}
@@ -9,12 +9,23 @@ use Rattle.std.specs.declared.cmp.Ordering.TheVariants.{Less, Equal, Greater}
 use Rattle.std.specs.Cmp.{IsTotalOrder}
 use Rattle.std.specs.FinMap.{IsAntisymmetric}
 use Rattle.std.specs.FinSet.{FinSet}
-use Rattle.std.proofs.lemmas.List.{take_more}
+use Rattle.std.proofs.lemmas.List.{append_assoc, append-nil}
 use Rattle.std.proofs.lemmas.Bool.{or_right}
 use Rattle.rbac_sets.specs.Sets.{from_list, insert, contains, members, retain, image}
 use Rattle.rbac_sets.proofs.SetLaws.{gathered_push, gathered-image, from_members, contains-insert, contains-insert-Decides, same_members, retain-all}
 use Rattle.rbac_sets.proofs.InOrder.{members-sorted, sorted-insert, from_list-insert, contains-found}
-use Rattle.rbac_sets.proofs.Runs.{take_whole}
+
+-- ---- the items of a loop: those that are done, and those that are left
+
+-- with the first of those that are left, one more is done
+pub split_next : {K : Type 0} (items done left rest : List K) (x : K) → left ≡ x ∷ rest → items ≡ done ++ left → items ≡ (done ++ x ∷ []) ++ rest
+split_next items done left rest x is so = so ∙ ap (λ ys. done ++ ys) is ∙ sym (append_assoc done (x ∷ []) rest)
+
+-- if none is left, all are done
+pub split_whole : {K : Type 0} (items done left : List K) → left ≡ [] → items ≡ done ++ left → items ≡ done
+split_whole items done left none so = so ∙ ap (λ ys. done ++ ys) none ∙ append-nil done
+
+-- ---- what is gathered
 
 -- the list has, in order, the values of f at the items that pass
 pub record Gathers {K J : Type 0} (Q : J → J → Ordering) (p : K → Bool) (f : K → J) (items : List K) (entries : List J) : Type 0 where
@@ -27,35 +38,33 @@ unfolding IsStrictlySortedBy
 sorted_start Q entries none = subst (IsStrictlySortedBy Q) (sym none) tt
 
 module _ {K J : Type 0} {R : K → K → Ordering} {Q : J → J → Ordering} (total : IsTotalOrder R) (exact : IsAntisymmetric R) (totals : IsTotalOrder Q) (exacts : IsAntisymmetric Q) (p : K → Bool) (f : K → J) where
-  pub gathers_start : (items : List K) (entries : List J) → entries ≡ [] → Gathers Q p f (take 0 items) entries
-  gathers_start items entries none = record { sorted = sorted_start Q entries none; all = ap (from_list {R = Q}) none }
+  pub gathers_start : (entries : List J) → entries ≡ [] → Gathers Q p f [] entries
+  gathers_start entries none = record { sorted = sorted_start Q entries none; all = ap (from_list {R = Q}) none }
 
-  module _ (items : List K) (i : ℕ) (x : K) (within : i < length items) (is : x ≡ get_or items i x) where
-    one_more : from_list {R = Q} (map f (filter p (take (i + 1) items))) ≡ cond (p x) (insert (from_list {R = Q} (map f (filter p (take i items)))) (f x)) (from_list {R = Q} (map f (filter p (take i items))))
-    one_more =
-        ap (λ ys. from_list {R = Q} (map f (filter p ys))) (take_more items i x within ∙ ap (λ y. take i items ++ y ∷ []) (sym is))
-        ∙ gathered_push total exact totals exacts p f (take i items) x
+  module _ (items : List K) (x : K) where
+    one_more : from_list {R = Q} (map f (filter p (items ++ x ∷ []))) ≡ cond (p x) (insert (from_list {R = Q} (map f (filter p items))) (f x)) (from_list {R = Q} (map f (filter p items)))
+    one_more = gathered_push total exact totals exacts p f items x
 
     -- an item that passes is inserted
-    pub gathers_put : (entries more : List J) → Gathers Q p f (take i items) entries → p x ≡ true → IsStrictlySortedBy Q more → from_list {R = Q} more ≡ insert (from_list {R = Q} entries) (f x)
-        → Gathers Q p f (take (i + 1) items) more
+    pub gathers_put : (entries more : List J) → Gathers Q p f items entries → p x ≡ true → IsStrictlySortedBy Q more → from_list {R = Q} more ≡ insert (from_list {R = Q} entries) (f x)
+        → Gathers Q p f (items ++ x ∷ []) more
     gathers_put entries more old passes sorted put = record {
       sorted = sorted;
-      all = put ∙ ap (λ s. insert s (f x)) old.all ∙ sym (one_more ∙ ap (λ b. cond b (insert (from_list {R = Q} (map f (filter p (take i items)))) (f x)) (from_list {R = Q} (map f (filter p (take i items))))) passes);
+      all = put ∙ ap (λ s. insert s (f x)) old.all ∙ sym (one_more ∙ ap (λ b. cond b (insert (from_list {R = Q} (map f (filter p items))) (f x)) (from_list {R = Q} (map f (filter p items)))) passes);
     }
 
     -- one that does not pass is skipped
-    pub gathers_skip : (entries : List J) → Gathers Q p f (take i items) entries → p x ≡ false → Gathers Q p f (take (i + 1) items) entries
+    pub gathers_skip : (entries : List J) → Gathers Q p f items entries → p x ≡ false → Gathers Q p f (items ++ x ∷ []) entries
     gathers_skip entries old fails = record {
       sorted = old.sorted;
-      all = old.all ∙ sym (one_more ∙ ap (λ b. cond b (insert (from_list {R = Q} (map f (filter p (take i items)))) (f x)) (from_list {R = Q} (map f (filter p (take i items))))) fails);
+      all = old.all ∙ sym (one_more ∙ ap (λ b. cond b (insert (from_list {R = Q} (map f (filter p items))) (f x)) (from_list {R = Q} (map f (filter p items)))) fails);
     }
 
   -- at the end it is the image, in order
-  pub gathered-members : (s : FinSet R) (items : List K) (i : ℕ) (entries : List J) → items ≡ members s → length items ≤ i → Gathers Q p f (take i items) entries → entries ≡ members (image {Q = Q} f (retain s p))
-  gathered-members s items i entries is past all =
+  pub gathered-members : (s : FinSet R) (items : List K) (entries : List J) → items ≡ members s → Gathers Q p f items entries → entries ≡ members (image {Q = Q} f (retain s p))
+  gathered-members s items entries is all =
       sym (members-sorted totals entries all.sorted)
-      ∙ ap members (all.all ∙ ap (λ ys. from_list {R = Q} (map f (filter p ys))) (take_whole i items past ∙ is)
+      ∙ ap members (all.all ∙ ap (λ ys. from_list {R = Q} (map f (filter p ys))) is
       ∙ gathered-image total exact totals exacts p f (members s) ∙ ap (λ t. image {Q = Q} f (retain t p)) (from_members total exact s))
 
 -- ---- each item passes

@@ -5,6 +5,7 @@ pub mod Counts
 pub mod Gathering
 pub mod Numbered
 pub mod Reached
+pub mod ReachedByParts
 pub mod Refusing
 pub mod ReportCounts
 pub mod RunsAndGrants

@@ -11,6 +11,7 @@ ghost use Rattle.review_mgr.specs.Review.{is_grant_of};
 use crate::intersection::is_granted;
 use crate::lookup::{activated_in, has_operation, has_session};
 use admin_mgr::State;
+use chunked_sets::Run;
 use rbac_sets::{BorrowedName, Name, Refusal};
 
 /// CheckAccess: whether the session may do the operation on the object. It may if the permission is
@@ -38,17 +39,17 @@ pub fn check_access(
     ensures refused { IfErr result (λ refusal. refused state.now.facts (CheckAccess session.now operation.now object.now) ≡ Some refusal) }
 {
     let activated = activated_in(state, session);
-    if !is_session(state, session, activated) {
+    if !is_session(state, session, &activated) {
         return Err(Refusal::NoSession);
     }
     let granted = granted_for(state, operation, object);
-    if !is_object(state, operation, object, granted) {
+    if !is_object(state, operation, object, &granted) {
         return Err(Refusal::NoObject);
     }
-    if !is_operation(state, operation, object, granted) {
+    if !is_operation(state, operation, object, &granted) {
         return Err(Refusal::NoOperation);
     }
-    Ok(has_access(state, session, operation, object, activated, granted))
+    Ok(has_access(state, session, operation, object, &activated, &granted))
 }
 
 // The grants of the permission.
@@ -56,14 +57,14 @@ pub(crate) fn granted_for<'a>(
     state: &'a State,
     operation: &BorrowedName<'_>,
     object: &BorrowedName<'_>,
-) -> &'a [(Name, Name, Name)]
-    ensures { result.now ≡ filter (is_grant_of object.now operation.now) (members state.now.facts.grants) }
+) -> Run<'a, (Name, Name, Name)>
+    ensures { result ≡ filter (is_grant_of object.now operation.now) (members state.now.facts.grants) }
 {
     state.grants().with_first((object, operation))
 }
 
 // Whether there is such a session. A session with an activated role has a user.
-fn is_session(state: &State, session: &BorrowedName<'_>, activated: &[(Name, Name)]) -> bool
+fn is_session(state: &State, session: &BorrowedName<'_>, activated: &Run<'_, (Name, Name)>) -> bool
     requires { activated.now ≡ run_of state.now.facts.active session.now }
     ensures { result ≡ has_session state.now.facts session.now }
 {
@@ -76,7 +77,7 @@ pub(crate) fn is_object(
     state: &State,
     operation: &BorrowedName<'_>,
     object: &BorrowedName<'_>,
-    granted: &[(Name, Name, Name)],
+    granted: &Run<'_, (Name, Name, Name)>,
 ) -> bool
     requires { granted.now ≡ filter (is_grant_of object.now operation.now) (members state.now.facts.grants) }
     ensures { result ≡ contains state.now.facts.objects object.now }
@@ -90,7 +91,7 @@ pub(crate) fn is_operation(
     state: &State,
     operation: &BorrowedName<'_>,
     object: &BorrowedName<'_>,
-    granted: &[(Name, Name, Name)],
+    granted: &Run<'_, (Name, Name, Name)>,
 ) -> bool
     requires { granted.now ≡ filter (is_grant_of object.now operation.now) (members state.now.facts.grants) }
     ensures { result ≡ has_operation state.now.facts operation.now }
@@ -106,8 +107,8 @@ fn has_access(
     session: &BorrowedName<'_>,
     operation: &BorrowedName<'_>,
     object: &BorrowedName<'_>,
-    activated: &[(Name, Name)],
-    granted: &[(Name, Name, Name)],
+    activated: &Run<'_, (Name, Name)>,
+    granted: &Run<'_, (Name, Name, Name)>,
 ) -> bool
     requires activated { activated.now ≡ run_of state.now.facts.active session.now }
     requires granted { granted.now ≡ filter (is_grant_of object.now operation.now) (members state.now.facts.grants) }

@@ -10,7 +10,8 @@ ghost use Rattle.admin_mgr.specs.private.HolderRoles.{is_reached};
 ghost use Rattle.review_mgr.specs.Review.{is_grant_of, permission_of};
 
 use admin_mgr::is_reached;
-use rbac_sets::{CountSet, Entry, GrantSet, Name, PairSet, Probe, Refusal, is_same, place};
+use chunked_sets::{ChunkedGrants, ChunkedPairs, EntrySet, Run};
+use rbac_sets::{CountSet, Entry, Name, Probe, Refusal, is_same, place};
 use role_order::RoleOrder;
 use std::alloc::Global;
 
@@ -50,7 +51,7 @@ fn put<K: Entry, P: Part<K>>(alloc: Global, entries: &mut Vec<K>, part: P) -> Re
 // The values of `part` at the items that pass the test, in order and each once.
 fn gather<'a, A: Entry, K: Entry, P: Part<K>, T: Fn(&A) -> bool, F: Fn(&'a A) -> P>(
     alloc: Global,
-    items: &'a [A],
+    items: &Run<'a, A>,
     test: T,
     part: F,
 ) -> Result<Vec<K>, Refusal>
@@ -62,7 +63,7 @@ fn gather<'a, A: Entry, K: Entry, P: Part<K>, T: Fn(&A) -> bool, F: Fn(&'a A) ->
     ensures cause { IfErr result (λ refusal. refusal ≡ Refusal.Memory) }
 {
     let mut entries = Vec::new(alloc);
-    for item in items {
+    for item in items.iter() {
         if test(item) {
             put(alloc, &mut entries, part(item))?;
         }
@@ -73,7 +74,7 @@ fn gather<'a, A: Entry, K: Entry, P: Part<K>, T: Fn(&A) -> bool, F: Fn(&'a A) ->
 // The values of `part` at the items, in order and each once.
 fn gather_all<'a, A: Entry, K: Entry, P: Part<K>, F: Fn(&'a A) -> P>(
     alloc: Global,
-    items: &'a [A],
+    items: &Run<'a, A>,
     part: F,
 ) -> Result<Vec<K>, Refusal>
     requires { F.IsAlwaysCallable part }
@@ -85,24 +86,32 @@ fn gather_all<'a, A: Entry, K: Entry, P: Part<K>, F: Fn(&'a A) -> P>(
 }
 
 // The first names of the pairs that have this second name.
-pub(crate) fn firsts_of(alloc: Global, pairs: &PairSet, second: &Name) -> Result<Vec<Name>, Refusal>
+pub(crate) fn firsts_of(
+    alloc: Global,
+    pairs: &ChunkedPairs,
+    second: &Name,
+) -> Result<Vec<Name>, Refusal>
     ensures ok { IfOk result (λ names. names.items ≡ members (firsts (set_of pair_cmp pairs.now) second.now)) }
     ensures cause { IfErr result (λ refusal. refusal ≡ Refusal.Memory) }
 {
     gather(
         alloc,
-        pairs.as_slice(),
+        &pairs.as_run(),
         |pair| is_same(&pair.1, second),
         |pair| &pair.0,
     )
 }
 
 // The second names of the pairs that have this first name.
-pub(crate) fn seconds_of(alloc: Global, pairs: &PairSet, first: &Name) -> Result<Vec<Name>, Refusal>
-    ensures ok { IfOk result (λ names. names.items ≡ members (seconds (set_of pair_cmp pairs.now) first.now)) }
+pub(crate) fn seconds_of<P: EntrySet<(Name, Name)>>(
+    alloc: Global,
+    pairs: &P,
+    first: &Name,
+) -> Result<Vec<Name>, Refusal>
+    ensures ok { IfOk result (λ names. names.items ≡ members (seconds (set_of pair_cmp (P.stored pairs.now)) first.now)) }
     ensures cause { IfErr result (λ refusal. refusal ≡ Refusal.Memory) }
 {
-    gather_all(alloc, pairs.with_first(first), |pair| &pair.1)
+    gather_all(alloc, &pairs.entries_with_first(first), |pair| &pair.1)
 }
 
 // The names of the sets that have a cardinality.
@@ -110,14 +119,14 @@ pub(crate) fn names_of(alloc: Global, cardinalities: &CountSet) -> Result<Vec<Na
     ensures ok { IfOk result (λ names. names.items ≡ members (image {Q = name_cmp} (λ (entry : Cardinality). entry.0) (set_of cardinality_cmp cardinalities.now))) }
     ensures cause { IfErr result (λ refusal. refusal ≡ Refusal.Memory) }
 {
-    gather_all(alloc, cardinalities.as_slice(), |entry| &entry.0)
+    gather_all(alloc, &Run::of(cardinalities.as_slice()), |entry| &entry.0)
 }
 
 // The users that are assigned to the role or to a senior of it.
 pub(crate) fn users_above(
     alloc: Global,
     order: &RoleOrder,
-    assignments: &PairSet,
+    assignments: &ChunkedPairs,
     role: &Name,
 ) -> Result<Vec<Name>, Refusal>
     ensures ok { IfOk result (λ names. names.items
@@ -127,7 +136,7 @@ pub(crate) fn users_above(
     let above = order.seniors(alloc, role)?;
     gather(
         alloc,
-        assignments.as_slice(),
+        &assignments.as_run(),
         |pair| is_same(&pair.1, role) || above.contains(&pair.1),
         |pair| &pair.0,
     )
@@ -167,14 +176,14 @@ fn roles_below(alloc: Global, order: &RoleOrder, role: &Name) -> Result<Vec<Name
 pub(crate) fn roles_reached(
     alloc: Global,
     order: &RoleOrder,
-    held: &[(Name, Name)],
+    held: &Run<'_, (Name, Name)>,
 ) -> Result<Vec<Name>, Refusal>
     ensures sorted { IfOk result (λ names. IsStrictlySortedBy name_cmp names.items) }
     ensures reached { IfOk result (λ names. (role : Bytes) → contains (from_list {R = name_cmp} names.items) role ≡ is_reached order.now.edges held.now role) }
     ensures cause { IfErr result (λ refusal. refusal ≡ Refusal.Memory) }
 {
     let mut names = Vec::new(alloc);
-    for pair in held {
+    for pair in held.iter() {
         put_below(alloc, order, &mut names, &pair.1)?;
     }
     Ok(names)
@@ -192,7 +201,7 @@ fn has_name(names: &[Name], name: &Name) -> bool
 pub(crate) fn permissions_below(
     alloc: Global,
     order: &RoleOrder,
-    grants: &GrantSet,
+    grants: &ChunkedGrants,
     role: &Name,
 ) -> Result<Vec<(Name, Name)>, Refusal>
     ensures ok { IfOk result (λ pairs. pairs.items ≡ members (image {Q = pair_cmp} permission_of (retain (set_of triple_cmp grants.now) (λ grant. geq order.now.edges role.now grant.2)))) }
@@ -201,7 +210,7 @@ pub(crate) fn permissions_below(
     let roles = roles_below(alloc, order, role)?;
     gather(
         alloc,
-        grants.as_slice(),
+        &grants.as_run(),
         |grant| has_name(&roles, &grant.2),
         |grant| (&grant.0, &grant.1),
     )
@@ -211,8 +220,8 @@ pub(crate) fn permissions_below(
 pub(crate) fn permissions_reached(
     alloc: Global,
     order: &RoleOrder,
-    grants: &GrantSet,
-    held: &[(Name, Name)],
+    grants: &ChunkedGrants,
+    held: &Run<'_, (Name, Name)>,
 ) -> Result<Vec<(Name, Name)>, Refusal>
     ensures ok { IfOk result (λ pairs. pairs.items ≡ members (image {Q = pair_cmp} permission_of (retain (set_of triple_cmp grants.now) (λ grant. is_reached order.now.edges held.now grant.2)))) }
     ensures cause { IfErr result (λ refusal. refusal ≡ Refusal.Memory) }
@@ -220,7 +229,7 @@ pub(crate) fn permissions_reached(
     let roles = roles_reached(alloc, order, held)?;
     gather(
         alloc,
-        grants.as_slice(),
+        &grants.as_run(),
         |grant| has_name(&roles, &grant.2),
         |grant| (&grant.0, &grant.1),
     )
@@ -230,7 +239,7 @@ pub(crate) fn permissions_reached(
 pub(crate) fn operations_below(
     alloc: Global,
     order: &RoleOrder,
-    grants: &GrantSet,
+    grants: &ChunkedGrants,
     role: &Name,
     object: &Name,
 ) -> Result<Vec<Name>, Refusal>
@@ -240,7 +249,7 @@ pub(crate) fn operations_below(
 {
     gather(
         alloc,
-        grants.with_first(object),
+        &grants.with_first(object),
         |grant| order.geq(role, &grant.2),
         |grant| &grant.1,
     )
@@ -250,8 +259,8 @@ pub(crate) fn operations_below(
 pub(crate) fn operations_reached(
     alloc: Global,
     order: &RoleOrder,
-    grants: &GrantSet,
-    held: &[(Name, Name)],
+    grants: &ChunkedGrants,
+    held: &Run<'_, (Name, Name)>,
     object: &Name,
 ) -> Result<Vec<Name>, Refusal>
     ensures ok { IfOk result (λ names. names.items ≡ members (image {Q = name_cmp} (λ (grant : Triple). grant.1)
@@ -260,7 +269,7 @@ pub(crate) fn operations_reached(
 {
     gather(
         alloc,
-        grants.with_first(object),
+        &grants.with_first(object),
         |grant| is_reached(order, held, &grant.2),
         |grant| &grant.1,
     )
@@ -269,7 +278,7 @@ pub(crate) fn operations_reached(
 // The roles of the grants of the permission.
 pub(crate) fn roles_granted(
     alloc: Global,
-    grants: &GrantSet,
+    grants: &ChunkedGrants,
     object: &Name,
     operation: &Name,
 ) -> Result<Vec<Name>, Refusal>
@@ -278,7 +287,7 @@ pub(crate) fn roles_granted(
 {
     gather_all(
         alloc,
-        grants.with_first((object, operation)),
+        &grants.with_first((object, operation)),
         |grant| &grant.2,
     )
 }

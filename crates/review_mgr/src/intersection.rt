@@ -11,6 +11,7 @@ ghost use Rattle.review_mgr.specs.private.Intersection.{may_have, meets, third_c
 
 use crate::fingerprints::{fingerprints_of, may_have};
 use admin_mgr::is_reached;
+use chunked_sets::Run;
 use rbac_sets::{Name, PairSet};
 use role_order::RoleOrder;
 use std::cmp::Ordering;
@@ -168,11 +169,7 @@ fn is_granted_by_fingerprints(
 
 // Whether the role of one of the grants is the second part of one of `held` or a junior of one. One or two
 // grants are tested one by one, which costs less than a search for the runs.
-pub(crate) fn is_granted(
-    order: &RoleOrder,
-    held: &[(Name, Name)],
-    grants: &[(Name, Name, Name)],
-) -> bool
+fn is_part_granted(order: &RoleOrder, held: &[(Name, Name)], grants: &[(Name, Name, Name)]) -> bool
     requires held { IsStrictlySortedBy second_cmp held.now }
     requires grants { IsStrictlySortedBy third_cmp grants.now }
     ensures { result ≡ list_any (λ (grant : Triple). is_reached order.now.edges held.now grant.2) grants.now }
@@ -183,5 +180,46 @@ pub(crate) fn is_granted(
     if grants.len() > 2 {
         return is_granted_by_runs(order, held, grants, &[]);
     }
-    grants.iter().any(|grant| is_reached(order, held, &grant.2))
+    let held = Run::of(held);
+    grants
+        .iter()
+        .any(|grant| is_reached(order, &held, &grant.2))
+}
+
+// The same for `held` in several parts.
+fn is_granted_to_parts(
+    order: &RoleOrder,
+    held: &Run<'_, (Name, Name)>,
+    grants: &[(Name, Name, Name)],
+) -> bool
+    requires held { IsStrictlySortedBy second_cmp held.now }
+    requires grants { IsStrictlySortedBy third_cmp grants.now }
+    ensures { result ≡ list_any (λ (grant : Triple). is_reached order.now.edges held.now grant.2) grants.now }
+{
+    let mut entries = held.iter();
+    while let Some(part) = entries.next_part() {
+        if is_part_granted(order, part, grants) {
+            return true;
+        }
+    }
+    false
+}
+
+// The same for grants in several parts, too.
+pub(crate) fn is_granted(
+    order: &RoleOrder,
+    held: &Run<'_, (Name, Name)>,
+    grants: &Run<'_, (Name, Name, Name)>,
+) -> bool
+    requires held { IsStrictlySortedBy second_cmp held.now }
+    requires grants { IsStrictlySortedBy third_cmp grants.now }
+    ensures { result ≡ list_any (λ (grant : Triple). is_reached order.now.edges held.now grant.2) grants.now }
+{
+    let mut entries = grants.iter();
+    while let Some(part) = entries.next_part() {
+        if is_granted_to_parts(order, held, part) {
+            return true;
+        }
+    }
+    false
 }

@@ -8,7 +8,8 @@ ghost use Rattle.admin_mgr.specs.private.HolderRoles.{run_of};
 ghost use Rattle.review_mgr.specs.Questions.{has_operation};
 
 use admin_mgr::State;
-use rbac_sets::{BorrowedName, Name, PairSet};
+use chunked_sets::{ChunkedPairs, Run};
+use rbac_sets::{BorrowedName, Name};
 
 // Whether there is a session of this name.
 pub(crate) fn has_session(state: &State, session: &BorrowedName<'_>) -> bool
@@ -42,19 +43,18 @@ pub(crate) fn has_operation(
     ensures { result ≡ has_operation state.now.facts operation.now }
 {
     state.permissions().contains((object, operation))
-        || has_operation_of(state.permissions().as_slice(), operation)
+        || has_operation_of(&state.permissions().as_run(), operation)
 }
 
 // Whether one of the pairs has this first name.
-#[tactic(auto, using(rbac_sets::proofs::Lists::any_filter), unfolding(rbac_sets::specs::Sets::any))]
-fn has_first(pairs: &PairSet, first: &BorrowedName<'_>) -> bool
+fn has_first(pairs: &ChunkedPairs, first: &BorrowedName<'_>) -> bool
     ensures { result ≡ any (λ (pair : Pair). same_name pair.0 first.now) (set_of pair_cmp pairs.now) }
 {
     !pairs.with_first(first).is_empty()
 }
 
 // Whether one of the permissions, as pairs (object, operation), has the operation.
-fn has_operation_of(permissions: &[(Name, Name)], operation: &BorrowedName<'_>) -> bool
+fn has_operation_of(permissions: &Run<'_, (Name, Name)>, operation: &BorrowedName<'_>) -> bool
     ensures { result ≡ list_any (λ (permission : Pair). same_name permission.1 operation.now) permissions.now }
 {
     permissions
@@ -63,15 +63,18 @@ fn has_operation_of(permissions: &[(Name, Name)], operation: &BorrowedName<'_>) 
 }
 
 // The roles that are assigned to the user, as pairs (user, role).
-pub(crate) fn assigned_to<'a>(state: &'a State, user: &Name) -> &'a [(Name, Name)]
-    ensures { result.now ≡ run_of state.now.facts.assignments user.now }
+pub(crate) fn assigned_to<'a>(state: &'a State, user: &Name) -> Run<'a, (Name, Name)>
+    ensures { result ≡ run_of state.now.facts.assignments user.now }
 {
     state.assignments().with_first(user)
 }
 
 // The roles that were activated in the session, as pairs (session, role).
-pub(crate) fn activated_in<'a>(state: &'a State, session: &BorrowedName<'_>) -> &'a [(Name, Name)]
-    ensures { result.now ≡ run_of state.now.facts.active session.now }
+pub(crate) fn activated_in<'a>(
+    state: &'a State,
+    session: &BorrowedName<'_>,
+) -> Run<'a, (Name, Name)>
+    ensures { result ≡ run_of state.now.facts.active session.now }
 {
     state.active().with_first(session)
 }

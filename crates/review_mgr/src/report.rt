@@ -40,7 +40,7 @@ fn number_of(state: &State, role: &Name) -> usize
 }
 
 // How many users are assigned to the role.
-fn count_assigned(state: &State, numbers: &Numbers, role: &Name) -> u64
+fn count_assigned(state: &State, numbers: &Numbers<'_>, role: &Name) -> u64
     requires numbering { IsNumbering state.now.facts numbers.now }
     requires role { IsTrue (contains state.now.facts.roles role.now) }
     ensures { result ≡ len (assigned_users state.now.facts role.now) }
@@ -50,7 +50,7 @@ fn count_assigned(state: &State, numbers: &Numbers, role: &Name) -> u64
 }
 
 // How many users are authorized for the role.
-fn count_authorized(state: &State, numbers: &Numbers, role: &Name) -> u64
+fn count_authorized(state: &State, numbers: &Numbers<'_>, role: &Name) -> u64
     requires numbering { IsNumbering state.now.facts numbers.now }
     requires role { IsTrue (contains state.now.facts.roles role.now) }
     ensures { result ≡ len (authorized_users state.now.facts role.now) }
@@ -60,7 +60,7 @@ fn count_authorized(state: &State, numbers: &Numbers, role: &Name) -> u64
 }
 
 // How many permissions are granted to the role directly.
-fn count_granted(state: &State, numbers: &Numbers, role: &Name) -> u64
+fn count_granted(state: &State, numbers: &Numbers<'_>, role: &Name) -> u64
     requires numbering { IsNumbering state.now.facts numbers.now }
     requires role { IsTrue (contains state.now.facts.roles role.now) }
     ensures { result ≡ count (λ (grant : Triple). same_name grant.2 role.now) state.now.facts.grants }
@@ -70,7 +70,7 @@ fn count_granted(state: &State, numbers: &Numbers, role: &Name) -> u64
 }
 
 // How many permissions the role has, by its own grants and those of its juniors.
-fn count_permitted(state: &State, numbers: &Numbers, role: &Name) -> u64
+fn count_permitted(state: &State, numbers: &Numbers<'_>, role: &Name) -> u64
     requires numbering { IsNumbering state.now.facts numbers.now }
     requires role { IsTrue (contains state.now.facts.roles role.now) }
     ensures { result ≡ len (authorized_permissions state.now.facts role.now) }
@@ -87,7 +87,7 @@ fn count_juniors(state: &State, role: &Name) -> u64
 }
 
 // How many seniors the role has. The matrix counts the role itself with them.
-fn count_seniors(state: &State, numbers: &Numbers, role: &Name) -> u64
+fn count_seniors(state: &State, numbers: &Numbers<'_>, role: &Name) -> u64
     requires numbering { IsNumbering state.now.facts numbers.now }
     requires role { IsTrue (contains state.now.facts.roles role.now) }
     ensures { result ≡ len (seniors state.now.facts.edges role.now) }
@@ -114,7 +114,12 @@ fn text_of(alloc: Global, counts: &[u64], role: &Name) -> Result<String, Refusal
 
 // The line of a role.
 #[tactic(auto, unfolding(crate::specs::Report::line_of))]
-fn line_of(alloc: Global, state: &State, numbers: &Numbers, role: &Name) -> Result<String, Refusal>
+fn line_of(
+    alloc: Global,
+    state: &State,
+    numbers: &Numbers<'_>,
+    role: &Name,
+) -> Result<String, Refusal>
     requires numbering { IsNumbering state.now.facts numbers.now }
     requires role { IsTrue (contains state.now.facts.roles role.now) }
     ensures ok { IfOk result (λ text. string_bytes text ≡ line_of state.now.facts role.now) }

@@ -9,6 +9,7 @@ ghost use Rattle.review_mgr.specs.private.Usable.{could_use, has_usable};
 
 use crate::access::{granted_for, is_object, is_operation};
 use admin_mgr::{State, is_reached, stands_alone};
+use chunked_sets::Run;
 use rbac_sets::{BorrowedName, Name, Refusal};
 
 /// Whether the user could do the operation on the object in some session: whether the user isn't locked, and is
@@ -35,13 +36,13 @@ pub fn check_user_access(
         return Err(Refusal::NoUser);
     }
     let granted = granted_for(state, operation, object);
-    if !is_object(state, operation, object, granted) {
+    if !is_object(state, operation, object, &granted) {
         return Err(Refusal::NoObject);
     }
-    if !is_operation(state, operation, object, granted) {
+    if !is_operation(state, operation, object, &granted) {
         return Err(Refusal::NoOperation);
     }
-    Ok(could_have_access(state, user, operation, object, granted))
+    Ok(could_have_access(state, user, operation, object, &granted))
 }
 
 // Whether the user isn't locked, and one of these grants of the permission is to a role that the user could have in a
@@ -51,7 +52,7 @@ fn could_have_access(
     user: &BorrowedName<'_>,
     operation: &BorrowedName<'_>,
     object: &BorrowedName<'_>,
-    granted: &[(Name, Name, Name)],
+    granted: &Run<'_, (Name, Name, Name)>,
 ) -> bool
     requires { granted.now ≡ filter (is_grant_of object.now operation.now) (members state.now.facts.grants) }
     ensures { result ≡ could_have_access state.now.facts user.now operation.now object.now }
@@ -61,22 +62,26 @@ fn could_have_access(
 }
 
 // Whether the user isn't locked, and one of the grants is to a role for which the user is authorized and that stands alone.
-fn is_usable(state: &State, user: &BorrowedName<'_>, granted: &[(Name, Name, Name)]) -> bool
+fn is_usable(state: &State, user: &BorrowedName<'_>, granted: &Run<'_, (Name, Name, Name)>) -> bool
     ensures { result ≡ could_use state.now.facts user.now granted.now }
 {
-    !state.locked().contains(user) && has_usable(state, assigned_to_user(state, user), granted)
+    !state.locked().contains(user) && has_usable(state, &assigned_to_user(state, user), granted)
 }
 
 // The roles that are assigned to the user, as pairs (user, role).
-fn assigned_to_user<'a>(state: &'a State, user: &BorrowedName<'_>) -> &'a [(Name, Name)]
-    ensures { result.now ≡ run_of state.now.facts.assignments user.now }
+fn assigned_to_user<'a>(state: &'a State, user: &BorrowedName<'_>) -> Run<'a, (Name, Name)>
+    ensures { result ≡ run_of state.now.facts.assignments user.now }
 {
     state.assignments().with_first(user)
 }
 
 // Whether one of the grants is to a role that is one of `held`, pairs (user, role), or a junior of one, and that stands
 // alone.
-fn has_usable(state: &State, held: &[(Name, Name)], granted: &[(Name, Name, Name)]) -> bool
+fn has_usable(
+    state: &State,
+    held: &Run<'_, (Name, Name)>,
+    granted: &Run<'_, (Name, Name, Name)>,
+) -> bool
     ensures { result ≡ has_usable state.now.facts held.now granted.now }
 {
     granted.iter().any(|grant| is_reached(state.order(), held, &grant.2)

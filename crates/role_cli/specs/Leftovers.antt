@@ -133,7 +133,7 @@ LeavesClosed before path _ call_failed paths now = ⊥
 -- that is no opening. The file of work that was done is an office's.
 abbrev pub LeavesPaths : {F : Type 0} {g : Ghosts F}
     → Choice → List ℕ → (has_failed : Bool) → StoreAfter F g → (failed now_failed : ℕ) → (paths settled now : Option Paths) → Type 0
-LeavesPaths chosen path has_failed after.Untouched failed now_failed paths settled now = now ≡ paths
+LeavesPaths chosen path has_failed after.Untouched failed now_failed paths settled now = (settled ≡ paths) × (now ≡ paths)
 LeavesPaths chosen path has_failed (after.Unopened opened) failed now_failed paths settled now =
     (before : PathState) × IfSome paths (IsBefore chosen path before) × ChangesOffice path paths settled
     × LeavesUnopened before path opened (HasRisen (one_more failed) now_failed) settled now

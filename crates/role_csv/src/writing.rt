@@ -7,6 +7,7 @@ ghost use Rattle.role_csv.specs.Export.{export, exported, line_of};
 ghost use Rattle.role_csv.specs.private.Reading.{writer_bytes};
 
 use admin_mgr::State;
+use chunked_sets::Run;
 use csv::{Writer, WriterBuilder};
 use rbac_sets::{Fault, Name, Refusal, Sink, write_all};
 use std::alloc::Global;
@@ -31,7 +32,7 @@ pub fn write_assignments<W: Sink>(alloc: Global, state: &State, sink: &mut W) ->
     ensures cause { IfErr result (λ refusal. (refusal ≡ Refusal.Memory) ⊎ (refusal ≡ Refusal.Store)) }
     ensures store { result ≡ Err Refusal.Store → HasRisen (W.failed sink.old) (W.failed sink.new) ⊎ HasRisen (W.idle sink.old) (W.idle sink.new) }
 {
-    let text = export_text(alloc, state.assignments().as_slice())?;
+    let text = export_text(alloc, &state.assignments().as_run())?;
     match write_all(sink, &text) {
         Ok(()) => Ok(()),
         Err(Fault) => Err(Refusal::Store),
@@ -39,14 +40,14 @@ pub fn write_assignments<W: Sink>(alloc: Global, state: &State, sink: &mut W) ->
 }
 
 // The header and these pairs as text.
-fn export_text(alloc: Global, pairs: &[(Name, Name)]) -> Result<Vec<u8>, Refusal>
+fn export_text(alloc: Global, pairs: &Run<'_, (Name, Name)>) -> Result<Vec<u8>, Refusal>
     ensures text { IfOk result (λ text. text.items ≡ export pairs.now) }
     ensures cause { IfErr result (λ refusal. refusal ≡ Refusal.Memory) }
 {
     let mut writer = WriterBuilder::new().from_writer(Vec::new(alloc));
     write_pair(&mut writer, "user", "role")?;
-    for (user, role) in pairs {
-        write_pair(&mut writer, user.as_str(), role.as_str())?;
+    for pair in pairs.iter() {
+        write_pair(&mut writer, pair.0.as_str(), pair.1.as_str())?;
     }
     match writer.into_inner() {
         Ok(text) => Ok(text),

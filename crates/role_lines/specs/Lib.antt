@@ -3,6 +3,7 @@ pub mod OfficeInMemory
 pub mod Outcome
 pub mod Revision
 pub mod RowParts
+pub mod RowsLeft
 pub mod StateWithSeed
 pub mod StoredRow
 pub mod private

@@ -22,7 +22,7 @@
 
 pub use deciding::{decide, decide_for_user};
 pub use office::MemoryOffice;
-pub use rows::{RowParts, row_at, row_of, table_numbered};
+pub use rows::{RowParts, TableRows, row_at, row_of, rows_from, table_numbered};
 
 mod answering;
 pub mod deciding;

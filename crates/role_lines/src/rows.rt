@@ -1,13 +1,18 @@
 //! The rows of an office by their parts, to save an office and to load it again.
-ghost use Rattle.std.specs.Prelude.{◌≡◌, ◌⊎◌, ◌≤◌, IfOk, IfErr, IfSome, IfNone, option_map};
+ghost use Rattle.std.specs.Prelude.{◌≡◌, ◌⊎◌, ◌+◌, ◌≤◌, ℕ, IfOk, IfErr, IfSome, IfNone, option_map, slice_get};
+ghost use Rattle.std.specs.Iterator.{YieldsFirstBy, item_count};
+ghost use Rattle.rbac_sets.specs.Sets.{cardinality_cmp, members, name_cmp, pair_cmp, triple_cmp};
+ghost use Rattle.rbac_sets.specs.SortedSet.{set_of};
 ghost use Rattle.rbac_sets.specs.Table.{number_of, relation_count};
-ghost use Rattle.role_lines.specs.StoredRow.{HasNames, IsRowAt, cardinality_at, name_at, pair_at, parts, row_with, triple_at};
+ghost use Rattle.role_lines.specs.StoredRow.{HasNames, IsRowAt, cardinality_at, cardinality_parts, name_at, name_parts, pair_at, pair_parts, parts, row_with, triple_at, triple_parts};
+ghost use Rattle.role_lines.specs.RowsLeft.{rows_left};
 ghost use Rattle.role_lines.specs.Decision.{IsNameText};
 ghost use Rattle.role_lines.specs.RowParts.{parts_of};
 
 use crate::deciding::name;
 use admin_mgr::State;
-use rbac_sets::{Name, Refusal, Row, Table};
+use chunked_sets::{ChunkedGrants, Entries, EntrySet, Run};
+use rbac_sets::{CountSet, Name, Refusal, Row, Table};
 use std::alloc::Global;
 
 /// The parts of a row: up to three names, and a number. A name that the table of the row doesn't have is empty, and
@@ -24,79 +29,156 @@ pub struct RowParts<'a> {
     pub number: u32,
 }
 
+/// Rows of a table one by one, in byte order.
+#[derive(Drop)]
+pub enum TableRows<'a> {
+    /// Each row is a name.
+    Names(Entries<'a, Name>),
+    /// Each row is a pair of names.
+    Pairs(Entries<'a, (Name, Name)>),
+    /// Each row is a grant.
+    Grants(Entries<'a, (Name, Name, Name)>),
+    /// Each row is a separation of duty set with its cardinality.
+    Cardinalities(Entries<'a, (Name, u32)>),
+}
+
+impl<'a> Iterator for TableRows<'a> {
+    type Item = RowParts<'a>;
+
+    ghost next_gives = { YieldsFirstBy parts_of rows_left };
+
+    ghost remaining = { item_count rows_left };
+
+    fn next(&mut self) -> Option<RowParts<'a>> {
+        match self {
+            TableRows::Names(names) => Some(name_parts(names.next()?)),
+            TableRows::Pairs(pairs) => Some(pair_parts(pairs.next()?)),
+            TableRows::Grants(grants) => Some(grant_parts(grants.next()?)),
+            TableRows::Cardinalities(sets) => Some(cardinality_parts(sets.next()?)),
+        }
+    }
+}
+
+impl<'a> TableRows<'a> {
+    /// These names from this place on, as rows.
+    pub fn of_names(names: &'a [Name], index: usize) -> TableRows<'a>
+        ensures { (place : ℕ) → slice_get (rows_left result) place ≡ name_at names.now (index + place) }
+    {
+        TableRows::Names(Run::of(names).skip(index).iter())
+    }
+
+    /// These pairs from this place on, as rows.
+    pub fn of_pairs(pairs: &'a [(Name, Name)], index: usize) -> TableRows<'a>
+        ensures { (place : ℕ) → slice_get (rows_left result) place ≡ pair_at pairs.now (index + place) }
+    {
+        TableRows::Pairs(Run::of(pairs).skip(index).iter())
+    }
+}
+
+/// The rows of the table, in byte order, from this place on. None if the table has no more than `index` rows.
+pub fn rows_from(state: &State, table: Table, index: usize) -> TableRows<'_>
+    ensures { (place : ℕ) → IsRowAt state.now.facts table (index + place) (slice_get (rows_left result) place) }
+{
+    match table {
+        Table::Users => names_from(state.users(), index),
+        Table::Roles => names_from(state.roles(), index),
+        Table::Objects => names_from(state.objects(), index),
+        Table::Permissions => pairs_from(state.permissions(), index),
+        Table::Assignments => pairs_from(state.assignments(), index),
+        Table::Inheritances => pairs_from(state.order().edges(), index),
+        Table::ClosurePairs => pairs_from(state.order().pairs(), index),
+        Table::StaticMembers => pairs_from(state.ssd_members(), index),
+        Table::DynamicMembers => pairs_from(state.dsd_members(), index),
+        Table::Sessions => pairs_from(state.sessions(), index),
+        Table::ActivatedRoles => pairs_from(state.active(), index),
+        Table::Grants => grants_from(state.grants(), index),
+        Table::StaticCardinalities => cardinalities_from(state.ssd_cardinalities(), index),
+        Table::DynamicCardinalities => cardinalities_from(state.dsd_cardinalities(), index),
+        Table::Locks => names_from(state.locked(), index),
+    }
+}
+
 /// The row at this place of the table, whose rows are in byte order. `None` if the table has fewer rows.
 pub fn row_at(state: &State, table: Table, index: usize) -> Option<RowParts<'_>>
     ensures { IsRowAt state.now.facts table index (option_map parts_of result) }
 {
-    match table {
-        Table::Users => name_at(state.users().as_slice(), index),
-        Table::Roles => name_at(state.roles().as_slice(), index),
-        Table::Objects => name_at(state.objects().as_slice(), index),
-        Table::Permissions => pair_at(state.permissions().as_slice(), index),
-        Table::Assignments => pair_at(state.assignments().as_slice(), index),
-        Table::Inheritances => pair_at(state.order().edges().as_slice(), index),
-        Table::ClosurePairs => pair_at(state.order().pairs().as_slice(), index),
-        Table::StaticMembers => pair_at(state.ssd_members().as_slice(), index),
-        Table::DynamicMembers => pair_at(state.dsd_members().as_slice(), index),
-        Table::Sessions => pair_at(state.sessions().as_slice(), index),
-        Table::ActivatedRoles => pair_at(state.active().as_slice(), index),
-        Table::Grants => triple_at(state.grants().as_slice(), index),
-        Table::StaticCardinalities => cardinality_at(state.ssd_cardinalities().as_slice(), index),
-        Table::DynamicCardinalities => cardinality_at(state.dsd_cardinalities().as_slice(), index),
-        Table::Locks => name_at(state.locked().as_slice(), index),
-    }
+    rows_from(state, table, index).next()
 }
 
-// The parts of the name at this place.
-fn name_at(names: &[Name], index: usize) -> Option<RowParts<'_>>
-    ensures { option_map parts_of result ≡ name_at names.now index }
+// The names from this place on.
+fn names_from<S: EntrySet<Name>>(names: &S, index: usize) -> TableRows<'_>
+    ensures { (place : ℕ) → slice_get (rows_left result) place ≡ name_at (members (set_of name_cmp (S.stored names.now))) (index + place) }
 {
-    let name = names.get(index)?;
-    Some(RowParts {
+    TableRows::Names(names.entries().skip(index).iter())
+}
+
+// The pairs from this place on.
+fn pairs_from<S: EntrySet<(Name, Name)>>(pairs: &S, index: usize) -> TableRows<'_>
+    ensures { (place : ℕ) → slice_get (rows_left result) place ≡ pair_at (members (set_of pair_cmp (S.stored pairs.now))) (index + place) }
+{
+    TableRows::Pairs(pairs.entries().skip(index).iter())
+}
+
+// The grants from this place on.
+fn grants_from(grants: &ChunkedGrants, index: usize) -> TableRows<'_>
+    ensures { (place : ℕ) → slice_get (rows_left result) place ≡ triple_at (members (set_of triple_cmp grants.now)) (index + place) }
+{
+    TableRows::Grants(grants.entries().skip(index).iter())
+}
+
+// The sets with their cardinalities from this place on.
+fn cardinalities_from(sets: &CountSet, index: usize) -> TableRows<'_>
+    ensures { (place : ℕ) → slice_get (rows_left result) place ≡ cardinality_at (members (set_of cardinality_cmp sets.now)) (index + place) }
+{
+    TableRows::Cardinalities(sets.entries().skip(index).iter())
+}
+
+// The parts of a name.
+fn name_parts(name: &Name) -> RowParts<'_>
+    ensures { parts_of result ≡ name_parts name.now }
+{
+    RowParts {
         first: name.as_str().as_bytes(),
         second: b"",
         third: b"",
         number: 0,
-    })
+    }
 }
 
-// The parts of the pair at this place.
-fn pair_at(pairs: &[(Name, Name)], index: usize) -> Option<RowParts<'_>>
-    ensures { option_map parts_of result ≡ pair_at pairs.now index }
+// The parts of a pair.
+fn pair_parts(pair: &(Name, Name)) -> RowParts<'_>
+    ensures { parts_of result ≡ pair_parts pair.now }
 {
-    let pair = pairs.get(index)?;
-    Some(RowParts {
+    RowParts {
         first: pair.0.as_str().as_bytes(),
         second: pair.1.as_str().as_bytes(),
         third: b"",
         number: 0,
-    })
+    }
 }
 
-// The parts of the triple at this place.
-fn triple_at(triples: &[(Name, Name, Name)], index: usize) -> Option<RowParts<'_>>
-    ensures { option_map parts_of result ≡ triple_at triples.now index }
+// The parts of a grant.
+fn grant_parts(grant: &(Name, Name, Name)) -> RowParts<'_>
+    ensures { parts_of result ≡ triple_parts grant.now }
 {
-    let triple = triples.get(index)?;
-    Some(RowParts {
-        first: triple.0.as_str().as_bytes(),
-        second: triple.1.as_str().as_bytes(),
-        third: triple.2.as_str().as_bytes(),
+    RowParts {
+        first: grant.0.as_str().as_bytes(),
+        second: grant.1.as_str().as_bytes(),
+        third: grant.2.as_str().as_bytes(),
         number: 0,
-    })
+    }
 }
 
-// The parts of the set at this place, with its cardinality.
-fn cardinality_at(entries: &[(Name, u32)], index: usize) -> Option<RowParts<'_>>
-    ensures { option_map parts_of result ≡ cardinality_at entries.now index }
+// The parts of a set with its cardinality.
+fn cardinality_parts(entry: &(Name, u32)) -> RowParts<'_>
+    ensures { parts_of result ≡ cardinality_parts entry.now }
 {
-    let entry = entries.get(index)?;
-    Some(RowParts {
+    RowParts {
         first: entry.0.as_str().as_bytes(),
         second: b"",
         third: b"",
         number: entry.1,
-    })
+    }
 }
 
 /// The table with this number, or `None` if there are fewer.

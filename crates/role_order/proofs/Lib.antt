@@ -3,6 +3,7 @@ pub mod Deciding
 pub mod Gathering
 pub mod Leading
 pub mod Members
+pub mod Numbering
 pub mod Planning
 pub mod Ranking
 pub mod Removing

@@ -1,4 +1,6 @@
 pub mod Laws
+pub mod NumberedEdges
 pub mod Order
+pub mod Places
 pub mod Planned
 pub mod private

@@ -2,12 +2,14 @@
 //! edge.
 //!
 //! An edge (r, q) says that r is an immediate ascendant of q. The order `r >= q` holds if r is q, or
-//! if edges lead from r to q. Its pairs of two different roles are stored, so that one search
-//! answers whether a role inherits from another. A change of an edge is planned first: a plan lists
-//! the pairs that the order gains and loses.
+//! if edges lead from r to q. Its pairs of two different roles are stored. The roles of edges also
+//! have numbers, and for each number there is a row of bits that says to which numbers the edges
+//! lead, so that it takes a search for two numbers to know whether a role inherits from another. A
+//! change of an edge is planned first: a plan lists the pairs that the order gains and loses.
 #![tactic(auto)]
 
 pub use order::RoleOrder;
+pub use places::OrderOfNames;
 pub use plan::OrderPlan;
 
 mod building;
@@ -15,6 +17,8 @@ mod checking;
 mod comparison;
 pub mod laws;
 mod lost_pairs;
+mod numbered;
 pub mod order;
+pub mod places;
 pub mod plan;
 mod removal;

@@ -1,5 +1,5 @@
 //! The hierarchy of roles: edges without a cycle, with the closure stored beside them.
-ghost use Rattle.std.specs.Prelude.{◌≡◌, ◌≢◌, ◌*◌, ◌↔◌, ◌⊎◌, IsTrue, true, false, Contains, IfOk, IfErr, OnOk, OnErr};
+ghost use Rattle.std.specs.Prelude.{◌≡◌, ◌≢◌, ◌*◌, ◌≤◌, ◌↔◌, ◌⊎◌, IsTrue, true, false, Contains, IfOk, IfErr, OnOk, OnErr};
 ghost use Rattle.std.specs.List.{IsDistinct};
 ghost use Rattle.rbac_sets.specs.Sets.{Bytes, name_cmp, pair_cmp, empty, contains, insert, len, same_name};
 ghost use Rattle.rbac_sets.specs.SortedSet.{set_of};
@@ -9,10 +9,11 @@ ghost use Rattle.role_order.specs.private.Removal.{AreJuniorsFirst};
 
 use crate::building::{crossed_pairs, set_of_firsts, set_of_seconds};
 use crate::checking::{has_cycle, is_closed_under};
-use crate::comparison::is_geq;
+use crate::numbered::Numbered;
+use crate::places::OrderOfNames;
 use crate::plan::OrderPlan;
 use crate::removal::{juniors_first, lost_pairs};
-use rbac_sets::{Name, NameSet, PairSet, Refusal};
+use rbac_sets::{Name, NameSet, PairSet, Refusal, is_same};
 use std::alloc::Global;
 use std::marker::Model;
 
@@ -21,29 +22,34 @@ use std::marker::Model;
 /// of two different roles of which the first is senior to the second.
 ///
 /// A role r is senior to q, and q is junior to r, if edges lead from r to q; `r >= q` holds if r is q
-/// or senior to it. The closure is stored and updated with each edge, so that `geq` is one search. A
-/// change of an edge takes three calls: a plan (`plan_add`, `plan_remove`), room for it
-/// (`make_room`), and `commit`, which can't fail. In contracts the value is the set of the edges, and
-/// how many more edges and pairs can be added without allocation.
+/// or senior to it. The closure is stored, as pairs and as rows of bits, and updated with each edge, so
+/// that `geq` searches for the numbers of two names and reads one bit. A change of an edge takes three
+/// calls: a plan (`plan_add`, `plan_remove`), room for it (`make_room`), and `commit`, which can't
+/// fail. In contracts the value is the set of the edges, and how many more edges and pairs can be
+/// added without allocation.
 #[derive(Drop)]
 pub struct RoleOrder {
     edges: PairSet,
     pairs: PairSet,
+    numbered: Numbered,
 }
 
 impl Model for RoleOrder {
-    ghost use Rattle.rbac_sets.specs.Sets.{pair_cmp};
+    ghost use Rattle.std.specs.Prelude.{◌/◌, ◌↔◌, min};
+    ghost use Rattle.rbac_sets.specs.Sets.{Bytes, pair_cmp};
     ghost use Rattle.rbac_sets.specs.SortedSet.{set_of};
-    ghost use Rattle.role_order.specs.Order.{IsAcyclic, IsClosure};
+    ghost use Rattle.role_order.specs.Order.{HasPair, IsAcyclic, IsClosure};
     ghost use Rattle.role_order.specs.Planned.{Order, coded_order};
+    ghost use Rattle.role_order.specs.private.Numbered.{AreEdgesOf};
 
     ghost Value = { Order };
 
     ghost coded = { coded_order };
 
-    ghost view = { λ o. record { edges = set_of pair_cmp o.edges; edge_room = o.edges.room; pair_room = o.pairs.room } };
+    ghost view = { λ o. record { edges = set_of pair_cmp o.edges; edge_room = min o.edges.room (o.numbered.room / 2); pair_room = o.pairs.room } };
 
-    ghost invariant = { λ o. IsAcyclic (set_of pair_cmp o.edges) × IsClosure (set_of pair_cmp o.edges) (set_of pair_cmp o.pairs) };
+    ghost invariant = { λ o. IsAcyclic (set_of pair_cmp o.edges) × IsClosure (set_of pair_cmp o.edges) (set_of pair_cmp o.pairs)
+        × AreEdgesOf o.numbered (set_of pair_cmp o.edges) };
 }
 
 impl RoleOrder {
@@ -54,6 +60,7 @@ impl RoleOrder {
         RoleOrder {
             edges: PairSet::new(alloc),
             pairs: PairSet::new(alloc),
+            numbered: Numbered::new(alloc),
         }
     }
 
@@ -94,7 +101,25 @@ impl RoleOrder {
         ensures reaches { IsTrue result ↔ Geq self.now.edges a.now b.now }
         ensures test { result ≡ geq self.now.edges a.now b.now }
     {
-        is_geq(&self.pairs, a, b)
+        is_same(a, b) || self.numbered.leads(a, b)
+    }
+
+    /// The order of these names by their places in the list. The names may be any names.
+    ///
+    /// # Errors
+    ///
+    /// `Memory` if allocation failed.
+    pub fn of_names<'a>(
+        &'a self,
+        alloc: Global,
+        names: &'a [Name],
+    ) -> Result<OrderOfNames<'a>, Refusal>
+        ensures edges { IfOk result (λ order. order.edges ≡ self.now.edges) }
+        ensures names { IfOk result (λ order. order.names ≡ names.now) }
+        ensures cause { IfErr result (λ refusal. refusal ≡ Refusal.Memory) }
+    {
+        let order = OrderOfNames::new(alloc, &self.edges, &self.numbered, names)?;
+        Ok(order)
     }
 
     /// The juniors of `r`: the roles to which edges lead from it, without `r` itself.
@@ -176,16 +201,8 @@ impl RoleOrder {
         let puts = crossed_pairs(alloc, &self.pairs, &above, &below)?;
         let judged = count_judged(&above, &below)?;
         let takes = PairSet::new(alloc);
-        let asc = asc.copy(alloc)?;
-        let desc = desc.copy(alloc)?;
-        Ok(OrderPlan {
-            adds: true,
-            asc,
-            desc,
-            puts,
-            takes,
-            judged,
-        })
+        let plan = OrderPlan::new(alloc, true, asc, desc, puts, takes, judged)?;
+        Ok(plan)
     }
 
     /// The plan to remove the edge from `asc` to `desc`: what DeleteInheritance of the standard changes
@@ -214,16 +231,8 @@ impl RoleOrder {
         let rows = juniors_first(alloc, &self.pairs, &above)?;
         let takes = lost_pairs(alloc, &left, &self.pairs, &rows, &below)?;
         let puts = PairSet::new(alloc);
-        let asc = asc.copy(alloc)?;
-        let desc = desc.copy(alloc)?;
-        Ok(OrderPlan {
-            adds: false,
-            asc,
-            desc,
-            puts,
-            takes,
-            judged,
-        })
+        let plan = OrderPlan::new(alloc, false, asc, desc, puts, takes, judged)?;
+        Ok(plan)
     }
 
     /// Reserves room for what a plan adds.
@@ -238,8 +247,20 @@ impl RoleOrder {
     {
         self.pairs.reserve(plan.puts.len())?;
         if plan.adds {
-            self.edges.reserve(1)?;
+            self.make_edge_room()?;
         }
+        Ok(())
+    }
+
+    // Makes room for one more edge.
+    fn make_edge_room(&mut self) -> Result<(), Refusal>
+        ensures edges { self.new.edges ≡ self.old.edges }
+        ensures ok { OnOk result (1 ≤ self.new.edge_room) }
+        ensures pairs { self.new.pair_room ≡ self.old.pair_room }
+        ensures cause { IfErr result (λ refusal. refusal ≡ Refusal.Memory) }
+    {
+        self.edges.reserve(1)?;
+        self.numbered.make_room(&self.edges)?;
         Ok(())
     }
 
@@ -259,12 +280,15 @@ impl RoleOrder {
             puts,
             takes,
             judged: _,
+            ends,
         } = plan;
         self.pairs.merge_reserved(puts);
         self.pairs.take_all(&takes);
         if adds {
+            self.numbered.add(ends.0, ends.1);
             self.edges.insert_reserved((asc, desc));
         } else {
+            self.numbered.remove(&asc, &desc);
             self.edges.remove((&asc, &desc));
         }
     }
@@ -284,7 +308,12 @@ impl RoleOrder {
         ensures only { OnErr result ((result ≡ Err (Refusal.Damaged 5)) ⊎ ((result ≡ Err (Refusal.Damaged 6)) ⊎ (result ≡ Err Refusal.Memory))) }
     {
         if is_closed_under(&edges, &pairs) {
-            return Ok(RoleOrder { edges, pairs });
+            let numbered = Numbered::of_edges(alloc, &edges)?;
+            return Ok(RoleOrder {
+                edges,
+                pairs,
+                numbered,
+            });
         }
         if has_cycle(alloc, &edges)? {
             return Err(Refusal::Damaged(5));

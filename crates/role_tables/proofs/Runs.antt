@@ -1,6 +1,6 @@
 -- How a run begins, how a call adds an event to it, and what the next opening gives after a crash.
 use Rattle.std.proofs.Common.{◌≡◌, ◌⊎◌, Bool, true, false, List, [], ◌∷◌, ◌++◌, refl, sym, ◌∙◌, ap, subst, inl, inr}
-use Rattle.std.specs.Prelude.{IsTrue, Some, Result, Ok, Err, ◌||◌}
+use Rattle.std.specs.Prelude.{IsTrue, Some, Result, Ok, Err, ◌||◌, not}
 use Rattle.std.proofs.lemmas.Bool.{cases_Bool, true≢false}
 use Rattle.std.proofs.lemmas.List.Folds.{list_any-append}
 use Rattle.sqlite_trees.specs.declared.store.Store.{Ghosts}
@@ -27,6 +27,11 @@ use Rattle.role_tables.proofs.OfficeHistory.Calls.{one_call, closed_stays, open_
 use Rattle.role_tables.proofs.OfficeHistory.Induction.{event_with}
 
 -- ---- the beginning
+
+-- a connection that commits by itself is in no transaction
+pub is_outside : (commits inside : Bool) → commits ≡ not inside → commits ≡ true → inside ≡ false
+is_outside commits true is found = absurd (true≢false (sym found ∙ is))
+is_outside commits false is found = refl
 
 module _ {S : Type 0} (shown : Held S → State) where
   -- an office that was opened begins a run

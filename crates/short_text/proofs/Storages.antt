@@ -5,7 +5,8 @@ use Rattle.std.proofs.lemmas.Str.{is_utf8-from_IsUtf8}
 use Rattle.std.specs.Str.{IsUtf8, is_utf8}
 use Rattle.short_text.specs.declared.short_text.Storage.{Storage}
 use Rattle.short_text.specs.Front.{first_bytes}
-use Rattle.short_text.specs.Storages.{bytes_of, front_of, len_of, IsText}
+use Rattle.short_text.specs.Storages.{bytes_of}
+use Rattle.short_text.specs.private.Texts.{front_of, len_of, IsText}
 
 -- the number of zeros is zero
 first_bytes-replicate : (n k : ℕ) → first_bytes n (replicate k 0) ≡ 0

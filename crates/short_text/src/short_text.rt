@@ -75,7 +75,8 @@ impl Model for ShortText {
 
     ghost Value = { List ℕ };
 
-    ghost use Rattle.short_text.specs.Storages.{bytes_of, IsText};
+    ghost use Rattle.short_text.specs.Storages.{bytes_of};
+    ghost use Rattle.short_text.specs.private.Texts.{IsText};
 
     ghost view = { λ text. bytes_of text.storage };
 

@@ -14,6 +14,10 @@ pub record MakesEach {K C : Type 0} (f : List K → List C) (h : K → List C) :
 abbrev pub IsListed : {K C : Type 0} → (List K → List C) → List C → List K → ℕ → List C → Type 0
 IsListed f before entries i listed = listed ++ f (drop i entries) ≡ before ++ f entries
 
+-- the same, where those entries are known that are left
+abbrev pub IsListedBut : {K C : Type 0} → (List K → List C) → List C → List K → List K → List C → Type 0
+IsListedBut f before entries left listed = listed ++ f left ≡ before ++ f entries
+
 module _ {K C : Type 0} (f : List K → List C) (h : K → List C) (each : MakesEach f h) where
   -- one more entry is listed
   pub listed_more : (before listed more : List C) (entries : List K) (i : ℕ) (x : K) → i < length entries → x ≡ get_or entries i x
@@ -31,6 +35,20 @@ module _ {K C : Type 0} (f : List K → List C) (h : K → List C) (each : Makes
   pub listed_all : (before listed : List C) (entries : List K) (i : ℕ) → length entries ≤ i → IsListed f before entries i listed → listed ≡ before ++ f entries
   listed_all before listed entries i past so =
       sym (append-nil listed) ∙ ap (λ ys. listed ++ ys) (sym (ap f (drop_of_length-le entries past) ∙ each.none)) ∙ so
+
+  -- the first of those that are left is listed
+  pub listed_next : (before listed more : List C) (entries left rest : List K) (x : K) → left ≡ x ∷ rest
+      → IsListedBut f before entries left listed → more ≡ listed ++ h x → IsListedBut f before entries rest more
+  listed_next before listed more entries left rest x is so next =
+      ap (λ ys. ys ++ f rest) next
+      ∙ append_assoc listed (h x) (f rest)
+      ∙ ap (λ ys. listed ++ ys) (sym (each.more x rest) ∙ ap f (sym is))
+      ∙ so
+
+  -- none is left
+  pub listed_whole : (before listed : List C) (entries left : List K) → left ≡ [] → IsListedBut f before entries left listed → listed ≡ before ++ f entries
+  listed_whole before listed entries left none so =
+      sym (append-nil listed) ∙ ap (λ ys. listed ++ ys) (sym (ap f none ∙ each.none)) ∙ so
 
 -- a map, entry by entry
 pub each_map : {K C : Type 0} (g : K → C) → MakesEach (map g) (λ x. g x ∷ [])

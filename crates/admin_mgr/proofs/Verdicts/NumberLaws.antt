@@ -122,10 +122,10 @@ find_nothing {X} test (x ∷ xs) = step (find_nothing test xs) (test x)
     step rest false = rest
 
 -- if there is no user or session, no set is violated
-pub nobody_violates : {X : Type 0} (run : X → List Pair) (xs : List X) → length xs ≡ 0 → (edges : Pairs) (more : Bytes) (pairs : Pairs) (sets : List Cardinality)
-    → find_violated edges (map run xs) more pairs sets ≡ None
-nobody_violates run [] none edges more pairs sets = find_nothing (λ (set : Cardinality). is_touched edges more (run_of pairs set.0)) sets
-nobody_violates run (x ∷ xs) none edges more pairs sets = absurd (omega (arith, none))
+pub nobody_violates : (runs : List (List Pair)) → length runs ≡ 0 → (edges : Pairs) (more : Bytes) (pairs : Pairs) (sets : List Cardinality)
+    → find_violated edges runs more pairs sets ≡ None
+nobody_violates [] none edges more pairs sets = find_nothing (λ (set : Cardinality). is_touched edges more (run_of pairs set.0)) sets
+nobody_violates (run ∷ runs) none edges more pairs sets = absurd (omega (arith, none))
 
 -- ---- of a state
 

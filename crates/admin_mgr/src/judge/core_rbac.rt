@@ -13,7 +13,8 @@ use crate::lookup::has_part;
 use crate::separation_of_duty::SeparationOfDuty;
 use crate::separation_of_duty::by_name::first_with_one;
 use crate::state::State;
-use rbac_sets::{Kind, Name, Refusal, has_first, has_second};
+use chunked_sets::has_first;
+use rbac_sets::{Kind, Name, Refusal, has_second};
 use std::alloc::{AllocError, Global};
 
 // The verdict on AddUser.
@@ -215,7 +216,7 @@ pub(crate) fn judge_assign_user(
     }
     let held = state.assignments().with_first(user);
     let sets = state.ssd_cardinalities().as_slice();
-    let violated = first_with_one(state.order(), held, role, state.ssd_members(), sets);
+    let violated = first_with_one(state.order(), &held, role, state.ssd_members(), sets);
     let named = name_violated(alloc, SeparationOfDuty::Static, violated)?;
     Ok(named)
 }

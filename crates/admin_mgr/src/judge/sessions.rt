@@ -15,7 +15,8 @@ use crate::lookup::are_in;
 use crate::separation_of_duty::SeparationOfDuty;
 use crate::separation_of_duty::by_name::{first_with_all, first_with_one, is_reached};
 use crate::state::State;
-use rbac_sets::{Kind, Name, NameSet, Refusal, has_first};
+use chunked_sets::has_first;
+use rbac_sets::{Kind, Name, NameSet, Refusal};
 use std::alloc::{AllocError, Global};
 
 // The verdict on CreateSession.
@@ -81,7 +82,7 @@ fn is_authorized(state: &State, user: &Name, role: &Name) -> bool
     ensures { result ≡ is_authorized state.now.facts user.now role.now }
 {
     let held = state.assignments().with_first(user);
-    is_reached(state.order(), held, role)
+    is_reached(state.order(), &held, role)
 }
 
 // The verdict on DeleteSession.
@@ -118,7 +119,7 @@ pub(crate) fn judge_add_active_role(
     }
     let held = state.active().with_first(session);
     let sets = state.dsd_cardinalities().as_slice();
-    let violated = first_with_one(state.order(), held, role, state.dsd_members(), sets);
+    let violated = first_with_one(state.order(), &held, role, state.dsd_members(), sets);
     let named = name_violated(alloc, SeparationOfDuty::Dynamic, violated)?;
     Ok(named)
 }

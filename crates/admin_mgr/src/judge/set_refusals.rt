@@ -13,6 +13,7 @@ use crate::limits::{is_full, is_too_many};
 use crate::lookup::{are_in, number_of};
 use crate::separation_of_duty::SeparationOfDuty;
 use crate::state::State;
+use chunked_sets::EntrySet;
 use rbac_sets::{CountSet, Kind, Name, NameSet, PairSet, Refusal};
 use std::alloc::{AllocError, Global};
 
@@ -24,11 +25,11 @@ pub(crate) fn has_set(cardinalities: &CountSet, set: &Name) -> bool
     number_of(cardinalities, set).is_some()
 }
 
-// How many members a set has.
-pub(crate) fn member_count(members: &PairSet, set: &Name) -> usize
-    ensures { result ≡ len (seconds (set_of pair_cmp members.now) set.now) }
+// How many members a set has, or how many roles a session.
+pub(crate) fn member_count<P: EntrySet<(Name, Name)>>(members: &P, set: &Name) -> usize
+    ensures { result ≡ len (seconds (set_of pair_cmp (P.stored members.now)) set.now) }
 {
-    members.with_first(set).len()
+    members.entries_with_first(set).len()
 }
 
 // Why there can't be a new set of these roles, without the check that nobody violates it. `kind` is the

@@ -30,7 +30,7 @@ pub(crate) fn plan_delete_user(alloc: Global, state: &State, user: &Name) -> Res
         alloc,
         &mut changes,
         Row::ASSIGNMENT,
-        state.assignments().with_first(user),
+        &state.assignments().with_first(user),
     )?;
     take_ended(alloc, &mut changes, state, Loss::User(user))?;
     Ok(plain(alloc, changes))
@@ -49,10 +49,10 @@ pub(crate) fn plan_delete_role(alloc: Global, state: &State, role: &Name) -> Res
         alloc,
         &mut changes,
         Row::ASSIGNMENT,
-        state.assignments().as_slice(),
+        &state.assignments().as_run(),
         role,
     )?;
-    take_grants_of_role(alloc, &mut changes, state.grants().as_slice(), role)?;
+    take_grants_of_role(alloc, &mut changes, &state.grants().as_run(), role)?;
     take_ended(alloc, &mut changes, state, Loss::Role(role))?;
     Ok(plain(alloc, changes))
 }
@@ -77,7 +77,7 @@ pub(crate) fn plan_delete_permission(
     take_grants(
         alloc,
         &mut changes,
-        state.grants().with_first((object, operation)),
+        &state.grants().with_first((object, operation)),
     )?;
     Ok(plain(alloc, changes))
 }

@@ -10,6 +10,7 @@ ghost use Rattle.admin_mgr.specs.private.SessionContinuation.{is_held_without_ro
 
 use crate::planning::rows::{take, take_pairs};
 use crate::state::State;
+use chunked_sets::Run;
 use rbac_sets::{Change, Name, PairSet, Refusal, Row, is_same};
 use role_order::RoleOrder;
 use std::alloc::Global;
@@ -46,7 +47,7 @@ pub(crate) fn take_session(
         alloc,
         changes,
         Row::ACTIVATED_ROLE,
-        state.active().with_first(session),
+        &state.active().with_first(session),
     )
 }
 
@@ -60,7 +61,7 @@ pub(crate) fn take_ended(
     ensures ok { OnOk result (changes.new.items ≡ changes.old.items ++ ended_rows state.now.facts (stays state.now.facts loss.entry)) }
     ensures cause { IfErr result (λ refusal. refusal ≡ Refusal.Memory) }
 {
-    for session in state.sessions().as_slice() {
+    for session in state.sessions().iter() {
         if !goes_on(state, loss, &session.0, &session.1) {
             take_session(alloc, changes, state, &session.0, &session.1)?;
         }
@@ -89,15 +90,15 @@ fn goes_on_without_role(state: &State, session: &Name, user: &Name, gone: &Name)
 {
     let held = state.assignments().with_first(user);
     let active = state.active().with_first(session);
-    are_held_without_role(state.order(), held, gone, active)
+    are_held_without_role(state.order(), &held, gone, &active)
 }
 
 // The same, over the pairs of the user and those of the session.
 fn are_held_without_role(
     order: &RoleOrder,
-    held: &[(Name, Name)],
+    held: &Run<'_, (Name, Name)>,
     gone: &Name,
-    active: &[(Name, Name)],
+    active: &Run<'_, (Name, Name)>,
 ) -> bool
     ensures { result ≡ list_all (λ (pair : Pair). is_held_without_role order.now.edges held.now gone.now pair.1) active.now }
 {
@@ -107,7 +108,12 @@ fn are_held_without_role(
 }
 
 // Whether the role, or a senior of it, is the role of one of the pairs, and that isn't the role `gone`.
-fn is_held_without_role(order: &RoleOrder, held: &[(Name, Name)], gone: &Name, role: &Name) -> bool
+fn is_held_without_role(
+    order: &RoleOrder,
+    held: &Run<'_, (Name, Name)>,
+    gone: &Name,
+    role: &Name,
+) -> bool
     ensures { result ≡ is_held_without_role order.now.edges held.now gone.now role.now }
 {
     held.iter()
@@ -121,15 +127,15 @@ fn goes_on_without_pairs(state: &State, session: &Name, user: &Name, lost: &Pair
 {
     let held = state.assignments().with_first(user);
     let active = state.active().with_first(session);
-    are_held_without_pairs(state.order(), held, lost, active)
+    are_held_without_pairs(state.order(), &held, lost, &active)
 }
 
 // The same, over the pairs of the user and those of the session.
 fn are_held_without_pairs(
     order: &RoleOrder,
-    held: &[(Name, Name)],
+    held: &Run<'_, (Name, Name)>,
     lost: &PairSet,
-    active: &[(Name, Name)],
+    active: &Run<'_, (Name, Name)>,
 ) -> bool
     ensures { result ≡ list_all (λ (pair : Pair). is_held_without_pairs order.now.edges held.now (set_of pair_cmp lost.now) pair.1) active.now }
 {
@@ -142,7 +148,7 @@ fn are_held_without_pairs(
 // closure.
 fn is_held_without_pairs(
     order: &RoleOrder,
-    held: &[(Name, Name)],
+    held: &Run<'_, (Name, Name)>,
     lost: &PairSet,
     role: &Name,
 ) -> bool

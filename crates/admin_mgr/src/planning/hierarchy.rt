@@ -13,6 +13,7 @@ use crate::planning::ending::{Loss, take_ended};
 use crate::planning::making::with_order;
 use crate::planning::rows::{pair_row, put, put_pairs, take, take_pairs};
 use crate::state::State;
+use chunked_sets::Run;
 use rbac_sets::{Change, Name, Refusal, Row};
 use role_order::OrderPlan;
 use std::alloc::Global;
@@ -152,5 +153,10 @@ fn take_edge(
     ensures cause { IfErr result (λ refusal. refusal ≡ Refusal.Memory) }
 {
     take(changes, pair_row(alloc, Row::INHERITANCE, asc, desc)?)?;
-    take_pairs(alloc, changes, Row::CLOSURE_PAIR, order.takes().as_slice())
+    take_pairs(
+        alloc,
+        changes,
+        Row::CLOSURE_PAIR,
+        &Run::of(order.takes().as_slice()),
+    )
 }

@@ -24,6 +24,7 @@ use crate::plan::{Plan, Report};
 use crate::separation_of_duty::SeparationOfDuty;
 use crate::separation_of_duty::by_name::{is_reached, is_touched};
 use crate::state::State;
+use chunked_sets::{ChunkedPairs, Run};
 use rbac_sets::{Change, Kind, Name, PairSet, Refusal, Row};
 use role_order::RoleOrder;
 use std::alloc::{AllocError, Global};
@@ -32,7 +33,7 @@ use std::alloc::{AllocError, Global};
 // report.
 #[derive(Drop)]
 struct Imported {
-    added: PairSet,
+    added: ChunkedPairs,
     changes: Vec<Change>,
     report: Report,
 }
@@ -67,7 +68,7 @@ impl Imported {
         ensures { IsBegun result }
     {
         Imported {
-            added: PairSet::new(alloc),
+            added: ChunkedPairs::new(alloc),
             changes: Vec::new(alloc),
             report: Report {
                 assigned: 0,
@@ -107,9 +108,7 @@ impl Imported {
     {
         let row = Row::assignment(user.copy(alloc)?, role.copy(alloc)?);
         self.changes.push(Change::Put(row))?;
-        self.added.reserve(1)?;
-        self.added
-            .insert_reserved((user.copy(alloc)?, role.copy(alloc)?));
+        self.added.insert((user.copy(alloc)?, role.copy(alloc)?))?;
         self.report.assigned += 1;
         Ok(())
     }
@@ -133,7 +132,7 @@ impl Imported {
 fn judge_record(
     alloc: Global,
     state: &State,
-    added: &PairSet,
+    added: &ChunkedPairs,
     user: &Name,
     role: &Name,
 ) -> Result<Option<Refusal>, AllocError>
@@ -147,13 +146,13 @@ fn judge_record(
     let held = state.assignments().with_first(user);
     let more = added.with_first(user);
     let sets = state.ssd_cardinalities().as_slice();
-    let violated = first_with_both(state.order(), held, more, role, state.ssd_members(), sets);
+    let violated = first_with_both(state.order(), &held, &more, role, state.ssd_members(), sets);
     let named = name_violated(alloc, SeparationOfDuty::Static, violated)?;
     Ok(named)
 }
 
 // Why the user can't be assigned to the role, without the check of static separation.
-fn refuse_record(state: &State, added: &PairSet, user: &Name, role: &Name) -> Option<Refusal>
+fn refuse_record(state: &State, added: &ChunkedPairs, user: &Name, role: &Name) -> Option<Refusal>
     requires good { IsGood (with_assignments state.now.facts (set_of pair_cmp added.now)) }
     requires apart { IsDisjoint state.now.facts.assignments (set_of pair_cmp added.now) }
     ensures { result ≡ first (record_refusals state.now.facts (set_of pair_cmp added.now) (user.now, role.now)) }
@@ -181,8 +180,8 @@ fn refuse_record(state: &State, added: &PairSet, user: &Name, role: &Name) -> Op
 // Only sets are considered that have this role or a junior of it as a member.
 fn first_with_both<'a>(
     order: &RoleOrder,
-    held: &[(Name, Name)],
-    since: &[(Name, Name)],
+    held: &Run<'_, (Name, Name)>,
+    since: &Run<'_, (Name, Name)>,
     more: &Name,
     members: &PairSet,
     cardinalities: &'a [(Name, u32)],
@@ -203,8 +202,8 @@ fn first_with_both<'a>(
 // this role.
 fn has_both(
     order: &RoleOrder,
-    held: &[(Name, Name)],
-    since: &[(Name, Name)],
+    held: &Run<'_, (Name, Name)>,
+    since: &Run<'_, (Name, Name)>,
     more: &Name,
     members: &[(Name, Name)],
     cardinality: u32,
@@ -218,8 +217,8 @@ fn has_both(
 // How many of the members the user has if it gets one more role.
 fn reached_with_both(
     order: &RoleOrder,
-    held: &[(Name, Name)],
-    since: &[(Name, Name)],
+    held: &Run<'_, (Name, Name)>,
+    since: &Run<'_, (Name, Name)>,
     more: &Name,
     members: &[(Name, Name)],
 ) -> usize
@@ -235,8 +234,8 @@ fn reached_with_both(
 // Whether the user with the pairs `held` and `since` has the role.
 fn is_reached_by_either(
     order: &RoleOrder,
-    held: &[(Name, Name)],
-    since: &[(Name, Name)],
+    held: &Run<'_, (Name, Name)>,
+    since: &Run<'_, (Name, Name)>,
     role: &Name,
 ) -> bool
     ensures { result ≡ is_reached order.now.edges (held.now ++ since.now) role.now }

@@ -6,6 +6,7 @@ ghost use Rattle.rbac_sets.specs.declared.row.Row.TheVariants.{PairRow, GrantRow
 ghost use Rattle.rbac_sets.specs.declared.row.Change.TheVariants.{Put, Take};
 ghost use Rattle.admin_mgr.specs.private.PlanChanges.{pair_row, grant_row, take_all, put_all};
 
+use chunked_sets::Run;
 use rbac_sets::{Change, Name, Refusal, Row, is_same};
 use std::alloc::Global;
 
@@ -65,12 +66,12 @@ pub(crate) fn take_pairs(
     alloc: Global,
     changes: &mut Vec<Change>,
     kind: u8,
-    pairs: &[(Name, Name)],
+    pairs: &Run<'_, (Name, Name)>,
 ) -> Result<(), Refusal>
     ensures ok { OnOk result (changes.new.items ≡ changes.old.items ++ take_all (pair_row kind) pairs.now) }
     ensures cause { IfErr result (λ refusal. refusal ≡ Refusal.Memory) }
 {
-    for pair in pairs {
+    for pair in pairs.iter() {
         take(changes, pair_row(alloc, kind, &pair.0, &pair.1)?)?;
     }
     Ok(())
@@ -97,13 +98,13 @@ pub(crate) fn take_pairs_with_second(
     alloc: Global,
     changes: &mut Vec<Change>,
     kind: u8,
-    pairs: &[(Name, Name)],
+    pairs: &Run<'_, (Name, Name)>,
     second: &Name,
 ) -> Result<(), Refusal>
     ensures ok { OnOk result (changes.new.items ≡ changes.old.items ++ take_all (pair_row kind) (filter (λ (pair : Pair). same_name pair.1 second.now) pairs.now)) }
     ensures cause { IfErr result (λ refusal. refusal ≡ Refusal.Memory) }
 {
-    for pair in pairs {
+    for pair in pairs.iter() {
         if is_same(&pair.1, second) {
             take(changes, pair_row(alloc, kind, &pair.0, &pair.1)?)?;
         }
@@ -132,12 +133,12 @@ pub(crate) fn put_paired(
 pub(crate) fn take_grants(
     alloc: Global,
     changes: &mut Vec<Change>,
-    grants: &[(Name, Name, Name)],
+    grants: &Run<'_, (Name, Name, Name)>,
 ) -> Result<(), Refusal>
     ensures ok { OnOk result (changes.new.items ≡ changes.old.items ++ take_all grant_row grants.now) }
     ensures cause { IfErr result (λ refusal. refusal ≡ Refusal.Memory) }
 {
-    for grant in grants {
+    for grant in grants.iter() {
         take(changes, grant_row(alloc, &grant.0, &grant.1, &grant.2)?)?;
     }
     Ok(())
@@ -147,13 +148,13 @@ pub(crate) fn take_grants(
 pub(crate) fn take_grants_of_role(
     alloc: Global,
     changes: &mut Vec<Change>,
-    grants: &[(Name, Name, Name)],
+    grants: &Run<'_, (Name, Name, Name)>,
     role: &Name,
 ) -> Result<(), Refusal>
     ensures ok { OnOk result (changes.new.items ≡ changes.old.items ++ take_all grant_row (filter (λ (grant : Triple). same_name grant.2 role.now) grants.now)) }
     ensures cause { IfErr result (λ refusal. refusal ≡ Refusal.Memory) }
 {
-    for grant in grants {
+    for grant in grants.iter() {
         if is_same(&grant.2, role) {
             take(changes, grant_row(alloc, &grant.0, &grant.1, &grant.2)?)?;
         }

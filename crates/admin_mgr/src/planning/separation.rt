@@ -9,6 +9,7 @@ use crate::planning::making::plain;
 use crate::planning::rows::{pair_row, put, put_paired, set_row, take, take_pairs};
 use crate::separation_of_duty::SeparationOfDuty;
 use crate::state::State;
+use chunked_sets::Run;
 use rbac_sets::{Name, NameSet, Refusal};
 use std::alloc::Global;
 
@@ -135,7 +136,7 @@ pub(crate) fn plan_delete_set(
         alloc,
         &mut changes,
         duty.member_rows(),
-        duty.members(state).with_first(set),
+        &Run::of(duty.members(state).with_first(set)),
     )?;
     Ok(plain(alloc, changes))
 }

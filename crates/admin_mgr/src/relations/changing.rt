@@ -12,10 +12,8 @@ ghost use Rattle.admin_mgr.specs.Changes.{takes};
 ghost use Rattle.admin_mgr.specs.private.PlanChanges.{is_take, pair_row, take_all};
 
 use crate::relations::Relations;
-use crate::relations::bulk_removal::BulkRemoval;
 use rbac_sets::{Change, Refusal, Row, Table};
 use role_order::OrderPlan;
-use std::collections::VecDeque;
 
 impl Relations {
     // Makes room for the rows that the changes put, except those of the role hierarchy.
@@ -58,36 +56,33 @@ impl Relations {
         self.order.make_room(plan)
     }
 
-    // Makes the changes one after the other, except those of rows of the role hierarchy.
+    // Makes the changes one after the other, except those of rows of the role hierarchy, and gives back the
+    // room that is left over.
     #[tactic(auto, unfolding(crate::specs::private::OneRow::after_changes))]
-    pub(crate) fn change(&mut self, mut changes: Vec<Change>)
+    pub(crate) fn change(&mut self, changes: Vec<Change>)
         requires free { AreFree self.old.facts changes.items }
         requires room { HasRoom self.old.room changes.items }
         ensures facts { self.new.facts ≡ after_changes self.old.facts changes.items }
         ensures order { order_of self.new ≡ order_of self.old }
     {
-        if changes.len() > 1 {
-            self.change_in_turn(changes);
-        } else if let Some(change) = changes.pop() {
+        for change in changes {
             self.apply(change);
         }
+        self.release();
     }
 
-    // The same of any number of changes. Rows that are taken one after the other are taken together.
-    fn change_in_turn(&mut self, changes: Vec<Change>)
-        requires free { AreFree self.old.facts changes.items }
-        requires room { HasRoom self.old.room changes.items }
-        ensures facts { self.new.facts ≡ after_changes self.old.facts changes.items }
+    // Gives back the room that was made for changes and not used.
+    fn release(&mut self)
+        ensures facts { self.new.facts ≡ self.old.facts }
         ensures order { order_of self.new ≡ order_of self.old }
     {
-        let mut changes = VecDeque::from_vec(changes);
-        while !changes.is_empty() {
-            let taken = self.take_together(changes.as_slices().0);
-            pass(&mut changes, taken);
-            if let Some(change) = changes.pop_front() {
-                self.apply(change);
-            }
-        }
+        self.users.release();
+        self.objects.release();
+        self.permissions.release();
+        self.assignments.release();
+        self.grants.release();
+        self.sessions.release();
+        self.active.release();
     }
 
     // Changes the edges, and with them their closure.
@@ -97,43 +92,6 @@ impl Relations {
         ensures { self.new.facts ≡ with_edges self.old.facts (changed self.old.facts.edges plan) }
     {
         self.order.commit(plan);
-    }
-
-    // Takes the rows with which the changes begin, as far as a command may take many of their sets, and returns
-    // how many these are. It leaves a row that is taken alone.
-    fn take_together(&mut self, changes: &[Change]) -> usize
-        ensures within { result ≤ length changes.now }
-        ensures facts { self.new.facts ≡ after_changes self.old.facts (take result changes.now) }
-        ensures room { (others : List Change) → HasRoom self.old.room others → HasRoom self.new.room others }
-        ensures order { order_of self.new ≡ order_of self.old }
-    {
-        let [Change::Take(_), Change::Take(_), ..] = changes else {
-            return 0;
-        };
-        let mut sets = BulkRemoval {
-            assignments: self.assignments.start_removal(),
-            grants: self.grants.start_removal(),
-            sessions: self.sessions.start_removal(),
-            active: self.active.start_removal(),
-            ssd_members: self.ssd_members.start_removal(),
-            dsd_members: self.dsd_members.start_removal(),
-        };
-        let count = sets.take_first(changes);
-        let BulkRemoval {
-            assignments,
-            grants,
-            sessions,
-            active,
-            ssd_members,
-            dsd_members,
-        } = sets;
-        self.assignments = assignments.into_set();
-        self.grants = grants.into_set();
-        self.sessions = sessions.into_set();
-        self.active = active.into_set();
-        self.ssd_members = ssd_members.into_set();
-        self.dsd_members = dsd_members.into_set();
-        count
     }
 
     // Makes one change.
@@ -230,16 +188,6 @@ impl Relations {
             }
             _ => {}
         }
-    }
-}
-
-// Drops the first `count` changes, which are made already.
-fn pass(changes: &mut VecDeque<Change>, count: usize)
-    requires { count ≤ length changes.old.items }
-    ensures { changes.new.items ≡ drop count changes.old.items }
-{
-    if count > 0 {
-        changes.drain(..count);
     }
 }
 

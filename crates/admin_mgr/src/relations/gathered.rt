@@ -147,18 +147,18 @@ impl StoredSets {
         ensures cause { IfErr result (λ refusal. refusal ≡ Refusal.Memory) }
     {
         match row {
-            Row::NameRow(Row::USER, name) => put(&mut self.relations.users, name),
+            Row::NameRow(Row::USER, name) => self.relations.users.insert(name),
             Row::NameRow(Row::ROLE, name) => put(&mut self.relations.roles, name),
-            Row::NameRow(Row::OBJECT, name) => put(&mut self.relations.objects, name),
-            Row::PairRow(Row::PERMISSION, a, b) => put(&mut self.relations.permissions, (a, b)),
-            Row::PairRow(Row::ASSIGNMENT, a, b) => put(&mut self.relations.assignments, (a, b)),
+            Row::NameRow(Row::OBJECT, name) => self.relations.objects.insert(name),
+            Row::PairRow(Row::PERMISSION, a, b) => self.relations.permissions.insert((a, b)),
+            Row::PairRow(Row::ASSIGNMENT, a, b) => self.relations.assignments.insert((a, b)),
             Row::PairRow(Row::INHERITANCE, a, b) => put(&mut self.edges, (a, b)),
             Row::PairRow(Row::CLOSURE_PAIR, a, b) => put(&mut self.pairs, (a, b)),
             Row::PairRow(Row::STATIC_MEMBER, a, b) => put(&mut self.relations.ssd_members, (a, b)),
             Row::PairRow(Row::DYNAMIC_MEMBER, a, b) => put(&mut self.relations.dsd_members, (a, b)),
-            Row::PairRow(Row::SESSION, a, b) => put(&mut self.relations.sessions, (a, b)),
-            Row::PairRow(Row::ACTIVATED_ROLE, a, b) => put(&mut self.relations.active, (a, b)),
-            Row::GrantRow(a, b, c) => put(&mut self.relations.grants, (a, b, c)),
+            Row::PairRow(Row::SESSION, a, b) => self.relations.sessions.insert((a, b)),
+            Row::PairRow(Row::ACTIVATED_ROLE, a, b) => self.relations.active.insert((a, b)),
+            Row::GrantRow(a, b, c) => self.relations.grants.insert((a, b, c)),
             Row::SetRow(Row::STATIC_CARDINALITY, name, n) => put(
                 &mut self.relations.ssd_cardinalities,
                 (name, n),

@@ -11,12 +11,13 @@ ghost use Rattle.admin_mgr.specs.UserAccess.{stands_alone};
 ghost use Rattle.admin_mgr.specs.private.HolderRoles.{run_of, reached_roles, reached_members, reached_with, is_reached_from, reached_from, is_touched, find_with_all, find_with_one};
 
 use crate::state::State;
+use chunked_sets::Run;
 use rbac_sets::{Name, PairSet};
 use role_order::RoleOrder;
 
 /// Whether a holder, which is a user or a session, has the role: it is the role of one of its pairs
 /// (holder, role) in `held`, or a junior of one. It doesn't allocate.
-pub fn is_reached(order: &RoleOrder, held: &[(Name, Name)], role: &Name) -> bool
+pub fn is_reached(order: &RoleOrder, held: &Run<'_, (Name, Name)>, role: &Name) -> bool
     ensures { result ≡ is_reached order.now.edges held.now role.now }
 {
     held.iter().any(|pair| order.geq(&pair.1, role))
@@ -54,7 +55,11 @@ fn has_few(order: &RoleOrder, role: &Name, members: &[(Name, Name)], cardinality
 }
 
 // How many of the roles the holder has.
-pub(crate) fn reached_roles(order: &RoleOrder, held: &[(Name, Name)], roles: &[Name]) -> usize
+pub(crate) fn reached_roles(
+    order: &RoleOrder,
+    held: &Run<'_, (Name, Name)>,
+    roles: &[Name],
+) -> usize
     ensures { result ≡ reached_roles order.now.edges held.now roles.now }
 {
     roles
@@ -66,7 +71,7 @@ pub(crate) fn reached_roles(order: &RoleOrder, held: &[(Name, Name)], roles: &[N
 // How many of the members, pairs (set, role), the holder has.
 pub(crate) fn reached_members(
     order: &RoleOrder,
-    held: &[(Name, Name)],
+    held: &Run<'_, (Name, Name)>,
     members: &[(Name, Name)],
 ) -> usize
     ensures { result ≡ reached_members order.now.edges held.now members.now }
@@ -80,7 +85,7 @@ pub(crate) fn reached_members(
 // How many of the members the holder has if it gets one more role.
 pub(crate) fn reached_with(
     order: &RoleOrder,
-    held: &[(Name, Name)],
+    held: &Run<'_, (Name, Name)>,
     more: &Name,
     members: &[(Name, Name)],
 ) -> usize
@@ -139,7 +144,7 @@ fn has_all(order: &RoleOrder, roles: &[Name], members: &[(Name, Name)], cardinal
 // this role or a junior of it as a member.
 pub(crate) fn first_with_one<'a>(
     order: &RoleOrder,
-    held: &[(Name, Name)],
+    held: &Run<'_, (Name, Name)>,
     more: &Name,
     members: &PairSet,
     cardinalities: &'a [(Name, u32)],
@@ -159,7 +164,7 @@ pub(crate) fn first_with_one<'a>(
 // this role.
 fn has_with(
     order: &RoleOrder,
-    held: &[(Name, Name)],
+    held: &Run<'_, (Name, Name)>,
     more: &Name,
     members: &[(Name, Name)],
     cardinality: u32,

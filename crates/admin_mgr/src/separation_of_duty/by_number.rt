@@ -16,6 +16,7 @@ ghost use Rattle.admin_mgr.specs.private.NumberedSeparation.{count_reached, firs
 
 use crate::relations::Relations;
 use crate::separation_of_duty::SeparationOfDuty;
+use chunked_sets::Run;
 use order_matrix::{OrderMatrix, number, second_numbers};
 use rbac_sets::{Name, PairSet, Refusal};
 use std::alloc::{AllocError, Global};
@@ -25,8 +26,8 @@ pub(crate) fn all_runs<'a>(
     alloc: Global,
     relations: &'a Relations,
     duty: SeparationOfDuty,
-) -> Result<Vec<&'a [(Name, Name)]>, AllocError>
-    ensures { IfOk result (λ runs. list_map (λ run. run.now) runs.items ≡ runs_of duty relations.now.facts) }
+) -> Result<Vec<Run<'a, (Name, Name)>>, AllocError>
+    ensures { IfOk result (λ runs. runs.items ≡ runs_of duty relations.now.facts) }
 {
     duty.runs(relations).collect(alloc)
 }
@@ -54,11 +55,11 @@ pub(crate) fn name_numbers(
 pub(crate) fn run_numbers(
     alloc: Global,
     roles: &[Name],
-    runs: &[&[(Name, Name)]],
+    runs: &[Run<'_, (Name, Name)>],
     more: &[usize],
 ) -> Result<Vec<Vec<usize>>, Refusal>
     requires { IsStrictlySortedBy name_cmp roles.now }
-    ensures ok { IfOk result (λ numbers. list_map (λ run. run.items) numbers.items ≡ list_map (λ run. numbers_of roles.now run.now ++ more.now) runs.entry.now) }
+    ensures ok { IfOk result (λ numbers. list_map (λ run. run.items) numbers.items ≡ list_map (λ run. numbers_of roles.now run ++ more.now) runs.now) }
     ensures cause { IfErr result (λ refusal. refusal ≡ Refusal.Memory) }
 {
     let mut numbers = Vec::new(alloc);
@@ -73,7 +74,7 @@ pub(crate) fn run_numbers(
 fn numbers_with(
     alloc: Global,
     roles: &[Name],
-    run: &[(Name, Name)],
+    run: &Run<'_, (Name, Name)>,
     more: &[usize],
 ) -> Result<Vec<usize>, Refusal>
     requires { IsStrictlySortedBy name_cmp roles.now }
@@ -86,7 +87,7 @@ fn numbers_with(
 }
 
 // How many of the members are one of these roles, or a junior of one.
-fn reached(table: &OrderMatrix, run: &[usize], members: &[usize]) -> usize
+fn reached(table: &OrderMatrix<'_>, run: &[usize], members: &[usize]) -> usize
     ensures { result ≡ count_reached table.now run.now members.now }
 {
     members
@@ -96,7 +97,12 @@ fn reached(table: &OrderMatrix, run: &[usize], members: &[usize]) -> usize
 }
 
 // Whether none of the runs violates the set of these members and this cardinality.
-fn keep_below(table: &OrderMatrix, runs: &[Vec<usize>], members: &[usize], cardinality: u32) -> bool
+fn keep_below(
+    table: &OrderMatrix<'_>,
+    runs: &[Vec<usize>],
+    members: &[usize],
+    cardinality: u32,
+) -> bool
     ensures { result ≡ list_all (λ run. nat_lt (count_reached table.now run.items members.now) cardinality) runs.now }
 {
     runs.iter()
@@ -104,7 +110,7 @@ fn keep_below(table: &OrderMatrix, runs: &[Vec<usize>], members: &[usize], cardi
 }
 
 // Whether one of the members is this role, or a junior of it.
-fn touches(table: &OrderMatrix, role: usize, members: &[usize]) -> bool
+fn touches(table: &OrderMatrix<'_>, role: usize, members: &[usize]) -> bool
     ensures { result ≡ list_any (λ member. entry table.now role member) members.now }
 {
     members.iter().any(|member| table.geq(role, *member))
@@ -112,7 +118,7 @@ fn touches(table: &OrderMatrix, role: usize, members: &[usize]) -> bool
 
 // Whether one of the members is this role or a junior of it, and one of the runs violates the set.
 fn is_violated_by(
-    table: &OrderMatrix,
+    table: &OrderMatrix<'_>,
     runs: &[Vec<usize>],
     role: usize,
     members: &[usize],
@@ -146,7 +152,7 @@ pub(crate) fn all_keep_below(
 // Whether none of the runs violates any of the sets.
 pub(crate) fn keep_all(
     alloc: Global,
-    table: &OrderMatrix,
+    table: &OrderMatrix<'_>,
     roles: &[Name],
     runs: &[Vec<usize>],
     members: &PairSet,
@@ -157,7 +163,7 @@ pub(crate) fn keep_all(
     ensures cause { IfErr result (λ refusal. refusal ≡ Refusal.Memory) }
 {
     for set in sets {
-        let members = second_numbers(alloc, roles, members.with_first(&set.0))?;
+        let members = second_numbers(alloc, roles, &Run::of(members.with_first(&set.0)))?;
         if !keep_below(table, runs, &members, set.1) {
             return Ok(false);
         }
@@ -169,7 +175,7 @@ pub(crate) fn keep_all(
 // junior of it as a member.
 pub(crate) fn first_violated_by<'a>(
     alloc: Global,
-    table: &OrderMatrix,
+    table: &OrderMatrix<'_>,
     roles: &[Name],
     runs: &[Vec<usize>],
     role: usize,
@@ -181,7 +187,7 @@ pub(crate) fn first_violated_by<'a>(
     ensures cause { IfErr result (λ refusal. refusal ≡ Refusal.Memory) }
 {
     for set in sets {
-        let members = second_numbers(alloc, roles, members.with_first(&set.0))?;
+        let members = second_numbers(alloc, roles, &Run::of(members.with_first(&set.0)))?;
         if is_violated_by(table, runs, role, &members, set.1) {
             return Ok(Some(set));
         }

@@ -3,7 +3,6 @@
 //! Only a user or session that has the ascendant can come to violate a set. The roles of each of these
 //! are collected once, and then the sets are checked one after another.
 ghost use Rattle.std.specs.Prelude.{◌≡◌, IsTrue, IfOk, filter};
-ghost use Rattle.std.specs.Prelude.{map as list_map};
 ghost use Rattle.std.specs.List.{list_all, list_any};
 ghost use Rattle.std.specs.Option.{option_copied};
 ghost use Rattle.rbac_sets.specs.Sets.{Cardinality, Pair, all, contains, members, pair_cmp};
@@ -16,6 +15,7 @@ use crate::separation_of_duty::SeparationOfDuty;
 use crate::separation_of_duty::by_name::{is_reached, is_touched};
 use crate::separation_of_duty::by_number::{first_violated_by, run_numbers};
 use crate::state::State;
+use chunked_sets::Run;
 use order_matrix::{OrderMatrix, number};
 use rbac_sets::{Name, PairSet, Refusal};
 use role_order::RoleOrder;
@@ -55,8 +55,8 @@ fn runs_with_role<'a>(
     state: &'a State,
     duty: SeparationOfDuty,
     role: &Name,
-) -> Result<Vec<&'a [(Name, Name)]>, AllocError>
-    ensures { IfOk result (λ runs. list_map (λ run. run.now) runs.items ≡ filter (λ held. is_reached state.now.facts.edges held role.now) (runs_of duty state.now.facts)) }
+) -> Result<Vec<Run<'a, (Name, Name)>>, AllocError>
+    ensures { IfOk result (λ runs. runs.items ≡ filter (λ held. is_reached state.now.facts.edges held role.now) (runs_of duty state.now.facts)) }
 {
     duty.runs(state.relations())
         .filter(|held| is_reached(state.order(), held, role))
@@ -76,15 +76,15 @@ fn touches_some(order: &RoleOrder, role: &Name, members: &PairSet, sets: &[(Name
 fn find_violated<'a>(
     alloc: Global,
     state: &State,
-    runs: &[&[(Name, Name)]],
+    runs: &[Run<'_, (Name, Name)>],
     more: &Name,
     members: &PairSet,
     sets: &'a [(Name, u32)],
 ) -> Result<Option<&'a (Name, u32)>, Refusal>
-    requires runs { IsTrue (list_all (λ run. list_all (λ (pair : Pair). contains state.now.facts.roles pair.1) run.now) runs.now) }
+    requires runs { IsTrue (list_all (λ run. list_all (λ (pair : Pair). contains state.now.facts.roles pair.1) run) runs.now) }
     requires more { IsTrue (contains state.now.facts.roles more.now) }
     requires members { IsTrue (all (λ (pair : Pair). contains state.now.facts.roles pair.1) (set_of pair_cmp members.now)) }
-    ensures { IfOk result (λ found. option_copied found ≡ find_violated state.now.facts.edges (list_map (λ run. run.now) runs.entry.now) more.now (set_of pair_cmp members.now) sets.now) }
+    ensures { IfOk result (λ found. option_copied found ≡ find_violated state.now.facts.edges runs.now more.now (set_of pair_cmp members.now) sets.now) }
 {
     if runs.is_empty() {
         return Ok(None);

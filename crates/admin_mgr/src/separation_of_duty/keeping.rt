@@ -2,8 +2,8 @@
 //! any session.
 //!
 //! Each role of each user or session is looked for among all roles once, and is then known by its number.
-//! Where there are fewer users or sessions than roles, they are asked by names: the reachability matrix would
-//! cost more than the searches that it saves.
+//! If there are fewer users or sessions than roles, their roles are looked for by name: the numbers of all roles
+//! would cost more than the searches that they save.
 ghost use Rattle.std.specs.Prelude.{◌≡◌, ◌+◌, ◌||◌, not, nat_lt, IsTrue, IfOk, IfErr, false};
 ghost use Rattle.rbac_sets.specs.Sets.{contains, insert, name_cmp};
 ghost use Rattle.rbac_sets.specs.SortedSet.{set_of};
@@ -17,6 +17,7 @@ use crate::separation_of_duty::SeparationOfDuty;
 use crate::separation_of_duty::by_name::{is_reached, reached_members, reached_roles};
 use crate::separation_of_duty::by_number::{all_keep_below, name_numbers};
 use crate::state::State;
+use chunked_sets::Run;
 use order_matrix::{number, second_numbers};
 use rbac_sets::{Name, NameSet, Refusal};
 use role_order::RoleOrder;
@@ -62,7 +63,7 @@ fn keeps_by_name(
     ensures { result ≡ is_kept duty relations.now.facts (set_of name_cmp roles.now) cardinality }
 {
     let order = relations.order();
-    duty.runs(relations).all(|held| reached_roles(order, held, roles.as_slice())
+    duty.runs(relations).all(|held| reached_roles(order, &held, roles.as_slice())
         < cardinality as usize)
 }
 
@@ -88,8 +89,8 @@ pub(crate) fn keeps_set(
     if are_few(relations, duty) {
         return Ok(keeps_members(relations, duty, set, cardinality));
     }
-    let members = duty.members(state).with_first(set);
-    let wanted = second_numbers(alloc, relations.roles().as_slice(), members)?;
+    let members = Run::of(duty.members(state).with_first(set));
+    let wanted = second_numbers(alloc, relations.roles().as_slice(), &members)?;
     let kept = all_keep_below(alloc, relations, duty, &wanted, cardinality)?;
     Ok(kept)
 }
@@ -106,7 +107,7 @@ fn keeps_members(
 {
     let order = relations.order();
     let members = duty.members_in(relations).with_first(set);
-    duty.runs(relations).all(|held| reached_members(order, held, members) < cardinality as usize)
+    duty.runs(relations).all(|held| reached_members(order, &held, members) < cardinality as usize)
 }
 
 // Whether each user or session has fewer of the set's roles and `role` than `cardinality`, which is the set's
@@ -130,7 +131,7 @@ pub(crate) fn keeps_with(
         return Ok(keeps_with_by_name(state, duty, set, cardinality, role));
     }
     let roles = relations.roles().as_slice();
-    let mut wanted = second_numbers(alloc, roles, duty.members(state).with_first(set))?;
+    let mut wanted = second_numbers(alloc, roles, &Run::of(duty.members(state).with_first(set)))?;
     wanted.push(number(roles, role))?;
     let kept = all_keep_below(alloc, relations, duty, &wanted, cardinality)?;
     Ok(kept)
@@ -151,13 +152,13 @@ fn keeps_with_by_name(
     state.recall_good();
     let order = state.order();
     let members = duty.members(state).with_first(set);
-    duty.runs(state.relations()).all(|held| is_below_with(order, held, role, members, cardinality))
+    duty.runs(state.relations()).all(|held| is_below_with(order, &held, role, members, cardinality))
 }
 
 // Whether the holder doesn't have the role, or has fewer of the members and the role than `cardinality`.
 fn is_below_with(
     order: &RoleOrder,
-    held: &[(Name, Name)],
+    held: &Run<'_, (Name, Name)>,
     role: &Name,
     members: &[(Name, Name)],
     cardinality: u32,

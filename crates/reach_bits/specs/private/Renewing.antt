@@ -1,7 +1,7 @@
 -- The rows of a closure while they are made anew.
 use Rattle.std.specs.Prelude.{◌≡◌, ◌⊎◌, ℕ, List, IsTrue, false}
 use Rattle.bit_rows.specs.Rows.{has_bit}
-use Rattle.reach_bits.specs.Closing.{IsRight}
+use Rattle.reach_bits.specs.private.Closing.{IsRight}
 use Rattle.reach_bits.specs.Graph.{Graph, HasEdge}
 
 -- one of the edges leads to the number, or to one whose row has it

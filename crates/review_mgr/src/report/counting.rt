@@ -13,7 +13,7 @@ fn has_number(numbers: &[usize], role: usize) -> bool
 }
 
 // Whether the role equals or dominates one of the run's.
-fn has_below(table: &OrderMatrix, numbers: &[usize], role: usize) -> bool
+fn has_below(table: &OrderMatrix<'_>, numbers: &[usize], role: usize) -> bool
     ensures { result ≡ list_any (λ number. entry table.now role number) numbers.now }
 {
     numbers.iter().any(|number| table.geq(role, *number))
@@ -34,14 +34,14 @@ pub(super) fn count_runs_with(runs: &[Vec<usize>], role: usize) -> u64
 }
 
 // How many of the runs have the role, or a senior of it.
-pub(super) fn count_runs_above(table: &OrderMatrix, runs: &[Vec<usize>], role: usize) -> u64
+pub(super) fn count_runs_above(table: &OrderMatrix<'_>, runs: &[Vec<usize>], role: usize) -> u64
     ensures { result ≡ count_by (λ run. list_any (λ number. entry table.now number role) run.items) runs.now }
 {
     runs.iter().filter(|run| table.reaches(run, role)).count() as u64
 }
 
 // How many of the runs have the role, or a junior of it.
-pub(super) fn count_runs_below(table: &OrderMatrix, runs: &[Vec<usize>], role: usize) -> u64
+pub(super) fn count_runs_below(table: &OrderMatrix<'_>, runs: &[Vec<usize>], role: usize) -> u64
     ensures { result ≡ count_by (λ run. list_any (λ number. entry table.now role number) run.items) runs.now }
 {
     runs.iter()

@@ -8,15 +8,16 @@ ghost use Rattle.role_order.specs.private.Runs.{run_of};
 ghost use Rattle.order_matrix.specs.Table.{number_in};
 
 use admin_mgr::State;
+use chunked_sets::{ChunkedGrants, ChunkedPairs, Run};
 use order_matrix::{OrderMatrix, number, second_numbers};
-use rbac_sets::{GrantSet, Name, PairSet, Refusal};
+use rbac_sets::{Name, Refusal};
 use std::alloc::Global;
 
 // The numbers that the report counts: a role's number is its place among the roles in byte order.
 #[derive(Drop)]
-pub(super) struct Numbers {
+pub(super) struct Numbers<'a> {
     // the reachability matrix of the roles
-    pub(super) table: OrderMatrix,
+    pub(super) table: OrderMatrix<'a>,
     // of each user, the roles that it is assigned
     pub(super) assigned: Vec<Vec<usize>>,
     // of each permission, the roles that it is granted to
@@ -25,21 +26,21 @@ pub(super) struct Numbers {
     pub(super) grants: Vec<usize>,
 }
 
-impl Numbers {
+impl<'a> Numbers<'a> {
     ghost use Rattle.review_mgr.specs.private.Numbering.{IsNumbering};
 
     // The numbers of a state.
-    pub(super) fn new(alloc: Global, state: &State) -> Result<Numbers, Refusal>
+    pub(super) fn new(alloc: Global, state: &'a State) -> Result<Numbers<'a>, Refusal>
         ensures ok { IfOk result (IsNumbering state.now.facts) }
         ensures cause { IfErr result (λ refusal. refusal ≡ Refusal.Memory) }
     {
         let roles = state.roles().as_slice();
         let table = OrderMatrix::new(alloc, state.order(), roles)?;
-        let users = state.users().as_slice();
-        let assigned = assigned_numbers(alloc, roles, users, state.assignments())?;
-        let permissions = state.permissions().as_slice();
-        let granted = granted_numbers(alloc, roles, permissions, state.grants())?;
-        let grants = third_numbers(alloc, roles, state.grants().as_slice())?;
+        let users = state.users().as_run();
+        let assigned = assigned_numbers(alloc, roles, &users, state.assignments())?;
+        let permissions = state.permissions().as_run();
+        let granted = granted_numbers(alloc, roles, &permissions, state.grants())?;
+        let grants = third_numbers(alloc, roles, &state.grants().as_run())?;
         Ok(Numbers {
             table,
             assigned,
@@ -53,7 +54,7 @@ impl Numbers {
 fn third_numbers(
     alloc: Global,
     roles: &[Name],
-    grants: &[(Name, Name, Name)],
+    grants: &Run<'_, (Name, Name, Name)>,
 ) -> Result<Vec<usize>, Refusal>
     requires { IsStrictlySortedBy name_cmp roles.now }
     ensures ok { IfOk result (λ numbers. numbers.items ≡ map (λ (grant : Triple). number_in roles.now grant.2) grants.now) }
@@ -61,7 +62,7 @@ fn third_numbers(
 {
     let mut numbers = Vec::new(alloc);
     numbers.reserve(grants.len())?;
-    for grant in grants {
+    for grant in grants.iter() {
         numbers.push(number(roles, &grant.2))?;
     }
     Ok(numbers)
@@ -71,8 +72,8 @@ fn third_numbers(
 fn assigned_numbers(
     alloc: Global,
     roles: &[Name],
-    users: &[Name],
-    assignments: &PairSet,
+    users: &Run<'_, Name>,
+    assignments: &ChunkedPairs,
 ) -> Result<Vec<Vec<usize>>, Refusal>
     requires { IsStrictlySortedBy name_cmp roles.now }
     ensures ok { IfOk result (λ runs. map (λ run. run.items) runs.items
@@ -81,8 +82,8 @@ fn assigned_numbers(
 {
     let mut runs = Vec::new(alloc);
     runs.reserve(users.len())?;
-    for user in users {
-        runs.push(second_numbers(alloc, roles, assignments.with_first(user))?)?;
+    for user in users.iter() {
+        runs.push(second_numbers(alloc, roles, &assignments.with_first(user))?)?;
     }
     Ok(runs)
 }
@@ -91,8 +92,8 @@ fn assigned_numbers(
 fn granted_numbers(
     alloc: Global,
     roles: &[Name],
-    permissions: &[(Name, Name)],
-    grants: &GrantSet,
+    permissions: &Run<'_, (Name, Name)>,
+    grants: &ChunkedGrants,
 ) -> Result<Vec<Vec<usize>>, Refusal>
     requires { IsStrictlySortedBy name_cmp roles.now }
     ensures ok { IfOk result (λ runs. map (λ run. run.items) runs.items
@@ -102,9 +103,9 @@ fn granted_numbers(
 {
     let mut runs = Vec::new(alloc);
     runs.reserve(permissions.len())?;
-    for permission in permissions {
+    for permission in permissions.iter() {
         let run = grants.with_first((&permission.0, &permission.1));
-        runs.push(third_numbers(alloc, roles, run)?)?;
+        runs.push(third_numbers(alloc, roles, &run)?)?;
     }
     Ok(runs)
 }

@@ -64,7 +64,7 @@ pub fn user_operations_on_object(
         alloc,
         state.order(),
         state.grants(),
-        assigned_to(state, user),
+        &assigned_to(state, user),
         object,
     )
 }

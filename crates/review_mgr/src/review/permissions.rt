@@ -57,7 +57,7 @@ pub fn user_permissions(
         alloc,
         state.order(),
         state.grants(),
-        assigned_to(state, user),
+        &assigned_to(state, user),
     )
 }
 

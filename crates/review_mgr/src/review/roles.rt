@@ -79,5 +79,5 @@ pub fn authorized_roles(alloc: Global, state: &State, user: &Name) -> Result<Vec
         return Err(Refusal::NoUser);
     }
     state.recall_good();
-    roles_reached(alloc, state.order(), assigned_to(state, user))
+    roles_reached(alloc, state.order(), &assigned_to(state, user))
 }

@@ -28,7 +28,7 @@ pub fn session_roles(alloc: Global, state: &State, session: &Name) -> Result<Vec
         return Err(Refusal::NoSession);
     }
     state.recall_good();
-    roles_reached(alloc, state.order(), activated_in(state, &name))
+    roles_reached(alloc, state.order(), &activated_in(state, &name))
 }
 
 /// SessionPermissions: the permissions that are granted to the roles of the session, as pairs
@@ -56,6 +56,6 @@ pub fn session_permissions(
         alloc,
         state.order(),
         state.grants(),
-        activated_in(state, &name),
+        &activated_in(state, &name),
     )
 }

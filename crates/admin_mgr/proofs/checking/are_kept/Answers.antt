@@ -1,6 +1,5 @@
 use Rattle.std.proofs.Common.{◌++◌, [], map, sym, subst, ◌∙◌, ap}
 use Rattle.std.specs.List.Sorted.{IsStrictlySortedBy}
-use Rattle.std.proofs.lemmas.Simd.{map-map}
 use Rattle.rbac_sets.specs.Sets.{members, name_cmp}
 use Rattle.rbac_sets.proofs.Members.{members-rise}
 use Rattle.order_matrix.specs.Table.{numbers_of}
@@ -21,8 +20,7 @@ returns-clause-ok c =
     let sets = sets_of c.args.duty S in
     let roles = c.as_slice-roles.ensures ∙ ap members c.roles.ensures in
     let numbers = ap (map (λ run. run.items)) c.deref-2.ensures.value ∙ c.in_ok-numbers.ensures.ok
-    ∙ (λ i. map (λ run. numbers_of (roles i) run.now ++ []) (c.deref.ensures.value i))
-    ∙ sym (map-map (λ run. numbers_of (members S.roles) run ++ []) (λ run. run.now) c.in_ok-runs.runs.items)
+    ∙ (λ i. map (λ run. numbers_of (roles i) run ++ []) (c.deref.ensures.value i))
     ∙ ap (map (λ run. numbers_of (members S.roles) run ++ [])) c.in_ok-runs.ensures in
     c.in_ok-kept.ensures.ok
     ∙ (λ i. keep_all c.args.table.now (roles i) (numbers i) (c.members_in-members.ensures i) ((c.as_slice-sets.ensures ∙ ap members c.cardinalities_in.ensures) i))

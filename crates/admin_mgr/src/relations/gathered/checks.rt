@@ -9,7 +9,8 @@ ghost use Rattle.admin_mgr.specs.private.CheckTests.{early_refusal, have_one_use
 use crate::judge::set_refusals::{has_set, member_count};
 use crate::lookup::{are_among, are_firsts_in, are_seconds_in};
 use crate::relations::gathered::StoredSets;
-use rbac_sets::{CountSet, GrantSet, Kind, NameSet, PairSet, Refusal, has_first};
+use chunked_sets::{ChunkedGrants, ChunkedPairs, EntrySet, has_first};
+use rbac_sets::{CountSet, Kind, Name, NameSet, PairSet, Refusal};
 
 // The kinds whose limits are checked, in this order.
 const LIMITED: [Kind; 12] = [
@@ -143,7 +144,6 @@ impl StoredSets {
     {
         let sessions = &self.relations.sessions;
         sessions
-            .as_slice()
             .iter()
             .all(|session| member_count(sessions, &session.0) <= 1)
     }
@@ -151,35 +151,31 @@ impl StoredSets {
 
 // Whether more pairs than the limit begin with one name.
 #[tactic(auto, unfolding(rbac_sets::specs::Sets::any))]
-fn has_more_with_first(pairs: &PairSet, limit: usize) -> bool
-    ensures { result ≡ has_more_with_first limit (set_of pair_cmp pairs.now) }
+fn has_more_with_first<P: EntrySet<(Name, Name)>>(pairs: &P, limit: usize) -> bool
+    ensures { result ≡ has_more_with_first limit (set_of pair_cmp (P.stored pairs.now)) }
 {
     pairs
-        .as_slice()
+        .entries()
         .iter()
         .any(|pair| member_count(pairs, &pair.0) > limit)
 }
 
 // Whether each grant is one of a permission that exists.
 #[tactic(auto, unfolding(rbac_sets::specs::Sets::all))]
-fn have_permissions(permissions: &PairSet, grants: &GrantSet) -> bool
+fn have_permissions(permissions: &ChunkedPairs, grants: &ChunkedGrants) -> bool
     ensures { result ≡ all (λ (grant : Triple). contains (set_of pair_cmp permissions.now) (grant.0, grant.1)) (set_of triple_cmp grants.now) }
 {
     grants
-        .as_slice()
         .iter()
         .all(|grant| permissions.contains((&grant.0, &grant.1)))
 }
 
 // Whether each grant is one to a role that exists.
 #[tactic(auto, unfolding(rbac_sets::specs::Sets::all))]
-fn have_roles(roles: &NameSet, grants: &GrantSet) -> bool
+fn have_roles(roles: &NameSet, grants: &ChunkedGrants) -> bool
     ensures { result ≡ all (λ (grant : Triple). contains (set_of name_cmp roles.now) grant.2) (set_of triple_cmp grants.now) }
 {
-    grants
-        .as_slice()
-        .iter()
-        .all(|grant| roles.contains(&grant.2))
+    grants.iter().all(|grant| roles.contains(&grant.2))
 }
 
 // Whether each member belongs to a set that has a cardinality.
@@ -195,11 +191,8 @@ fn have_sets(members: &PairSet, cardinalities: &CountSet) -> bool
 
 // Whether each activated role belongs to a session that exists.
 #[tactic(auto, unfolding(rbac_sets::specs::Sets::all))]
-fn have_sessions(active: &PairSet, sessions: &PairSet) -> bool
+fn have_sessions(active: &ChunkedPairs, sessions: &ChunkedPairs) -> bool
     ensures { result ≡ all (λ (pair : Pair). any (λ session. same_name session.0 pair.0) (set_of pair_cmp sessions.now)) (set_of pair_cmp active.now) }
 {
-    active
-        .as_slice()
-        .iter()
-        .all(|pair| has_first(sessions, &pair.0))
+    active.iter().all(|pair| has_first(sessions, &pair.0))
 }

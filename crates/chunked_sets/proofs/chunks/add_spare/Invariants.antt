@@ -1,5 +1,5 @@
 use Rattle.std.proofs.Common.{◌≤◌, ◌-◌, vec_len}
-use Rattle.chunked_sets.specs.Chunks.{AreSpare}
+use Rattle.chunked_sets.specs.private.Chunks.{AreSpare}
 use Rattle.chunked_sets.proofs.chunks.add_spare.Given as goal
 
 abbrev pub invariant-loop-alloc : goal.invariant-loop-alloc

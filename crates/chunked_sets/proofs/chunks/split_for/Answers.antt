@@ -1,7 +1,7 @@
 use Rattle.std.proofs.Common.{◌≤◌, ◌<◌, length, arith, sym, ◌∙◌, subst, add-one, Global}
 use Rattle.std.specs.Vec.{vec_capacity}
 use Rattle.std.specs.declared.vec.Vec.{Vec}
-use Rattle.chunked_sets.specs.Chunks.{AreChunks}
+use Rattle.chunked_sets.specs.private.Chunks.{AreChunks}
 use Rattle.chunked_sets.proofs.Splitting.{halved_entries, halved_chunks, home_above, home_below}
 use Rattle.chunked_sets.proofs.chunks.split_for.Goals as goal
 

@@ -1,5 +1,6 @@
 use Rattle.std.proofs.Common.{◌≡◌, ◌≤◌, ◌^◌, vec_len}
-use Rattle.chunked_sets.specs.Chunks.{entries_of, AreChunks}
+use Rattle.chunked_sets.specs.Chunks.{entries_of}
+use Rattle.chunked_sets.specs.private.Chunks.{AreChunks}
 use Rattle.chunked_sets.proofs.making.chunks_from.Given as goal
 
 abbrev pub invariant-loop-entry : goal.invariant-loop-entry

@@ -1,7 +1,8 @@
 use Rattle.std.proofs.Common.{◌+◌, ◌≤◌, vec_len, vec_capacity}
 use Rattle.std.specs.VecDeque.{deque_len}
 use Rattle.std.specs.List.Sorted.{IsStrictlySortedBy}
-use Rattle.chunked_sets.specs.Chunks.{entries_of, AreChunks, AreSpare}
+use Rattle.chunked_sets.specs.Chunks.{entries_of}
+use Rattle.chunked_sets.specs.private.Chunks.{AreChunks, AreSpare}
 use Rattle.chunked_sets.proofs.Merges.{Remains}
 use Rattle.chunked_sets.proofs.pass.insert_each.Given as goal
 

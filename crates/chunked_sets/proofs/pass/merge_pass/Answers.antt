@@ -2,7 +2,8 @@ use Rattle.std.proofs.Common.{◌≡◌, [], drop, ap, sym, subst, ◌∙◌, ar
 use Rattle.std.specs.List.Sorted.{IsStrictlySortedBy}
 use Rattle.std.proofs.lemmas.List.{nil_from_length}
 use Rattle.rbac_sets.specs.Sets.{from_list}
-use Rattle.chunked_sets.specs.Chunks.{entries_of, AreChunks}
+use Rattle.chunked_sets.specs.Chunks.{entries_of}
+use Rattle.chunked_sets.specs.private.Chunks.{AreChunks}
 use Rattle.chunked_sets.specs.private.Passes.{in_order}
 use Rattle.chunked_sets.proofs.ChunkLists.{sorted_first}
 use Rattle.chunked_sets.proofs.Merges.{Remains, remains_first, remains_absent, remains_more, remains_none, passed_rest, each_trivial}

@@ -2,7 +2,8 @@ use Rattle.std.proofs.Common.{◌≡◌, ◌+◌, ◌≤◌, vec_len, vec_capaci
 use Rattle.std.specs.VecDeque.{deque_len, deque_capacity}
 use Rattle.std.specs.List.{AllByRecursion}
 use Rattle.std.specs.List.Sorted.{IsStrictlySortedBy}
-use Rattle.chunked_sets.specs.Chunks.{entries_of, AreChunks, AreSpare}
+use Rattle.chunked_sets.specs.Chunks.{entries_of}
+use Rattle.chunked_sets.specs.private.Chunks.{AreChunks, AreSpare}
 use Rattle.chunked_sets.specs.private.Passes.{in_order, HasPassed}
 use Rattle.chunked_sets.proofs.Merges.{Remains}
 use Rattle.chunked_sets.proofs.pass.merge_pass.Given as goal

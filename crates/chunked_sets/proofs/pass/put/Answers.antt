@@ -4,7 +4,8 @@ use Rattle.std.specs.declared.vec.Vec.{Vec}
 use Rattle.std.specs.List.Sorted.{IsStrictlySortedBy}
 use Rattle.rbac_sets.specs.Sets.{contains, insert, from_list}
 use Rattle.rbac_sets.proofs.InOrder.{is_err-search}
-use Rattle.chunked_sets.specs.Chunks.{entries_of, AreChunks}
+use Rattle.chunked_sets.specs.Chunks.{entries_of}
+use Rattle.chunked_sets.specs.private.Chunks.{AreChunks}
 use Rattle.chunked_sets.specs.private.Passes.{in_order}
 use Rattle.chunked_sets.proofs.ChunkLists.{each_of, all_of, each_set}
 use Rattle.chunked_sets.proofs.Inserting.{inserts_sorted, inserts_set, inserts_put, sorted_chunk, absent_chunk}

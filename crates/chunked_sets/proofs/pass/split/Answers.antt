@@ -1,7 +1,7 @@
 use Rattle.std.proofs.Common.{◌≡◌, ◌<◌, ◌≤◌, ◌-◌, ◌+◌, suc, length, [], ◌∷◌, ap, sym, subst, ◌∙◌, arith, add-one, length-append, Global}
 use Rattle.std.specs.Vec.{vec_capacity}
 use Rattle.std.specs.declared.vec.Vec.{Vec}
-use Rattle.chunked_sets.specs.Chunks.{AreChunks}
+use Rattle.chunked_sets.specs.private.Chunks.{AreChunks}
 use Rattle.chunked_sets.specs.private.Places.{IsHome}
 use Rattle.chunked_sets.specs.private.Passes.{in_order}
 use Rattle.chunked_sets.proofs.Splitting.{halved, halved_chunks, home_above, home_below}

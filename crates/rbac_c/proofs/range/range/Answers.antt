@@ -7,4 +7,4 @@ use Rattle.rbac_c.proofs.range.range.Goals as goal
 pub returns-in-ClosurePairs : goal.returns-in-ClosurePairs
 returns-in-ClosurePairs c =
     let pairs = set_of pair_cmp c.pairs.result.now in
-    rw c.in-ClosurePairs.is (pairs, subst (λ edges. IsClosure edges pairs) c.order-in-ClosurePairs.ensures c.pairs.ensures, (c.range_of-in-ClosurePairs.ensures.start, c.range_of-in-ClosurePairs.ensures.end))
+    rw c.in-ClosurePairs.is (pairs, subst (λ edges. IsClosure edges pairs) c.order-in-ClosurePairs.ensures c.pairs.ensures, (c.range-in-ClosurePairs.ensures.start, c.range-in-ClosurePairs.ensures.end))

@@ -2,7 +2,8 @@ use Rattle.std.proofs.Common.{◌%◌, ◌∙◌, sym, ap}
 use Rattle.std.specs.Ordering.{nat_cmp}
 use Rattle.std.specs.Cmp.{tied_itself}
 use Rattle.std.specs.Cmp.Lexicographic.{slice_cmp, nat_list_cmp_total}
-use Rattle.rbac_sets.proofs.Fronts.{as_numbers, same_where_short}
+use Rattle.short_text.proofs.Fronts.{as_numbers}
+use Rattle.rbac_sets.proofs.Fronts.{same_where_short}
 use Rattle.rbac_sets.proofs.name.order.Goals as goal
 
 pub returns-then-front-other_front : goal.returns-then-front-other_front

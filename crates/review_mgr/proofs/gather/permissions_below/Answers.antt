@@ -7,5 +7,5 @@ use Rattle.review_mgr.proofs.gather.permissions_below.Goals as goal
 
 pub returns-clause-ok : goal.returns-clause-ok
 returns-clause-ok c =
-    c.gather.ensures.ok (set_of triple_cmp c.args.grants.now) c.as_slice.ensures (λ (grant : Triple). geq c.args.order.now.edges c.args.role.now grant.2) permission_of
+    c.gather.ensures.ok (set_of triple_cmp c.args.grants.now) c.as_run.ensures (λ (grant : Triple). geq c.args.order.now.edges c.args.role.now grant.2) permission_of
     (λ x b k. (let told : b ≡ contains (from_list {R = name_cmp} c.in_ok-roles.roles.items) x.2 = search rules in told ∙ c.in_ok-roles.ensures.below x.2)) (λ x p k. search rules)

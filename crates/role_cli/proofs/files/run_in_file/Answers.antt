@@ -1,4 +1,4 @@
-use Rattle.std.proofs.Common.{◌≡◌, inr, refl, arith, subst, sym}
+use Rattle.std.proofs.Common.{◌≡◌, ◌∙◌, inr, refl, arith, subst, sym}
 use Rattle.std.specs.Prelude.{IfSome}
 use Rattle.role_cli.specs.Paths.{ChangesOffice}
 use Rattle.role_cli.proofs.Beginning.{store_fails}
@@ -17,7 +17,7 @@ pub returns-in-Err-clause-some_failed : goal.returns-in-Err-clause-some_failed
 returns-in-Err-clause-some_failed g c = inr (c.in-Err.ensures.refusal, (refl, refl, refl))
 
 pub returns-in-Err-clause-left : goal.returns-in-Err-clause-left
-returns-in-Err-clause-left g c = c.in-Err.ensures.same
+returns-in-Err-clause-left g c = (c.in-Err.ensures.settled ∙ c.requires.folder, c.in-Err.ensures.same)
 
 pub returns-in-Err-clause-at : goal.returns-in-Err-clause-at
 returns-in-Err-clause-at g c opened = absurd (opened refl)

@@ -46,7 +46,7 @@ returns-in-None-clause-failed g c =
     (λ failure fails caused. fails_in_memory _ _ (image_at g.D.Start) c.args.choice.now failure _ _ _ _ _ _ c.in-None.ensures.none.0 refl (λ kept. (kept.0, kept.1, refl)) fails caused)
 
 pub returns-in-None-clause-left : goal.returns-in-None-clause-left
-returns-in-None-clause-left g c = refl
+returns-in-None-clause-left g c = (c.requires.folder, refl)
 
 pub returns-in-None-clause-at : goal.returns-in-None-clause-at
 returns-in-None-clause-at g c opened = absurd (opened refl)

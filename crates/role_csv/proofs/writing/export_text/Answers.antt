@@ -1,34 +1,28 @@
-use Rattle.std.proofs.Common.{◌≡◌, ◌<◌, ◌+◌, ◌++◌, [], ◌∙◌, ap, refl, sym, arith, add-one, append_assoc, drop, get_or, length, List, ℕ}
-use Rattle.std.proofs.lemmas.List.{append-nil, drop_all}
-use Rattle.std.proofs.Math.Seq.{drop-cons}
-use Rattle.rbac_sets.specs.Sets.{Pair}
+use Rattle.std.proofs.Common.{◌≡◌, ◌++◌, ◌∷◌, ◌∙◌, ap, refl, sym, append_assoc, List, ℕ}
+use Rattle.std.specs.Prelude.{codes}
+use Rattle.std.proofs.lemmas.List.{append-nil}
+use Rattle.rbac_sets.specs.Sets.{Bytes, Pair}
+use Rattle.chunked_sets.specs.Entries.{entries_left}
 use Rattle.role_csv.specs.Export.{export, line_of, lines_of}
 use Rattle.role_csv.proofs.writing.export_text.Goals as goal
 
-lines_step : (pairs : List Pair) (i : ℕ) (q : Pair) → i < length pairs → q ≡ get_or pairs i q → lines_of (drop i pairs) ≡ line_of q ++ lines_of (drop (i + 1) pairs)
-unfolding lines_of
-lines_step pairs i q h is = rw (add-one i, drop-cons pairs i q h, ← is) refl
-
-pub loop-user-init : goal.loop-user-init
+-- the header is written, and all pairs are left
+header_first : (written : Bytes) (left pairs : List Pair) → written ≡ line_of (codes "user", codes "role") → left ≡ pairs → written ++ lines_of left ≡ export pairs
 unfolding export
-loop-user-init c =
+header_first written left pairs is all = rw (is, all) refl
+
+-- the line of the first pair that is left is written
+line_more : (t before after line all : Bytes) (left rest : List Pair) (q : Pair)
+    → before ≡ t → after ≡ before ++ line → line ≡ line_of q → left ≡ q ∷ rest → t ++ lines_of left ≡ all → after ++ lines_of rest ≡ all
+unfolding lines_of
+line_more t before after line all left rest q same more is step whole =
+    let written : after ≡ t ++ line_of q = rw (more, same, is) refl in
+    ap (λ z. z ++ lines_of rest) written ∙ append_assoc t (line_of q) (lines_of rest) ∙ ap (λ l. t ++ lines_of l) (sym step) ∙ whole
+
+pub loop-pair-init : goal.loop-pair-init
+loop-pair-init c =
     let from = c.from_writer-writer.ensures in
     let told = c.in_ok-write_pair.ensures in
-    record {
-      ended = told.ended;
-      clean = told.clean;
-      plain = told.plain;
-      text = (_, refl, ap (λ (z : List ℕ). z ++ lines_of c.args.pairs.now) (told.text ∙ rw (from.wtr, c.new-2.ensures.items, from.empty) refl));
-    }
-
-pub loop-user-preserved : goal.loop-user-preserved
-loop-user-preserved c =
-    let (t, at, all) = c.loop-user.invariant.text in
-    let told = c.in_ok-write_pair-2.ensures in
-    let q = c.loop-user-item.result in
-    let before : List ℕ = c.loop-user.writer.wtr.inner.items ++ c.loop-user.writer.wtr.buf in
-    let same : before ≡ t = cc at in
-    let step = lines_step c.args.pairs.now c.loop-user.user-index q c.loop-user-test.true c.loop-user-item.is in
     record {
       ended = told.ended;
       clean = told.clean;
@@ -36,19 +30,30 @@ loop-user-preserved c =
       text = (
         _,
         refl,
-        ap (λ (z : List ℕ). z ++ lines_of (drop (c.loop-user.user-index + 1) c.args.pairs.now)) (told.text ∙ rw (c.as_str.ensures.text, c.as_str-in-loop-user.ensures.text) refl)
-            ∙ append_assoc before (line_of q) (lines_of (drop (c.loop-user.user-index + 1) c.args.pairs.now))
-            ∙ ap (λ (z : List ℕ). before ++ z) (sym step)
-            ∙ ap (λ (z : List ℕ). z ++ lines_of (drop c.loop-user.user-index c.args.pairs.now)) same
-            ∙ all,
+        header_first _ _ c.args.pairs.now (told.text ∙ rw (from.wtr, c.new-2.ensures.items, from.empty) refl)
+            (ap entries_left c.into_iter-pair-iterator.ensures.into_iter_gives ∙ c.iter-pair-items.ensures),
       );
+    }
+
+pub loop-pair-preserved : goal.loop-pair-preserved
+loop-pair-preserved c =
+    let (t, at, all) = c.loop-pair.invariant.text in
+    let told = c.in_ok-write_pair-2.ensures in
+    let before : List ℕ = c.loop-pair.writer.wtr.inner.items ++ c.loop-pair.writer.wtr.buf in
+    let same : before ≡ t = cc at in
+    let q = c.in-Some.pair.now in
+    let is : line_of (c.as_str.result.now, c.as_str-in-loop-pair.result.now) ≡ line_of q = rw (c.as_str.ensures.text, c.as_str-in-loop-pair.ensures.text) refl in
+    record {
+      ended = told.ended;
+      clean = told.clean;
+      plain = told.plain;
+      text = (_, refl, line_more t before _ _ _ _ _ q same told.text is c.in-Some.ensures.steps all);
     }
 
 pub returns-in-Ok-clause-text : goal.returns-in-Ok-clause-text
 unfolding lines_of
 returns-in-Ok-clause-text c =
-    let (t, at, all) = c.loop-user.invariant.text in
-    let before : List ℕ = c.loop-user.writer.wtr.inner.items ++ c.loop-user.writer.wtr.buf in
+    let (t, at, all) = c.loop-pair.invariant.text in
+    let before : List ℕ = c.loop-pair.writer.wtr.inner.items ++ c.loop-pair.writer.wtr.buf in
     let same : before ≡ t = cc at in
-    let done : drop c.loop-user.user-index c.args.pairs.now ≡ [] = drop_all c.loop-user.user-index c.args.pairs.now (omega arith) in
-    c.in-Ok.ensures.ok ∙ same ∙ rw (done, append-nil t) at all
+    c.in-Ok.ensures.ok ∙ same ∙ rw (c.in-None.ensures.steps.0, append-nil t) at all

@@ -20,5 +20,5 @@ pub returns-clause-part : goal.returns-clause-part
 returns-clause-part g c =
     let (part, rest, is, some, wrote) = c.in-Err.ensures.part in
     let whole : c.deref.result.now ≡ exported c.args.state.now.facts =
-    c.deref.ensures.value ∙ c.in_ok-text.ensures.text ∙ ap export (c.as_slice.ensures ∙ ap members c.assignments.ensures) in
+    c.deref.ensures.value ∙ c.in_ok-text.ensures.text ∙ ap export (c.as_run.ensures ∙ ap members c.assignments.ensures) in
     (part, rest, sym whole ∙ is, some, wrote)

@@ -8,13 +8,13 @@ use Rattle.role_tables.specs.private.CreationSteps.{IsStage, no_table, no_rows}
 use Rattle.role_tables.specs.SchemaTests.{may_create}
 use Rattle.role_tables.specs.Durability.{LeavesBeforeOr, IsDurable}
 use Rattle.role_tables.proofs.OfficeTables.Looking.{first_stage}
-use Rattle.role_tables.proofs.Runs.{begins}
+use Rattle.role_tables.proofs.Runs.{begins, is_outside}
 use Rattle.role_tables.proofs.creating.create_with.Goals as goal
 
 pub returns-in-Ok-clause-ok : goal.returns-in-Ok-clause-ok
 returns-in-Ok-clause-ok g c =
     let version : c.version-version.result ≡ c.args.first.facts.version = c.version-version.ensures.version in
-    let autocommit : (state g.S.Store c.args.conn).in_transaction ≡ false = search rules in
+    let autocommit : (state g.S.Store c.args.conn).in_transaction ≡ false = is_outside _ _ c.is_autocommit.ensures.value c.if-not-is_autocommit.false in
     let may : may_create c.args.first.facts.version (state g.S.Store c.args.conn).now.schema ≡ true = search rules in
     let stage : IsTrue (state g.S.Store c.args.conn).is_open → IsStage c.version-version.result no_table (state g.S.Store c.args.conn).now no_rows = λ is_open.
     first_stage c.version-version.result (state g.S.Store c.args.conn).now c.version-version.ensures.known (rw (← version) at may) (c.schema.ensures.live is_open).0 in

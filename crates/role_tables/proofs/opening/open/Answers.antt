@@ -8,7 +8,7 @@ use Rattle.role_tables.specs.TableContents.{contents_of}
 use Rattle.role_tables.specs.OpeningChecks.{IsStateOfContents}
 use Rattle.role_tables.specs.Durability.{IsDurable}
 use Rattle.role_tables.proofs.Reading.Durability.{leaves_still, stays_durable, opens_the_state, refuses_no_more}
-use Rattle.role_tables.proofs.Runs.{begins}
+use Rattle.role_tables.proofs.Runs.{begins, is_outside}
 use Rattle.role_tables.proofs.opening.open.Goals as goal
 
 pub returns-in-Ok-clause-ok : goal.returns-in-Ok-clause-ok
@@ -17,7 +17,7 @@ returns-in-Ok-clause-ok g c =
     let same : c.read_state.new.conn ≡ c.new.result.conn = search rules in
     let old = state g.S.Store c.args.conn in (
       c.new.ensures.2,
-      search rules,
+      is_outside _ _ c.is_autocommit.ensures.value c.if-not-is_autocommit.false,
       subst (λ h. HasCleanDisk (state g.S.Store h) → IsStateOfContents (contents_of old.now) c.new.result.facts × IsUnchanged old (state g.S.Store h)) same
           (λ clean. let got = c.in-Ok.ensures.ok clean in (subst (λ (S : RbacState). IsStateOfContents (contents_of old.now) S) (sym facts) got.0, got.1)),
     )

@@ -21,9 +21,9 @@ returns-clause-planned c =
     let S = c.args.state.now.facts in
     let taken = listed_then c.in_ok-take.ensures.ok c.new-changes.ensures.items (λ i. Take ((c.role.ensures ∙ ap (NameRow ROLE) c.in_ok-copy.ensures.ok) i) ∷ []) in
     let deassigned = listed_then c.in_ok-take_pairs_with_second.ensures.ok taken
-    (λ i. take_all (pair_row ASSIGNMENT) (filter (λ (pair : Pair). same_name pair.1 c.args.role.now) ((c.as_slice.ensures ∙ ap members c.assignments.ensures) i))) in
+    (λ i. take_all (pair_row ASSIGNMENT) (filter (λ (pair : Pair). same_name pair.1 c.args.role.now) ((c.as_run.ensures ∙ ap members c.assignments.ensures) i))) in
     let revoked = listed_then c.in_ok-take_grants_of_role.ensures.ok deassigned
-    (λ i. take_all grant_row (filter (λ (grant : Triple). same_name grant.2 c.args.role.now) ((c.as_slice-2.ensures ∙ ap members c.grants.ensures) i))) in
+    (λ i. take_all grant_row (filter (λ (grant : Triple). same_name grant.2 c.args.role.now) ((c.as_run-2.ensures ∙ ap members c.grants.ensures) i))) in
     plan_of S (DeleteRole c.args.role.now) c.plain.result _ refl
     (c.plain.ensures.changes ∙ listed_then c.in_ok-take_ended.ensures.ok revoked refl)
     c.plain.ensures.report

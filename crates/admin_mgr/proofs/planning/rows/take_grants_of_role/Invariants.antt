@@ -2,8 +2,9 @@ use Rattle.std.proofs.Common.{map, filter}
 use Rattle.rbac_sets.specs.Sets.{Triple, same_name}
 use Rattle.rbac_sets.specs.declared.row.Row.TheVariants.{GrantRow}
 use Rattle.rbac_sets.specs.declared.row.Change.TheVariants.{Take}
-use Rattle.admin_mgr.proofs.PlanRows.ListLaws.{IsListed}
+use Rattle.chunked_sets.specs.Entries.{entries_left}
+use Rattle.admin_mgr.proofs.PlanRows.ListLaws.{IsListedBut}
 use Rattle.admin_mgr.proofs.planning.rows.take_grants_of_role.Given as goal
 
 abbrev pub invariant-loop-grant : goal.invariant-loop-grant
-invariant-loop-grant l = IsListed (λ xs. map (λ (x : Triple). Take (GrantRow x.0 x.1 x.2)) (filter (λ (x : Triple). same_name x.2 l.role) xs)) l.fn.changes.items l.grants l.grant-index l.changes.items
+invariant-loop-grant l = IsListedBut (λ xs. map (λ (x : Triple). Take (GrantRow x.0 x.1 x.2)) (filter (λ (x : Triple). same_name x.2 l.role) xs)) l.fn.changes.items l.grants (entries_left l.grant-iterator) l.changes.items

@@ -2,8 +2,9 @@ use Rattle.std.proofs.Common.{map, filter}
 use Rattle.rbac_sets.specs.Sets.{Pair, same_name}
 use Rattle.rbac_sets.specs.declared.row.Row.TheVariants.{PairRow}
 use Rattle.rbac_sets.specs.declared.row.Change.TheVariants.{Take}
-use Rattle.admin_mgr.proofs.PlanRows.ListLaws.{IsListed}
+use Rattle.chunked_sets.specs.Entries.{entries_left}
+use Rattle.admin_mgr.proofs.PlanRows.ListLaws.{IsListedBut}
 use Rattle.admin_mgr.proofs.planning.rows.take_pairs_with_second.Given as goal
 
 abbrev pub invariant-loop-pair : goal.invariant-loop-pair
-invariant-loop-pair l = IsListed (λ xs. map (λ (x : Pair). Take (PairRow l.kind x.0 x.1)) (filter (λ (x : Pair). same_name x.1 l.second) xs)) l.fn.changes.items l.pairs l.pair-index l.changes.items
+invariant-loop-pair l = IsListedBut (λ xs. map (λ (x : Pair). Take (PairRow l.kind x.0 x.1)) (filter (λ (x : Pair). same_name x.1 l.second) xs)) l.fn.changes.items l.pairs (entries_left l.pair-iterator) l.changes.items

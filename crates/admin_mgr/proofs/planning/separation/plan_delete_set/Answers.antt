@@ -15,6 +15,6 @@ returns-clause-planned c = elim c.match-cardinality.branch [
       (sym c.cardinality.ensures ∙ w.in-Some.is)
       (c.plain.ensures.changes ∙ c.in_ok-take_pairs.ensures.ok
       ∙ (λ i. (ap (λ changes. changes.items) w.changes-is ∙ w.in_ok-take.ensures.ok ∙ (λ j. c.new-changes.ensures.items j ++ Take ((w.in_ok-set_row.ensures.ok ∙ (λ k. SetRow (w.cardinality_rows.ensures k) c.args.set.now w.in-Some.cardinality)) j) ∷ [])) i
-      ++ take_all (pair_row (c.member_rows.ensures i)) ((c.with_first.ensures ∙ ap (λ pairs. run_of pairs c.args.set.now) c.members.ensures) i)))
+      ++ take_all (pair_row (c.member_rows.ensures i)) ((c.of.ensures ∙ c.with_first.ensures ∙ ap (λ pairs. run_of pairs c.args.set.now) c.members.ensures) i)))
   | in_default w ↦ absurd (none_deleted c.args.duty c.args.state.now.facts c.args.set.now (sym c.cardinality.ensures ∙ none_unless_some _ w.in_default.not-Some) c.requires.accepted)
 ]

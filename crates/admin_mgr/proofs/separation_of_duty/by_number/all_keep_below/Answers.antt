@@ -1,7 +1,6 @@
 use Rattle.std.proofs.Common.{◌++◌, [], map, nat_lt, sym, subst, ◌∙◌, ap}
 use Rattle.std.specs.List.Sorted.{IsStrictlySortedBy}
 use Rattle.std.proofs.lemmas.List.Folds.{list_all-map}
-use Rattle.std.proofs.lemmas.Simd.{map-map}
 use Rattle.rbac_sets.specs.Sets.{members, name_cmp}
 use Rattle.rbac_sets.proofs.Members.{members-rise}
 use Rattle.order_matrix.specs.Table.{numbers_of, table_of}
@@ -17,8 +16,7 @@ returns-clause-ok c =
     let roles = c.as_slice-roles.ensures ∙ ap members c.roles.ensures in
     let table = c.in_ok-table.ensures.ok ∙ (λ i. table_of (c.order.ensures i) (roles i)) in
     let numbers = ap (map (λ run. run.items)) c.deref-2.ensures.value ∙ c.in_ok-numbers.ensures.ok
-    ∙ (λ i. map (λ run. numbers_of (roles i) run.now ++ []) (c.deref.ensures.value i))
-    ∙ sym (map-map (λ run. numbers_of (members S.roles) run ++ []) (λ run. run.now) c.in_ok-runs.runs.items)
+    ∙ (λ i. map (λ run. numbers_of (roles i) run ++ []) (c.deref.ensures.value i))
     ∙ ap (map (λ run. numbers_of (members S.roles) run ++ [])) c.in_ok-runs.ensures in
     c.keep_below.ensures
     ∙ sym (list_all-map (λ run. nat_lt (count_reached c.in_ok-table.table run c.args.wanted.now) c.args.cardinality) (λ run. run.items) c.deref-2.result.now)

@@ -21,7 +21,7 @@ pub returns-then-is_violated_by-clause-ok : goal.returns-then-is_violated_by-cla
 returns-then-is_violated_by-clause-ok c =
     sym (found_here (λ (set : Cardinality). is_violated_by c.args.table.now (map (λ run. run.items) c.args.runs.now) c.args.role (numbers_of c.args.roles.now (run_of (set_of pair_cmp c.args.members.now) set.0)) set.1)
     c.args.sets.now c.loop-set.set-index c.set-item.result (search rules) c.set-item.is
-    (violated_by_numbers (λ run. run.items) c.args.runs.now c.args.table.now c.args.role c.deref.result.now _ c.set-item.result.1 (c.deref.ensures.value ∙ c.in_ok-members.ensures.ok ∙ ap (numbers_of c.args.roles.now) c.with_first.ensures)
+    (violated_by_numbers (λ run. run.items) c.args.runs.now c.args.table.now c.args.role c.deref.result.now _ c.set-item.result.1 (c.deref.ensures.value ∙ c.in_ok-members.ensures.ok ∙ ap (numbers_of c.args.roles.now) (c.of.ensures ∙ c.with_first.ensures))
     ∙ sym c.is_violated_by.ensures ∙ c.if-is_violated_by.true))
     ∙ c.loop-set.invariant
 
@@ -29,7 +29,7 @@ pub loop-set-preserved : goal.loop-set-preserved
 loop-set-preserved c =
     sym (found_later (λ (set : Cardinality). is_violated_by c.args.table.now (map (λ run. run.items) c.args.runs.now) c.args.role (numbers_of c.args.roles.now (run_of (set_of pair_cmp c.args.members.now) set.0)) set.1)
     c.args.sets.now c.loop-set.set-index c.set-item.result (search rules) c.set-item.is
-    (violated_by_numbers (λ run. run.items) c.args.runs.now c.args.table.now c.args.role c.deref.result.now _ c.set-item.result.1 (c.deref.ensures.value ∙ c.in_ok-members.ensures.ok ∙ ap (numbers_of c.args.roles.now) c.with_first.ensures)
+    (violated_by_numbers (λ run. run.items) c.args.runs.now c.args.table.now c.args.role c.deref.result.now _ c.set-item.result.1 (c.deref.ensures.value ∙ c.in_ok-members.ensures.ok ∙ ap (numbers_of c.args.roles.now) (c.of.ensures ∙ c.with_first.ensures))
     ∙ sym c.is_violated_by.ensures ∙ c.if-is_violated_by.false))
     ∙ c.loop-set.invariant
 

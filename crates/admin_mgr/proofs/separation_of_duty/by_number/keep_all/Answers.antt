@@ -19,7 +19,7 @@ pub returns-then-not-keep_below-clause-ok : goal.returns-then-not-keep_below-cla
 returns-then-not-keep_below-clause-ok c =
     sym (all_here (λ (set : Cardinality). keep_below c.args.table.now (map (λ run. run.items) c.args.runs.now) (numbers_of c.args.roles.now (run_of (set_of pair_cmp c.args.members.now) set.0)) set.1)
     c.args.sets.now c.loop-set.set-index c.set-item.result (search rules) c.set-item.is
-    (kept_by (λ run. run.items) c.args.runs.now c.args.table.now c.deref.result.now _ c.set-item.result.1 (c.deref.ensures.value ∙ c.in_ok-members.ensures.ok ∙ ap (numbers_of c.args.roles.now) c.with_first.ensures)
+    (kept_by (λ run. run.items) c.args.runs.now c.args.table.now c.deref.result.now _ c.set-item.result.1 (c.deref.ensures.value ∙ c.in_ok-members.ensures.ok ∙ ap (numbers_of c.args.roles.now) (c.of.ensures ∙ c.with_first.ensures))
     ∙ sym c.keep_below.ensures ∙ c.if-not-keep_below.true))
     ∙ c.loop-set.invariant
 
@@ -27,7 +27,7 @@ pub loop-set-preserved : goal.loop-set-preserved
 loop-set-preserved c =
     sym (all_later (λ (set : Cardinality). keep_below c.args.table.now (map (λ run. run.items) c.args.runs.now) (numbers_of c.args.roles.now (run_of (set_of pair_cmp c.args.members.now) set.0)) set.1)
     c.args.sets.now c.loop-set.set-index c.set-item.result (search rules) c.set-item.is
-    (kept_by (λ run. run.items) c.args.runs.now c.args.table.now c.deref.result.now _ c.set-item.result.1 (c.deref.ensures.value ∙ c.in_ok-members.ensures.ok ∙ ap (numbers_of c.args.roles.now) c.with_first.ensures)
+    (kept_by (λ run. run.items) c.args.runs.now c.args.table.now c.deref.result.now _ c.set-item.result.1 (c.deref.ensures.value ∙ c.in_ok-members.ensures.ok ∙ ap (numbers_of c.args.roles.now) (c.of.ensures ∙ c.with_first.ensures))
     ∙ sym c.keep_below.ensures ∙ c.if-not-keep_below.false))
     ∙ c.loop-set.invariant
 

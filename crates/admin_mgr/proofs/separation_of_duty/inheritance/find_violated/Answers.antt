@@ -1,10 +1,7 @@
 use Rattle.std.proofs.Common.{◌++◌, [], ◌∷◌, length, map, sym, subst, ◌∙◌, ap}
-use Rattle.std.specs.List.{list_all}
 use Rattle.std.specs.List.Sorted.{IsStrictlySortedBy}
 use Rattle.std.proofs.lemmas.Bool.{eqb-true}
-use Rattle.std.proofs.lemmas.List.Folds.{list_all-map}
-use Rattle.std.proofs.lemmas.Simd.{map-map}
-use Rattle.rbac_sets.specs.Sets.{Pair, contains, members, name_cmp, pair_cmp}
+use Rattle.rbac_sets.specs.Sets.{members, name_cmp, pair_cmp}
 use Rattle.rbac_sets.specs.SortedSet.{set_of}
 use Rattle.rbac_sets.proofs.Members.{members-rise}
 use Rattle.order_matrix.specs.Table.{number_in, numbers_of, table_of}
@@ -23,7 +20,7 @@ first_violated_by-requires c = subst (IsStrictlySortedBy name_cmp) (sym c.as_sli
 
 pub returns-then-is_empty : goal.returns-then-is_empty
 returns-then-is_empty c =
-    sym (nobody_violates (λ run. run.now) c.args.runs.now (eqb-true (length c.args.runs.now) 0 (sym c.is_empty.ensures ∙ c.if-is_empty.true)) c.args.state.now.facts.edges c.args.more.now (set_of pair_cmp c.args.members.now) c.args.sets.now)
+    sym (nobody_violates c.args.runs.now (eqb-true (length c.args.runs.now) 0 (sym c.is_empty.ensures ∙ c.if-is_empty.true)) c.args.state.now.facts.edges c.args.more.now (set_of pair_cmp c.args.members.now) c.args.sets.now)
 
 pub returns : goal.returns
 returns c =
@@ -31,12 +28,11 @@ returns c =
     let roles = c.as_slice-roles.ensures ∙ ap members c.roles.ensures in
     let more = c.number-more.ensures.number ∙ ap (λ names. number_in names c.args.more.now) roles in
     let table = c.in_ok-table.ensures.ok ∙ (λ i. table_of (c.order.ensures i) (roles i)) in
-    let runs = map (λ run. run.now) c.args.runs.now in
+    let runs = c.args.runs.now in
     let numbers = ap (map (λ run. run.items)) c.deref.ensures.value ∙ c.in_ok-numbers.ensures.ok
-    ∙ (λ i. map (λ run. numbers_of (roles i) run.now ++ more i ∷ []) c.args.runs.now)
-    ∙ sym (map-map (λ run. numbers_of (members S.roles) run ++ number_in (members S.roles) c.args.more.now ∷ []) (λ run. run.now) c.args.runs.now) in
+    ∙ (λ i. map (λ run. numbers_of (roles i) run ++ more i ∷ []) c.args.runs.now) in
     c.in_ok-found.ensures.ok
     ∙ (λ i. first_violated_by c.in_ok-table.table (roles i) (numbers i) (more i) (set_of pair_cmp c.args.members.now) c.args.sets.now)
     ∙ first_violated_is S.roles S.edges c.in_ok-table.table table c.args.more.now c.requires.more runs
-    (list_all-map (list_all (λ (pair : Pair). contains S.roles pair.1)) (λ run. run.now) c.args.runs.now ∙ c.requires.runs)
+    c.requires.runs
     (set_of pair_cmp c.args.members.now) c.requires.members c.args.sets.now

@@ -1,6 +1,5 @@
-use Rattle.std.proofs.Common.{◌≡◌, false, List, map, nat_lt, sym, ◌∙◌, ap}
+use Rattle.std.proofs.Common.{◌≡◌, false, List, nat_lt, sym, ◌∙◌, ap}
 use Rattle.std.specs.List.{list_all, list_any}
-use Rattle.std.proofs.lemmas.List.Folds.{list_all-map}
 use Rattle.rbac_sets.specs.Sets.{Cardinality, Pair, all, contains, members}
 use Rattle.admin_mgr.specs.private.HolderRoles.{find_violated, is_reached, is_touched, reached_with, run_of}
 use Rattle.admin_mgr.specs.private.SeparationOfDuty.{sets_of}
@@ -22,8 +21,7 @@ pub find_violated-requires-clause-runs : goal.find_violated-requires-clause-runs
 find_violated-requires-clause-runs c =
     let S = c.args.state.now.facts in
     let there = λ (pair : Pair). contains S.roles pair.1 in
-    sym (list_all-map (list_all there) (λ run. run.now) c.deref.result.now)
-    ∙ ap (list_all (list_all there)) (ap (map (λ run. run.now)) c.deref.ensures.value ∙ c.in_ok-runs.ensures)
+    ap (list_all (list_all there)) (c.deref.ensures.value ∙ c.in_ok-runs.ensures)
     ∙ left_are_there S (roles_are_there S c.recall_good.ensures.well_formed) c.args.duty (λ held. is_reached S.edges held c.args.asc.now)
 
 pub find_violated-requires-clause-members : goal.find_violated-requires-clause-members
@@ -34,4 +32,4 @@ find_violated-requires-clause-members c =
 pub returns-in-Ok : goal.returns-in-Ok
 returns-in-Ok c =
     c.in-Ok.ensures
-    ∙ (λ i. find_violated c.args.state.now.facts.edges ((ap (map (λ run. run.now)) c.deref.ensures.value ∙ c.in_ok-runs.ensures) i) c.args.desc.now (c.members-members.ensures i) ((c.as_slice-sets.ensures ∙ ap members c.cardinalities.ensures) i))
+    ∙ (λ i. find_violated c.args.state.now.facts.edges ((c.deref.ensures.value ∙ c.in_ok-runs.ensures) i) c.args.desc.now (c.members-members.ensures i) ((c.as_slice-sets.ensures ∙ ap members c.cardinalities.ensures) i))

@@ -9,5 +9,5 @@ use Rattle.admin_mgr.proofs.separation_of_duty.keeping.keeps_by_name.Goals as go
 
 pub returns : goal.returns
 returns c =
-    all_from_yields_List _ _ _ _ c.all.ensures.ran (YieldsList-from_first (λ x. x.now) runs_left _ c.runs.ensures) (λ x b q k. search rules)
+    all_from_yields_List _ c.all.new.self _ _ c.all.ensures.ran (YieldsList-from_first (λ x. x) runs_left _ c.runs.ensures) (λ x b q k. search rules)
     ∙ sym (kept_by_runs c.args.duty c.args.relations.now.facts (set_of name_cmp c.args.roles.now) c.args.cardinality)

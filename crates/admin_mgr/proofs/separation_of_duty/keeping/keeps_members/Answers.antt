@@ -9,5 +9,5 @@ use Rattle.admin_mgr.proofs.separation_of_duty.keeping.keeps_members.Goals as go
 pub returns : goal.returns
 returns c =
     let S = c.args.relations.now.facts in
-    all_from_yields_List _ _ _ _ c.all.ensures.ran (YieldsList-from_first (λ x. x.now) runs_left _ c.runs.ensures) (λ x b q k. search rules)
+    all_from_yields_List _ c.all.new.self _ _ c.all.ensures.ran (YieldsList-from_first (λ x. x) runs_left _ c.runs.ensures) (λ x b q k. search rules)
     ∙ sym (kept_members c.args.duty S (sets_of c.args.duty S) c.args.set.now c.args.cardinality)

@@ -24,7 +24,7 @@ returns-clause-ok c =
     let sets = sets_of c.args.duty S in
     let formed = roles_are_there S c.recall_good.ensures.well_formed in
     let same = ap (λ r. r.facts) c.relations-relations.ensures in
-    let run = c.with_first-members.ensures ∙ ap (λ pairs. run_of pairs c.args.set.now) c.members.ensures in
+    let run = c.of-members.ensures ∙ c.with_first.ensures ∙ ap (λ pairs. run_of pairs c.args.set.now) c.members.ensures in
     let roles = c.as_slice.ensures ∙ ap members (c.roles.ensures ∙ ap (λ (T : RbacState). T.roles) same) in
     let wanted = c.deref.ensures.value ∙ c.in_ok-wanted.ensures.ok ∙ (λ i. numbers_of (roles i) (run i)) in
     c.in_ok-kept.ensures.ok

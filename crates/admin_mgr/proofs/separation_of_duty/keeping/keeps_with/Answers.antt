@@ -30,7 +30,7 @@ returns-clause-ok c =
     let formed = roles_are_there S c.recall_good.ensures.well_formed in
     let same = ap (λ r. r.facts) c.relations-relations.ensures in
     let here : contains S.roles role ≡ true = sym (ap (λ names. contains names role) c.roles.ensures) ∙ sym c.contains.ensures ∙ c.if-not-contains.false in
-    let run = c.with_first.ensures ∙ ap (λ pairs. run_of pairs c.args.set.now) c.members.ensures in
+    let run = c.of.ensures ∙ c.with_first.ensures ∙ ap (λ pairs. run_of pairs c.args.set.now) c.members.ensures in
     let roles = c.as_slice-roles.ensures ∙ ap members (c.roles-2.ensures ∙ ap (λ (T : RbacState). T.roles) same) in
     let wanted = c.deref.ensures.value ∙ c.in_ok-push.ensures.items
     ∙ (λ i. (c.in_ok-wanted.ensures.ok ∙ (λ k. numbers_of (roles k) (run k))) i ++ (c.number.ensures.number ∙ (λ k. number_in (roles k) role)) i ∷ [])

@@ -3,7 +3,7 @@ use Rattle.std.specs.Prelude.{IsTrue, slice_set}
 use Rattle.std.proofs.lemmas.List.{get_or_read}
 use Rattle.bit_rows.specs.Rows.{has_bit}
 use Rattle.reach_bits.specs.Graph.{Graph, HasEdge, Leads}
-use Rattle.reach_bits.specs.Closing.{IsReach}
+use Rattle.reach_bits.specs.private.Closing.{IsReach}
 use Rattle.reach_bits.proofs.RowLaws.{edges_added, put_is}
 use Rattle.reach_bits.proofs.Reaching.{lent_back, reach_more}
 use Rattle.reach_bits.proofs.reach.Reach.add.Goals as goal

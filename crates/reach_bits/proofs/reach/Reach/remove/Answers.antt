@@ -3,7 +3,7 @@ use Rattle.std.specs.Prelude.{IsTrue, slice_set}
 use Rattle.std.proofs.lemmas.List.{get_or_read}
 use Rattle.bit_rows.specs.Rows.{has_bit}
 use Rattle.reach_bits.specs.Graph.{Graph, HasEdge}
-use Rattle.reach_bits.specs.Closing.{IsReach, IsRight}
+use Rattle.reach_bits.specs.private.Closing.{IsReach, IsRight}
 use Rattle.reach_bits.specs.private.Renewing.{IsPartlyRight}
 use Rattle.reach_bits.proofs.RowLaws.{edges_removed, wide_at}
 use Rattle.reach_bits.proofs.Parting.{settled_none}

@@ -1,10 +1,11 @@
-use Rattle.std.proofs.Common.{◌∙◌, refl, sym, subst}
-use Rattle.rbac_sets.specs.Sets.{Pairs, pair_cmp, union, difference, IsDisjoint}
+use Rattle.std.proofs.Common.{◌≡◌, ◌∙◌, refl, sym, ap, subst}
+use Rattle.rbac_sets.specs.Sets.{Pair, Pairs, pair_cmp, insert, union, difference, IsDisjoint}
 use Rattle.rbac_sets.specs.SortedSet.{set_of}
 use Rattle.role_order.specs.Order.{IsClosure}
-use Rattle.role_order.specs.Planned.{Order, Plan, changed}
+use Rattle.role_order.specs.Planned.{Order, Plan, Fits, changed}
 use Rattle.role_order.proofs.Members.{disjoint-from}
 use Rattle.role_order.proofs.Planning.{gained_apart, good_after, changed-adds, changed-takes}
+use Rattle.role_order.proofs.Numbering.{added_apart, AreEdgesOf-added, AreEdgesOf-removed}
 use Rattle.role_order.proofs.order.RoleOrder.commit.Goals as goal
 
 pub merge_reserved-requires-clause-disjoint : goal.merge_reserved-requires-clause-disjoint
@@ -14,6 +15,36 @@ merge_reserved-requires-clause-disjoint c =
     let closed : IsClosure old pairs = subst (λ (o : Order). IsClosure o.edges pairs) c.self.view_is c.self.invariant.1 in
     subst (λ (p : Plan). IsDisjoint pairs p.puts) (sym c.plan.view_is)
     (disjoint-from pairs c.args.plan.puts (gained_apart old (changed old c.args.plan) pairs c.args.plan.puts closed c.requires.fits.puts))
+
+pub add-requires-clause-apart : goal.add-requires-clause-apart
+add-requires-clause-apart c =
+    let old : Pairs = set_of pair_cmp c.self.inside.edges in
+    let shown : Plan = record {
+      adds = c.plan.inside.adds;
+      asc = c.plan.inside.asc;
+      desc = c.plan.inside.desc;
+      puts = set_of pair_cmp c.plan.inside.puts;
+      takes = set_of pair_cmp c.plan.inside.takes;
+      judged = c.plan.inside.judged;
+    } in
+    let fits : Fits old shown = subst (λ (p : Plan). Fits old p) (sym c.plan.view_is) (subst (λ (o : Order). Fits o.edges c.args.plan) (sym c.self.view_is) c.requires.fits) in
+    (added_apart c.self.inside.numbered old shown c.plan.inside.ends.0 c.plan.inside.ends.1 c.self.invariant.2 c.if-adds.true
+    (sym (ap (λ (p : Pair). p.0) c.plan.invariant)) (sym (ap (λ (p : Pair). p.1) c.plan.invariant)) fits).0
+
+pub add-requires-clause-acyclic : goal.add-requires-clause-acyclic
+add-requires-clause-acyclic c =
+    let old : Pairs = set_of pair_cmp c.self.inside.edges in
+    let shown : Plan = record {
+      adds = c.plan.inside.adds;
+      asc = c.plan.inside.asc;
+      desc = c.plan.inside.desc;
+      puts = set_of pair_cmp c.plan.inside.puts;
+      takes = set_of pair_cmp c.plan.inside.takes;
+      judged = c.plan.inside.judged;
+    } in
+    let fits : Fits old shown = subst (λ (p : Plan). Fits old p) (sym c.plan.view_is) (subst (λ (o : Order). Fits o.edges c.args.plan) (sym c.self.view_is) c.requires.fits) in
+    (added_apart c.self.inside.numbered old shown c.plan.inside.ends.0 c.plan.inside.ends.1 c.self.invariant.2 c.if-adds.true
+    (sym (ap (λ (p : Pair). p.0) c.plan.invariant)) (sym (ap (λ (p : Pair). p.1) c.plan.invariant)) fits).1
 
 pub invariant_of-self : goal.invariant_of-self
 invariant_of-self c =
@@ -28,10 +59,16 @@ invariant_of-self c =
       takes = set_of pair_cmp c.plan.inside.takes;
       judged = c.plan.inside.judged;
     } in
-    good_after old pairs c.args.plan _ _ c.requires.fits closed
+    let good = good_after old pairs c.args.plan (set_of pair_cmp c.insert_reserved.new.self) (set_of pair_cmp c.take_all.new.self) c.requires.fits closed
     (c.insert_reserved.ensures.inserted ∙ sym (changed-adds (set_of pair_cmp c.self.inside.edges) shown c.plan.inside.asc c.plan.inside.desc c.if-adds.true refl refl)
     ∙ (λ i. changed ((c.self.view_is i).edges) (c.plan.view_is i)))
-    (c.take_all.ensures.taken ∙ (λ i. difference (c.merge_reserved.ensures.merged i) ((c.plan.view_is i).takes)) ∙ (λ i. difference (union pairs ((c.plan.view_is i).puts)) c.args.plan.takes))
+    (c.take_all.ensures.taken ∙ (λ i. difference (c.merge_reserved.ensures.merged i) ((c.plan.view_is i).takes)) ∙ (λ i. difference (union pairs ((c.plan.view_is i).puts)) c.args.plan.takes)) in
+    let ends : c.plan.inside.ends ≡ (c.plan.inside.asc, c.plan.inside.desc) = c.plan.invariant in (
+      good.0,
+      good.1,
+      AreEdgesOf-added c.self.inside.numbered c.add.new.self (set_of pair_cmp c.self.inside.edges) (set_of pair_cmp c.insert_reserved.new.self) c.plan.inside.ends.0 c.plan.inside.ends.1 c.self.invariant.2
+          c.add.ensures (c.insert_reserved.ensures.inserted ∙ ap (λ (p : Pair). insert (set_of pair_cmp c.self.inside.edges) p) (sym ends)),
+    )
 
 pub invariant_of-self-else-adds : goal.invariant_of-self-else-adds
 invariant_of-self-else-adds c =
@@ -46,7 +83,12 @@ invariant_of-self-else-adds c =
       takes = set_of pair_cmp c.plan.inside.takes;
       judged = c.plan.inside.judged;
     } in
-    good_after old pairs c.args.plan _ _ c.requires.fits closed
-    (c.remove.ensures.removed ∙ sym (changed-takes (set_of pair_cmp c.self.inside.edges) shown c.plan.inside.asc c.plan.inside.desc c.if-adds.false refl refl)
+    let good = good_after old pairs c.args.plan (set_of pair_cmp c.remove-else-adds.new.self) (set_of pair_cmp c.take_all.new.self) c.requires.fits closed
+    (c.remove-else-adds.ensures.removed ∙ sym (changed-takes (set_of pair_cmp c.self.inside.edges) shown c.plan.inside.asc c.plan.inside.desc c.if-adds.false refl refl)
     ∙ (λ i. changed ((c.self.view_is i).edges) (c.plan.view_is i)))
-    (c.take_all.ensures.taken ∙ (λ i. difference (c.merge_reserved.ensures.merged i) ((c.plan.view_is i).takes)) ∙ (λ i. difference (union pairs ((c.plan.view_is i).puts)) c.args.plan.takes))
+    (c.take_all.ensures.taken ∙ (λ i. difference (c.merge_reserved.ensures.merged i) ((c.plan.view_is i).takes)) ∙ (λ i. difference (union pairs ((c.plan.view_is i).puts)) c.args.plan.takes)) in (
+      good.0,
+      good.1,
+      AreEdgesOf-removed c.self.inside.numbered c.remove.new.self (set_of pair_cmp c.self.inside.edges) (set_of pair_cmp c.remove-else-adds.new.self) c.plan.inside.asc c.plan.inside.desc c.self.invariant.2
+          c.remove.ensures.edges c.remove-else-adds.ensures.removed,
+    )

@@ -1,10 +1,10 @@
-use Rattle.std.proofs.Common.{◌≡◌, ◌∙◌, List, refl, sym, ap, subst}
+use Rattle.std.proofs.Common.{◌≡◌, ◌∙◌, false, List, refl, sym, ap, subst}
 use Rattle.std.specs.Prelude.{Contains}
 use Rattle.std.specs.List.{IsDistinct}
 use Rattle.rbac_sets.specs.Sets.{Bytes, Pairs, pair_cmp, remove, same_name}
 use Rattle.rbac_sets.specs.SortedSet.{set_of}
 use Rattle.role_order.specs.Order.{IsAcyclic, IsClosure, IsGained}
-use Rattle.role_order.specs.Planned.{Order}
+use Rattle.role_order.specs.Planned.{IsOrderPlanOf, Order, Plan}
 use Rattle.role_order.specs.private.Removal.{AreJuniorsFirst}
 use Rattle.role_order.proofs.Planning.{Fits-taken, judged_are}
 use Rattle.role_order.proofs.Removing.{IsGained-lost}
@@ -48,11 +48,18 @@ returns-clause-planned c =
     let left_are : set_of pair_cmp c.remove.new.self ≡ remove edges (c.args.asc.now, c.args.desc.now) =
     c.remove.ensures.removed ∙ ap (λ (s : Pairs). remove s (c.args.asc.now, c.args.desc.now)) (c.in_ok-left.ensures.ok ∙ ap (λ (o : Order). o.edges) c.self.view_is) in
     let lost : IsGained (set_of pair_cmp c.remove.new.self) edges takes = IsGained-lost (set_of pair_cmp c.remove.new.self) edges pairs takes closed c.in_ok-takes.ensures.lost in
-    record {
+    let plan : Plan = record {
+      adds = false;
+      asc = c.args.asc.now;
+      desc = c.args.desc.now;
+      puts = set_of pair_cmp c.new-puts.result;
+      takes = set_of pair_cmp c.in_ok-takes.takes;
+      judged = c.in_ok-judged.judged;
+    } in
+    subst (IsOrderPlanOf c.args.self.now.edges false c.args.asc.now c.args.desc.now) (sym c.in_ok-plan.ensures.ok) (record {
       same_kind = refl;
-      same_asc = c.in_ok-asc.ensures.ok;
-      same_desc = c.in_ok-desc.ensures.ok;
-      fits = Fits-taken edges c.args.asc.now c.args.desc.now _ refl c.in_ok-asc.ensures.ok c.in_ok-desc.ensures.ok c.new-puts.ensures good
-          (subst (λ (s : Pairs). IsGained s edges takes) left_are lost);
+      same_asc = refl;
+      same_desc = refl;
+      fits = Fits-taken edges c.args.asc.now c.args.desc.now plan refl refl refl c.new-puts.ensures good (subst (λ (s : Pairs). IsGained s edges takes) left_are lost);
       judged = c.in_ok-judged.ensures.ok ∙ judged_are edges c.args.asc.now c.args.desc.now _ _ c.in_ok-above.ensures.ok c.in_ok-below.ensures.ok;
-    }
+    })

@@ -1,0 +1,13 @@
+use Rattle.std.proofs.Common.{rules}
+use Rattle.std.proofs.lemmas.Iterator.Consumers.{YieldsList-from_first}
+use Rattle.std.proofs.lemmas.Iterator.Search.{all_from_yields_List}
+use Rattle.rbac_sets.specs.Sets.{Triple, all, contains, name_cmp}
+use Rattle.rbac_sets.specs.SortedSet.{set_of}
+use Rattle.chunked_sets.specs.Entries.{entries_left}
+use Rattle.admin_mgr.proofs.relations.gathered.checks.have_roles.Goals as goal
+
+pub returns : goal.returns
+unfolding all
+returns c =
+    all_from_yields_List (λ (grant : Triple). contains (set_of name_cmp c.args.roles.now) grant.2) c.all.new.self _ _ c.all.ensures.ran
+    (YieldsList-from_first (λ x. x.now) entries_left _ c.iter.ensures) (λ x b q k. search rules)

@@ -1,0 +1,2 @@
+-- Definitions that no public contract reaches: whoever calls or audits this crate need not read them.
+pub mod Texts
