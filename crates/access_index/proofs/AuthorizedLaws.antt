@@ -1,12 +1,12 @@
 -- What an index knows about the roles that users are authorized for.
-use Rattle.std.proofs.Common.{◌≡◌, ◌≢◌, ◌⊎◌, ◌↔◌, ℕ, ◌<◌, ◌≤◌, ◌+◌, Bool, false, ◌&&◌, ◌||◌, List, inl, inr, refl, sym, ◌∙◌, ap, subst, arith}
+use Rattle.std.proofs.Common.{◌≡◌, ◌≢◌, ◌⊎◌, ◌↔◌, ℕ, ◌<◌, ◌≤◌, ◌+◌, Bool, false, ◌||◌, List, inl, inr, sym, ◌∙◌, ap, subst, arith}
 use Rattle.std.specs.Prelude.{IsTrue, Option, Some, None, IfSome, Result, Ok, Err, OnOk, OnErr}
 use Rattle.std.specs.Str.{bytes_eq}
 use Rattle.std.specs.Map.{update}
 use Rattle.std.specs.HashMap.{get_by_text}
-use Rattle.std.proofs.lemmas.Bool.{true≢false, cases_eq, cases_lt, and_parts, and_from, or_cases, or_left, or_right}
+use Rattle.std.proofs.lemmas.Bool.{true≢false, cases_eq, cases_lt, or_cases, or_left, or_right}
 use Rattle.bit_rows.specs.declared.row.BitRow.{BitRow}
-use Rattle.bit_rows.specs.Rows.{HaveNumber, has}
+use Rattle.bit_rows.specs.Rows.{has}
 use Rattle.rbac_sets.specs.Sets.{Bytes}
 use Rattle.bit_tables.specs.declared.table.BitTable.{BitTable}
 use Rattle.bit_tables.specs.Tables.{has_at}
@@ -86,86 +86,66 @@ either_way (Err e) P Q R done failed is not = failed not
 
 -- ---- a row is counted
 
--- the row has the numbers with the bit, and those in the rows of such numbers below `from`
+-- the row has the numbers below `from` with the bit, those in the rows of such numbers, and no others
 abbrev pub ReachesBelow : List BitRow → (ℕ → Bool) → ℕ → BitRow → Type 0
-ReachesBelow rows bits from row = (n : ℕ) → IsTrue (has row n) ↔ (IsTrue (bits n) ⊎ ((i : ℕ) × (i < from) × IsTrue (bits i) × IsTrue (is_below rows i n)))
+ReachesBelow rows bits from row = (n : ℕ) → IsTrue (has row n) ↔ ((i : ℕ) × (i < from) × IsTrue (bits i) × ((i ≡ n) ⊎ IsTrue (is_below rows i n)))
 
 module _ (rows : List BitRow) (bits : ℕ → Bool) where
-  pub reaches_first : (row : BitRow) → ((n : ℕ) → has row n ≡ bits n) → ReachesBelow rows bits 0 row
-  reaches_first row same n = (
-    λ there. inl (sym (same n) ∙ there),
-    λ is. elim is [
-      | inl bit ↦ same n ∙ bit
-      | inr found ↦ absurd (omega (arith, found.1))
-    ],
-  )
+  pub reaches_first : (row : BitRow) → ((n : ℕ) → has row n ≡ false) → ReachesBelow rows bits 0 row
+  reaches_first row empty n = (λ there. absurd (true≢false (sym there ∙ empty n)), λ found. absurd (omega (arith, found.1)))
 
-  -- one more row is put in, that of the next number with the bit
-  pub reaches_more : (from number : ℕ) (row new juniors : BitRow) → from ≤ number → IsTrue (bits number) → ((m : ℕ) → from ≤ m → m < number → bits m ≡ false) → ((n : ℕ) → has juniors n ≡ is_below rows number n)
-      → ((n : ℕ) → has new n ≡ (has row n || (has juniors n && has juniors n))) → ReachesBelow rows bits from row → ReachesBelow rows bits (number + 1) new
-  reaches_more from number row new juniors late there between own put before n = (to, back)
+  -- the next number with the bit is put in, and its row
+  pub reaches_more : (from number : ℕ) (row own new : BitRow) → from ≤ number → IsTrue (bits number) → ((m : ℕ) → from ≤ m → m < number → bits m ≡ false)
+      → IsTrue (has own number) → ((n : ℕ) → n ≢ number → has own n ≡ has row n) → ((n : ℕ) → has new n ≡ (has own n || is_below rows number n)) → ReachesBelow rows bits from row → ReachesBelow rows bits (number + 1) new
+  reaches_more from number row own new late there between itself others put before n = (to, back)
     where
-      to : IsTrue (has new n) → IsTrue (bits n) ⊎ ((i : ℕ) × (i < number + 1) × IsTrue (bits i) × IsTrue (is_below rows i n))
-      to is = elim (or_cases (has row n) (has juniors n && has juniors n) (sym (put n) ∙ is)) [
-        | inl earlier ↦ elim ((before n).0 earlier) [
-          | inl bit ↦ inl bit
-          | inr found ↦ inr (found.0, omega (arith, found.1, late), found.2, found.3)
+      to : IsTrue (has new n) → (i : ℕ) × (i < number + 1) × IsTrue (bits i) × ((i ≡ n) ⊎ IsTrue (is_below rows i n))
+      to is = elim (or_cases (has own n) (is_below rows number n) (sym (put n) ∙ is)) [
+        | inl earlier ↦ elim (cases_eq n number) [
+          | inl same ↦ (number, omega arith, there, inl (sym same))
+          | inr differ ↦ let found = (before n).0 (sym (others n differ) ∙ earlier) in (found.0, omega (arith, found.1, late), found.2, found.3)
         ]
-        | inr added ↦ inr (number, omega arith, there, sym (own n) ∙ (and_parts (has juniors n) (has juniors n) added).0)
+        | inr below ↦ (number, omega arith, there, inr below)
       ]
 
-      earlier_or_here : (i : ℕ) → i < number + 1 → IsTrue (bits i) → (i < from) ⊎ (i ≡ number)
-      earlier_or_here i near bit = elim (cases_lt i from) [
-        | inl low ↦ inl low
+      in_own : IsTrue (has row n) → IsTrue (has own n)
+      in_own is = elim (cases_eq n number) [ inl same ↦ ap (has own) same ∙ itself | inr differ ↦ others n differ ∙ is ]
+
+      back : (i : ℕ) × (i < number + 1) × IsTrue (bits i) × ((i ≡ n) ⊎ IsTrue (is_below rows i n)) → IsTrue (has new n)
+      back (i, near, bit, how) = put n ∙ elim (cases_lt i from) [
+        | inl low ↦ or_left (has own n) (is_below rows number n) (in_own ((before n).1 (i, low, bit, how)))
         | inr high ↦ elim (cases_eq i number) [
-          | inl same ↦ inr same
+          | inl same ↦ elim how [
+            | inl is ↦ or_left (has own n) (is_below rows number n) (ap (has own) (sym is ∙ same) ∙ itself)
+            | inr below ↦ or_right (has own n) (is_below rows number n) (ap (λ k. is_below rows k n) (sym same) ∙ below)
+          ]
           | inr differ ↦ absurd (true≢false (sym bit ∙ between i high (omega (arith, near, differ))))
-        ]
-      ]
-
-      back : IsTrue (bits n) ⊎ ((i : ℕ) × (i < number + 1) × IsTrue (bits i) × IsTrue (is_below rows i n)) → IsTrue (has new n)
-      back is = elim is [
-        | inl bit ↦ put n ∙ or_left _ _ ((before n).1 (inl bit))
-        | inr found ↦ elim (earlier_or_here found.0 found.1 found.2) [
-          | inl low ↦ put n ∙ or_left _ _ ((before n).1 (inr (found.0, low, found.2, found.3)))
-          | inr same ↦
-              let below = own n ∙ sym (ap (λ i. is_below rows i n) same) ∙ found.3 in
-              put n ∙ or_right (has row n) _ (and_from (has juniors n) (has juniors n) below below)
         ]
       ]
 
   -- no number is left
   pub reaches_all : (from : ℕ) (row : BitRow) → ((m : ℕ) → from ≤ m → bits m ≡ false) → ReachesBelow rows bits from row → (n : ℕ) → IsTrue (has row n) ↔ IsReached rows bits n
-  reaches_all from row none before n = (to, back)
-    where
-      to : IsTrue (has row n) → IsReached rows bits n
-      to is = elim ((before n).0 is) [
-        | inl bit ↦ (n, bit, inl refl)
-        | inr found ↦ (found.0, found.2, inr found.3)
-      ]
-
-      back : IsReached rows bits n → IsTrue (has row n)
-      back is = elim is.2 [
-        | inl same ↦ (before n).1 (inl (ap bits (sym same) ∙ is.1))
-        | inr below ↦ elim (cases_lt is.0 from) [
-          | inl low ↦ (before n).1 (inr (is.0, low, is.1, below))
-          | inr high ↦ absurd (true≢false (sym is.1 ∙ none is.0 high))
-        ]
-      ]
+  reaches_all from row none before n = (
+    λ is. let found = (before n).0 is in (found.0, found.2, found.3),
+    λ (i, bit, how). elim (cases_lt i from) [
+      | inl low ↦ (before n).1 (i, low, bit, how)
+      | inr high ↦ absurd (true≢false (sym bit ∙ none i high))
+    ],
+  )
 
 -- the row of a user's assigned roles, and what it reaches
-pub row_authorized : (index : AccessIndex) (user : Bytes) (assigned row : BitRow) → ((n : ℕ) → has assigned n ≡ assigned_bits index user n) → ((n : ℕ) → IsTrue (has row n) ↔ IsReached index.juniors.items (has assigned) n) → IsAuthorized index user row
-row_authorized index user assigned row bits is = reached_same index.juniors.items (has assigned) (assigned_bits index user) (λ n. sym (bits n)) row is
+pub row_authorized : (index : AccessIndex) (user : Bytes) (assigned : ℕ → Bool) (row : BitRow) → ((n : ℕ) → assigned n ≡ assigned_bits index user n) → ((n : ℕ) → IsTrue (has row n) ↔ IsReached index.juniors.items assigned n) → IsAuthorized index user row
+row_authorized index user assigned row bits is = reached_same index.juniors.items assigned (assigned_bits index user) (λ n. sym (bits n)) row is
 
 -- ---- a decision by a row
 
--- a right row and one of granted roles have a number exactly if the assigned roles reach a granted one
-pub authorized_reaches : (index : AccessIndex) (user : Bytes) (assigned row granted : BitRow) → ((n : ℕ) → has assigned n ≡ assigned_bits index user n) → IsAuthorized index user row → (meets : Bool) → (IsTrue meets ↔ HaveNumber row granted)
-    → IsTrue meets ↔ Reaches index.juniors.items assigned granted
-authorized_reaches index user assigned row granted bits is meets decides = (to, back)
+-- a right row has a granted role exactly if the assigned roles reach a granted one
+pub authorized_reaches : (index : AccessIndex) (user : Bytes) (assigned granted : ℕ → Bool) (row : BitRow) → ((n : ℕ) → assigned n ≡ assigned_bits index user n) → IsAuthorized index user row → (meets : Bool)
+    → (IsTrue meets ↔ ((n : ℕ) × IsTrue (has row n) × IsTrue (granted n))) → IsTrue meets ↔ Reaches index.juniors.items assigned granted
+authorized_reaches index user assigned granted row bits is meets decides = (to, back)
   where
-    right : (n : ℕ) → IsTrue (has row n) ↔ IsReached index.juniors.items (has assigned) n
-    right = reached_same index.juniors.items (assigned_bits index user) (has assigned) bits row is
+    right : (n : ℕ) → IsTrue (has row n) ↔ IsReached index.juniors.items assigned n
+    right = reached_same index.juniors.items (assigned_bits index user) assigned bits row is
 
     to : IsTrue meets → Reaches index.juniors.items assigned granted
     to meeting =

@@ -1,10 +1,9 @@
 -- A decision by rows of bits is the decision of the state.
-use Rattle.std.proofs.Common.{◌≡◌, ◌⊎◌, ℕ, Bool, true, false, not, [], ◌∷◌, inl, inr, refl, sym, ◌∙◌, ap, subst}
+use Rattle.std.proofs.Common.{◌≡◌, ◌⊎◌, ℕ, ◌+◌, ◌<◌, ◌≤◌, Bool, true, false, not, List, [], ◌∷◌, inl, inr, refl, sym, ◌∙◌, ap, subst, arith}
 use Rattle.std.specs.Prelude.{IsTrue, Some, None}
 use Rattle.std.specs.Cmp.{both_ways}
-use Rattle.std.proofs.lemmas.Bool.{true≢false, false_from_ne_true, cases_Bool, and_parts, and_from}
+use Rattle.std.proofs.lemmas.Bool.{true≢false, false_from_ne_true, cases_Bool, cases_eq, cases_lt, and_parts, and_from}
 use Rattle.bit_rows.specs.declared.row.BitRow.{BitRow}
-use Rattle.bit_rows.specs.Rows.{has}
 use Rattle.rbac_sets.specs.Sets.{Bytes, Pair, contains, same_name}
 use Rattle.rbac_sets.specs.NameOrder.{name_total, name_exact, pair_total, pair_exact}
 use Rattle.rbac_sets.proofs.SetLaws.{any-Decides, contains-retain, tie_Decides, seconds-Decides}
@@ -113,7 +112,7 @@ module _ (index : AccessIndex) (S : RbacState) (keeps : Indexes index S) (sessio
   junior_bit a r i j at_a at_r =
       sym (ap (λ number. is_below_number index.juniors.items number j) at_a) ∙ keeps.juniors.same a r j at_r ∙ junior-is S a r
 
-  module _ (active granted : BitRow) (has_active : (n : ℕ) → has active n ≡ session_bits index session n) (has_granted : (n : ℕ) → has granted n ≡ grant_bits index (object, operation) n) where
+  module _ (active granted : ℕ → Bool) (has_active : (n : ℕ) → active n ≡ session_bits index session n) (has_granted : (n : ℕ) → granted n ≡ grant_bits index (object, operation) n) where
     grants_from : Reaches index.juniors.items active granted → Grants
     unfolding Grants
     grants_from (i, j, in_active, below, in_granted) =
@@ -140,9 +139,36 @@ module _ (index : AccessIndex) (S : RbacState) (keeps : Indexes index S) (sessio
         ] in
         (i, j, has_active i ∙ keeps.sessions.same session a i at_a.1 ∙ fact_a, below, has_granted j ∙ keeps.grants.same (object, operation) r j at_r.1 ∙ fact_r)
 
-    pub decision : IsGood S → (n m : ℕ) → IsTrue (has active n) → IsTrue (has granted m) → (access : Bool) → (access ≡ true → Reaches index.juniors.items active granted) → (Reaches index.juniors.items active granted → access ≡ true)
+    pub decision : IsGood S → (n m : ℕ) → IsTrue (active n) → IsTrue (granted m) → (access : Bool) → (access ≡ true → Reaches index.juniors.items active granted) → (Reaches index.juniors.items active granted → access ≡ true)
         → IsDecision S session operation object access
     decision good n m in_active in_granted access told tells = record {
       unrefused = unrefused good n m (sym (has_active n) ∙ in_active) (sym (has_granted m) ∙ in_granted);
       access_is = both_ways access (has_access S session operation object) (λ is. access_if good (grants_from (told is))) (λ is. tells (reaches_from (grants_if is)));
     }
+
+-- ---- what active numbers reach
+
+-- no active number below the first one reaches a granted one
+abbrev pub NoneReached : List BitRow → (active granted : ℕ → Bool) → ℕ → Type 0
+NoneReached rows active granted from = (i j : ℕ) → i < from → IsTrue (active i) → ((i ≡ j) ⊎ IsTrue (is_below rows i j)) → IsTrue (granted j) → ⊥
+
+-- nor does the next one
+pub none_more : (rows : List BitRow) (active granted : ℕ → Bool) (from number : ℕ) → ((m : ℕ) → from ≤ m → m < number → active m ≡ false) → granted number ≡ false
+    → ((n : ℕ) × IsTrue (is_below rows number n) × IsTrue (granted n) → ⊥) → NoneReached rows active granted from → NoneReached rows active granted (number + 1)
+none_more rows active granted from number between own apart before i j near there how is = elim (cases_lt i from) [
+  | inl low ↦ before i j low there how is
+  | inr high ↦ elim (cases_eq i number) [
+    | inl same ↦ elim how [
+      | inl itself ↦ true≢false (sym is ∙ ap granted (sym itself ∙ same) ∙ own)
+      | inr below ↦ apart (j, ap (λ k. is_below rows k j) (sym same) ∙ below, is)
+    ]
+    | inr differ ↦ true≢false (sym there ∙ between i high (omega (arith, near, differ)))
+  ]
+]
+
+-- no number is left
+pub none_reached : (rows : List BitRow) (active granted : ℕ → Bool) (from : ℕ) → ((m : ℕ) → from ≤ m → active m ≡ false) → NoneReached rows active granted from → Reaches rows active granted → ⊥
+none_reached rows active granted from none before (i, j, there, how, is) = elim (cases_lt i from) [
+  | inl low ↦ before i j low there how is
+  | inr high ↦ true≢false (sym there ∙ none i high)
+]

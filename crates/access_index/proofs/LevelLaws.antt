@@ -32,10 +32,6 @@ use Rattle.access_index.proofs.RowLaws.{or_false, and_false}
 
 -- ---- one more member
 
-pub and_same : (b : Bool) → (b && b) ≡ b
-and_same true = refl
-and_same false = refl
-
 one_more : (k i : ℕ) → not (nat_lt (k + 1) (suc i)) ≡ (not (nat_lt k (suc i)) || (not (nat_lt k i) && true))
 one_more k i = elim (cases_lt k i) [
   | inl below ↦
@@ -146,6 +142,11 @@ pub same_level : (raised levels : List BitRow) (row : BitRow) (from size : ℕ) 
 same_level raised levels row from size are zero n below = refl
 same_level raised levels row from size are (suc i) n below = are.rest i n (omega (arith, below))
 
+-- a level is as it was if the rows but the one of its number are
+pub level_kept : (levels taken : List BitRow) (level : ℕ) → ((i n : ℕ) → i ≢ level → is_below taken i n ≡ is_below levels i n) → (n : ℕ) → at_least taken level n ≡ at_least levels level n
+level_kept levels taken zero others n = refl
+level_kept levels taken (suc level) others n = others level n (λ same. omega (arith, same))
+
 pub raised_more : (raised levels new : List BitRow) (row put : BitRow) (level size : ℕ) → level < size → AreRaised raised levels row (level + 1) size
     → ((n : ℕ) → has put n ≡ (is_below raised level n || (at_least raised level n && has row n)))
     → ((n : ℕ) → is_below new level n ≡ has put n) → ((i n : ℕ) → i ≢ level → is_below new i n ≡ is_below raised i n) → AreRaised new levels row level size
@@ -181,9 +182,9 @@ abbrev pub violates : AccessIndex → RbacState → ℕ → Cardinality → Bool
 violates index S n set = has_members index n (run_of S.dsd.members set.0) set.1
 
 pub violates_more : (index : AccessIndex) (S : RbacState) (n : ℕ) (sets : List Cardinality) (i : ℕ) (set : Cardinality) (before after : Bool) → i < length sets → set ≡ get_or sets i set
-    → before ≡ list_any (violates index S n) (take i sets) → after ≡ (before || (violates index S n set && violates index S n set)) → after ≡ list_any (violates index S n) (take (i + 1) sets)
+    → before ≡ list_any (violates index S n) (take i sets) → after ≡ (before || violates index S n set) → after ≡ list_any (violates index S n) (take (i + 1) sets)
 violates_more index S n sets i set before after within is earlier now =
-    now ∙ (λ t. earlier t || and_same (violates index S n set) t)
+    now ∙ ap (λ b. b || violates index S n set) earlier
     ∙ ap (λ b. list_any (violates index S n) (take i sets) || b) (ap (violates index S n) is ∙ sym (or_false (violates index S n (get_or sets i set))))
     ∙ sym (ap (list_any (violates index S n)) (take_more sets i set within) ∙ list_any-append (violates index S n) (take i sets) (get_or sets i set ∷ []))
 

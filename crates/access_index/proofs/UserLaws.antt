@@ -3,8 +3,6 @@ use Rattle.std.proofs.Common.{◌≡◌, ◌⊎◌, ℕ, Bool, true, false, not,
 use Rattle.std.specs.Prelude.{IsTrue, Some, None}
 use Rattle.std.specs.Cmp.{both_ways}
 use Rattle.std.proofs.lemmas.Bool.{true≢false, false_from_ne_true, cases_Bool, and_parts, and_from}
-use Rattle.bit_rows.specs.declared.row.BitRow.{BitRow}
-use Rattle.bit_rows.specs.Rows.{has}
 use Rattle.rbac_sets.specs.Sets.{Bytes, Pair, any, contains, retain, same_name}
 use Rattle.rbac_sets.specs.NameOrder.{name_total, name_exact, pair_total, pair_exact}
 use Rattle.rbac_sets.proofs.SetLaws.{any-Decides, contains-retain, image-Decides, tie_Decides}
@@ -87,8 +85,12 @@ module _ (index : AccessIndex) (S : RbacState) (keeps : Indexes index S) (user o
       let held = and_parts _ _ (sym (contains-retain pair_total pair_exact S.assignments (λ (p : Pair). geq S.edges p.1 r) by.0) ∙ by.1) in
       (by.0.1, r, subst (λ u. IsTrue (contains S.assignments (u, by.0.1))) by.2 held.0, held.1, both.0, both.1)
 
-  module _ (assigned granted barred usable : BitRow) (has_assigned : (n : ℕ) → has assigned n ≡ assigned_bits index user n) (has_granted : (n : ℕ) → has granted n ≡ grant_bits index (object, operation) n)
-      (is_barred : Follow (Unit {0}) (number_of index) (is_used index) (λ _. has barred) (λ _ role. not (stands_alone S role))) (has_usable : (n : ℕ) → has usable n ≡ (has granted n && not (has barred n))) where
+  module _ (assigned granted barred : ℕ → Bool) (has_assigned : (n : ℕ) → assigned n ≡ assigned_bits index user n) (has_granted : (n : ℕ) → granted n ≡ grant_bits index (object, operation) n)
+      (is_barred : Follow (Unit {0}) (number_of index) (is_used index) (λ _. barred) (λ _ role. not (stands_alone S role))) where
+    -- a granted one that isn't barred
+    abbrev usable : ℕ → Bool
+    usable n = granted n && not (barred n)
+
     not_not : (b : Bool) → not (not b) ≡ b
     not_not true = refl
     not_not false = refl
@@ -96,7 +98,7 @@ module _ (index : AccessIndex) (S : RbacState) (keeps : Indexes index S) (user o
     usable_from : Reaches index.juniors.items assigned usable → Usable
     unfolding Usable
     usable_from (i, j, of_user, below, in_usable) =
-        let both = and_parts _ _ (sym (has_usable j) ∙ in_usable) in
+        let both = and_parts (granted j) (not (barred j)) in_usable in
         let a = assigned_at i (sym (has_assigned i) ∙ of_user) in
         let r = granted_at index S keeps user operation object j (sym (has_granted j) ∙ both.0) in
         let above : IsTrue (geq S.edges a.0 r.0) = elim below [
@@ -118,10 +120,10 @@ module _ (index : AccessIndex) (S : RbacState) (keeps : Indexes index S) (user o
           | inl same ↦ inl (some-is i j (sym at_a.1 ∙ ap (number_of index) same ∙ at_r.1))
           | inr differ ↦ inr (junior_bit index S keeps user operation object a r i j at_a.1 at_r.1 ∙ and_from _ _ above (ap not (false_from_ne_true (same_name a r) (λ is. differ ((tie_Decides name_total name_exact a r).0 is)))))
         ] in
-        let free : not (has barred j) ≡ true = ap not (is_barred.same tt r j at_r.1) ∙ not_not (stands_alone S r) ∙ alone in
-        (i, j, has_assigned i ∙ keeps.assigned.same user a i at_a.1 ∙ fact_a, below, has_usable j ∙ and_from _ _ (has_granted j ∙ keeps.grants.same (object, operation) r j at_r.1 ∙ fact_r) free)
+        let free : not (barred j) ≡ true = ap not (is_barred.same tt r j at_r.1) ∙ not_not (stands_alone S r) ∙ alone in
+        (i, j, has_assigned i ∙ keeps.assigned.same user a i at_a.1 ∙ fact_a, below, and_from _ _ (has_granted j ∙ keeps.grants.same (object, operation) r j at_r.1 ∙ fact_r) free)
 
-    pub user_decision : IsGood S → (n m : ℕ) → IsTrue (has assigned n) → IsTrue (has granted m) → (access : Bool) → (access ≡ true → Reaches index.juniors.items assigned usable) → (Reaches index.juniors.items assigned usable → access ≡ true)
+    pub user_decision : IsGood S → (n m : ℕ) → IsTrue (assigned n) → IsTrue (granted m) → (access : Bool) → (access ≡ true → Reaches index.juniors.items assigned usable) → (Reaches index.juniors.items assigned usable → access ≡ true)
         → IsUserDecision S user operation object access
     unfolding could_have_access could
     user_decision good n m of_user in_granted access told tells = record {

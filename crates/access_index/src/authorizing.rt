@@ -1,25 +1,25 @@
 //! The roles that users with many assigned roles are authorized for. A decision about such a user compares one row, and not one for
 //! each assigned role.
-ghost use Rattle.std.specs.Prelude.{◌≡◌, ◌↔◌, ◌≤◌, ℕ, IsTrue, None, IfSome};
+ghost use Rattle.std.specs.Prelude.{◌≡◌, ◌↔◌, ◌≤◌, ◌||◌, ℕ, IsTrue, None, IfOk, IfSome, OnOk};
 ghost use Rattle.std.specs.HashMap.{hasher_of};
 ghost use Rattle.std.specs.List.{list_any};
 ghost use Rattle.rbac_sets.specs.Sets.{Bytes};
 ghost use Rattle.rbac_sets.specs.declared.row.Change.{Change as ChangeContent};
 ghost use Rattle.bit_rows.specs.Rows.{has};
-ghost use Rattle.access_index.specs.Index.{IsAuthorized, IsReached, Keeps, Rows, authorized_row};
+ghost use Rattle.bit_tables.specs.Tables.{holds};
+ghost use Rattle.access_index.specs.Index.{IsAuthorized, IsReached, Keeps, Rows, authorized_row, is_below};
 ghost use Rattle.access_index.specs.private.Barring.{changed_row, is_of_closure};
 
-use crate::barring::row_at;
 use crate::index::AccessIndex;
 use bit_rows::BitRow;
-use bit_tables::Seed;
+use bit_tables::{Numbers, Seed};
 use rbac_sets::{Change, Row};
-use std::alloc::Global;
+use std::alloc::{AllocError, Global};
 use std::collections::HashMap;
 use std::mem::replace;
 
-// A user to whom more roles than these are assigned has a row of the authorized ones. So many rows are compared in about half a
-// microsecond.
+// A user to whom more roles than these are assigned has a row of the authorized ones. For fewer it takes little time to compare the
+// row of each.
 const MANY: usize = 16;
 
 impl AccessIndex {
@@ -129,51 +129,65 @@ impl AccessIndex {
         ensures rest { self.new ≡ record self.old { authorized = self.new.authorized } }
         ensures seed { hasher_of self.new.authorized ≡ hasher_of self.old.authorized }
     {
-        if let Some(row) = self.uncounted(user) {
+        if let Some(row) = self.uncounted(alloc, user) {
             if let Ok(key) = String::from_str(alloc, user) {
                 let _ = self.authorized.insert(key, row);
             }
         }
     }
 
-    // The numbers of the roles that the user is authorized for, if many are assigned and it isn't known.
-    fn uncounted(&self, user: &str) -> Option<BitRow>
+    // The numbers of the roles that the user is authorized for, if many are assigned and it isn't known. There are none if an
+    // allocation fails.
+    fn uncounted(&self, alloc: Global, user: &str) -> Option<BitRow>
         ensures { IfSome result (IsAuthorized self.now user.now) }
     {
         let Some(assigned) = self.assigned.row(user) else {
             return None;
         };
-        if !has_many(&assigned) {
+        if !has_many(assigned) {
             return None;
         }
         if self.authorized.contains_key(user) {
             return None;
         }
-        Some(self.with_juniors(&assigned))
+        match self.with_juniors(alloc, assigned) {
+            Ok(row) => Some(row),
+            Err(_) => None,
+        }
     }
 
     // The numbers of roles, and those of their juniors.
-    fn with_juniors(&self, numbers: &BitRow) -> BitRow
-        ensures { (n : ℕ) → IsTrue (has result n) ↔ IsReached self.now.juniors.items (has numbers.now) n }
+    fn with_juniors(&self, alloc: Global, numbers: &Numbers) -> Result<BitRow, AllocError>
+        ensures { IfOk result (λ row. (n : ℕ) → IsTrue (has row n) ↔ IsReached self.now.juniors.items (holds numbers.now) n) }
     {
-        let mut row = *numbers;
+        let mut row = BitRow::new(alloc);
         let mut from = 0;
         while let Some(number) = numbers.next(from) {
-            let juniors = row_at(&self.juniors, number);
-            row.put_common(&juniors, &juniors);
+            row.put(number)?;
+            self.put_juniors(number, &mut row)?;
             from = number + 1;
         }
-        row
+        Ok(row)
+    }
+
+    // Puts the numbers of the juniors of the role with the number into the row.
+    fn put_juniors(&self, number: usize, row: &mut BitRow) -> Result<(), AllocError>
+        ensures { OnOk result ((n : ℕ) → has row.new n ≡ (has row.old n || is_below self.now.juniors.items number n)) }
+    {
+        match self.juniors.get(number) {
+            Some(juniors) => row.put_all(juniors),
+            None => Ok(()),
+        }
     }
 }
 
-// Whether the row has more than `MANY` numbers.
-fn has_many(row: &BitRow) -> bool
-    ensures { IsTrue result → (n : ℕ) × (MANY ≤ n) × IsTrue (has row.now n) }
+// Whether the set has more than `MANY` numbers.
+fn has_many(numbers: &Numbers) -> bool
+    ensures { IsTrue result → (n : ℕ) × (MANY ≤ n) × IsTrue (holds numbers.now n) }
 {
     let mut count = 0;
     let mut from = 0;
-    while let Some(number) = row.next(from) {
+    while let Some(number) = numbers.next(from) {
         if count == MANY {
             return true;
         }

@@ -1,5 +1,5 @@
 //! The barred roles: each of them violates a dynamic separation of duty set alone, so that no session may have it.
-ghost use Rattle.std.specs.Prelude.{◌≡◌, ◌≢◌, ◌<◌, ◌≤◌, ◌&&◌, ◌||◌, ℕ, Bool, IsTrue, false, length, IfOk, IfErr, None, Some, vec_len};
+ghost use Rattle.std.specs.Prelude.{◌≡◌, ◌≢◌, ◌<◌, ◌≤◌, ◌&&◌, ◌||◌, ℕ, Bool, IsTrue, false, length, IfOk, IfErr, OnOk, None, Some, vec_len};
 ghost use Rattle.std.specs.List.{list_any};
 ghost use Rattle.rbac_sets.specs.Sets.{Bytes, contains, members, same_name};
 ghost use Rattle.rbac_sets.specs.declared.row.Change.{Change as ChangeContent};
@@ -16,7 +16,8 @@ use crate::index::{AccessIndex, reach};
 use admin_mgr::State;
 use bit_rows::{BitRow, WIDTH};
 use rbac_sets::{Change, Name, Refusal, Row};
-use std::alloc::Global;
+use std::alloc::{AllocError, Global};
+use std::mem::replace;
 
 impl AccessIndex {
     /// Finds which roles of the state are barred, unless it is known. If an allocation fails, it stays unknown.
@@ -109,10 +110,10 @@ impl AccessIndex {
         ensures cause { IfErr result (λ refusal. refusal ≡ Refusal.Memory) }
     {
         let mut levels = Vec::new(alloc);
-        let mut barred = BitRow::empty();
+        let mut barred = BitRow::new(alloc);
         for set in dynamic_sets(state) {
             let row = self.barred_by(alloc, &mut levels, state, set)?;
-            barred.put_common(&row, &row);
+            barred.put_all(&row)?;
         }
         Ok(barred)
     }
@@ -134,18 +135,20 @@ impl AccessIndex {
         ensures cause { IfErr result (λ refusal. refusal ≡ Refusal.Memory) }
     {
         if let Some(row) = self.by_set.get(set.0.as_str()) {
-            return Ok(*row);
+            return Ok(row.copy(alloc)?);
         }
-        let row = self.with_members(levels, members_of(state, &set.0), set.1)?;
+        let row = self.with_members(alloc, levels, members_of(state, &set.0), set.1)?;
+        let copy = row.copy(alloc)?;
         let key = String::from_str(alloc, set.0.as_str())?;
         self.by_set.insert(key, row)?;
-        Ok(row)
+        Ok(copy)
     }
 
     // The numbers of the roles that with their juniors are `count` or more of the members, which are pairs (set, role). The
     // levels may have any rows before.
     fn with_members(
         &self,
+        alloc: Global,
         levels: &mut Vec<BitRow>,
         members: &[(Name, Name)],
         count: u32,
@@ -159,24 +162,29 @@ impl AccessIndex {
         levels.clear();
         let mut counted = 0;
         for member in members {
-            reach(levels, counted.min(last))?;
+            reach(alloc, levels, counted.min(last))?;
             counted += 1;
             if let Some(number) = self.number(&member.1) {
-                let row = self.own_and_seniors(number);
-                raise(levels, last.saturating_sub(members.len() - counted), &row);
+                let row = self.own_and_seniors(alloc, number)?;
+                raise(
+                    alloc,
+                    levels,
+                    last.saturating_sub(members.len() - counted),
+                    &row,
+                )?;
             }
         }
-        Ok(row_at(levels, last))
+        Ok(row_at(alloc, levels, last)?)
     }
 
     // The number, and those of the role's seniors.
-    fn own_and_seniors(&self, number: usize) -> BitRow
+    fn own_and_seniors(&self, alloc: Global, number: usize) -> Result<BitRow, AllocError>
         requires { number < WIDTH }
-        ensures { (n : ℕ) → has result n ≡ is_member self.now n (Some number) }
+        ensures { IfOk result (λ row. (n : ℕ) → has row n ≡ is_member self.now n (Some number)) }
     {
-        let mut row = row_at(&self.seniors, number);
-        row.put(number);
-        row
+        let mut row = row_at(alloc, &self.seniors, number)?;
+        row.put(number)?;
+        Ok(row)
     }
 }
 
@@ -196,17 +204,23 @@ fn members_of<'a>(state: &'a State, set: &Name) -> &'a [(Name, Name)]
 
 // Counts the numbers of a row in the levels from this one on: a number is in as many of the levels, from the first on, as it was
 // counted.
-fn raise(levels: &mut Vec<BitRow>, from: usize, row: &BitRow)
+fn raise(
+    alloc: Global,
+    levels: &mut Vec<BitRow>,
+    from: usize,
+    row: &BitRow,
+) -> Result<(), AllocError>
     ensures size { vec_len levels.new ≡ vec_len levels.old }
-    ensures raised { (i n : ℕ) → from ≤ i → i < vec_len levels.old → is_below levels.new.items i n ≡ (is_below levels.old.items i n || (at_least levels.old.items i n && has row.now n)) }
+    ensures raised { OnOk result ((i n : ℕ) → from ≤ i → i < vec_len levels.old → is_below levels.new.items i n ≡ (is_below levels.old.items i n || (at_least levels.old.items i n && has row.now n))) }
 {
     let mut level = levels.len();
     while level > from {
         level -= 1;
-        let mut raised = row_at(levels, level);
-        raised.put_common(level_before(levels, level, row), row);
+        let mut raised = take_row(alloc, levels, level);
+        raised.put_common(level_before(levels, level, row), row)?;
         replace_row(levels, level, raised);
     }
+    Ok(())
 }
 
 // The level before this one, or the row itself before the first level, which counts all numbers of the row.
@@ -217,14 +231,24 @@ fn level_before<'a>(levels: &'a [BitRow], level: usize, row: &'a BitRow) -> &'a 
     if level == 0 { row } else { &levels[level - 1] }
 }
 
-// The row of this number, or the empty one if there are fewer.
-pub(crate) fn row_at(rows: &[BitRow], number: usize) -> BitRow
-    ensures { (n : ℕ) → has result n ≡ is_below rows.now number n }
+// A copy of the row of this number, or the empty one if there are fewer.
+fn row_at(alloc: Global, rows: &[BitRow], number: usize) -> Result<BitRow, AllocError>
+    ensures { IfOk result (λ row. (n : ℕ) → has row n ≡ is_below rows.now number n) }
 {
     match rows.get(number) {
-        Some(row) => *row,
-        None => BitRow::empty(),
+        Some(row) => row.copy(alloc),
+        None => Ok(BitRow::new(alloc)),
     }
+}
+
+// The row of this number. An empty one is left in its place.
+fn take_row(alloc: Global, rows: &mut Vec<BitRow>, number: usize) -> BitRow
+    requires { number < vec_len rows.old }
+    ensures size { vec_len rows.new ≡ vec_len rows.old }
+    ensures taken { (n : ℕ) → has result n ≡ is_below rows.old.items number n }
+    ensures others { (i n : ℕ) → i ≢ number → is_below rows.new.items i n ≡ is_below rows.old.items i n }
+{
+    replace(&mut rows[number], BitRow::new(alloc))
 }
 
 // Replaces the row of this number.

@@ -22,7 +22,7 @@ impl AccessIndex {
     ///
     /// # Errors
     ///
-    /// `Memory` if an allocation failed, or the rows have more than 1,024 roles, which those of no state have.
+    /// `Memory` if an allocation failed, or the rows have more than 8,192 roles, which those of no state have.
     pub fn of_rows(alloc: Global, seed: Seed, rows: &[Row]) -> Result<AccessIndex, Refusal>
         ensures ok { IfOk result (λ index. (S : RbacState) → AreRowsOf S rows.now → Indexes index S) }
         ensures seeded { IfOk result (λ index. IsSeeded index seed) }
@@ -46,7 +46,7 @@ impl AccessIndex {
     ///
     /// # Errors
     ///
-    /// `Memory` if an allocation failed, or there are more than 1,024 roles, which no state has. The index is of no use then.
+    /// `Memory` if an allocation failed, or there are more than 8,192 roles, which no state has. The index is of no use then.
     pub fn follow(&mut self, alloc: Global, changes: &[Change]) -> Result<(), Refusal>
         requires { (S : RbacState) × Indexes self.old S }
         ensures ok { OnOk result ((S T : RbacState) → Indexes self.old S → Turns S changes.now T → IsGood T → Indexes self.new T) }
@@ -229,7 +229,7 @@ impl AccessIndex {
         let above = self.number_for(alloc, senior)?;
         let below = self.number_for(alloc, junior)?;
         self.forget_all_authorized();
-        self.put_junior(above, below)
+        self.put_junior(alloc, above, below)
     }
 
     fn take_pair(&mut self, senior: &Name, junior: &Name)

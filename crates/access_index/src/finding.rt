@@ -1,7 +1,8 @@
 //! Decisions by the index.
-ghost use Rattle.std.specs.Prelude.{◌≡◌, ◌↔◌, ◌⊎◌, ℕ, IsTrue, None, Some, false, IfSome, IfNone};
+ghost use Rattle.std.specs.Prelude.{◌≡◌, ◌↔◌, ◌⊎◌, ◌&&◌, not, ℕ, IsTrue, None, Some, false, IfSome, IfNone};
 ghost use Rattle.rbac_sets.specs.Sets.{Bytes, contains};
 ghost use Rattle.bit_rows.specs.Rows.{has};
+ghost use Rattle.bit_tables.specs.Tables.{holds, holds_without};
 ghost use Rattle.admin_mgr.specs.RbacState.{RbacState};
 ghost use Rattle.admin_mgr.specs.Good.{IsGood};
 ghost use Rattle.access_index.specs.Decision.{HasNothing, HasNothingAssigned, IsDecision, IsUserDecision};
@@ -10,6 +11,7 @@ ghost use Rattle.access_index.specs.Index.{Indexes, Keeps, Rows, assigned_bits, 
 
 use crate::index::AccessIndex;
 use bit_rows::BitRow;
+use bit_tables::Numbers;
 
 impl AccessIndex {
     /// CheckAccess: whether the session may do the operation on the object, if some role was activated in the session and the
@@ -32,7 +34,7 @@ impl AccessIndex {
         if granted.is_empty() {
             return None;
         }
-        Some(self.reaches(&active, &granted))
+        Some(self.reaches(active, granted, None))
     }
 
     /// Whether the user could do the operation on the object in some session, whether or not the user is locked. There is a
@@ -59,34 +61,39 @@ impl AccessIndex {
         if roles.is_empty() {
             return None;
         }
-        let usable = roles.difference(barred);
-        Some(self.user_reaches(user, &assigned, &usable))
+        Some(self.user_reaches(user, assigned, roles, barred))
     }
 
-    // Whether one of the granted roles is one of the user's assigned ones, or a junior of one.
-    fn user_reaches(&self, user: &str, assigned: &BitRow, granted: &BitRow) -> bool
-        requires { (n : ℕ) → has assigned.now n ≡ assigned_bits self.now user.now n }
-        ensures { (rows : Rows) → Keeps self.now rows → IsTrue result ↔ Reaches self.now.juniors.items assigned.now granted.now }
+    // Whether one of the granted roles that aren't barred is one of the user's assigned ones, or a junior of one.
+    fn user_reaches(
+        &self,
+        user: &str,
+        assigned: &Numbers,
+        granted: &Numbers,
+        barred: &BitRow,
+    ) -> bool
+        requires { (n : ℕ) → holds assigned.now n ≡ assigned_bits self.now user.now n }
+        ensures { (rows : Rows) → Keeps self.now rows → IsTrue result ↔ Reaches self.now.juniors.items (holds assigned.now) (λ n. holds granted.now n && not (has barred.now n)) }
     {
         if self.authorized.is_empty() {
-            return self.reaches(assigned, granted);
+            return self.reaches(assigned, granted, Some(barred));
         }
         match self.authorized.get(user) {
-            Some(authorized) => authorized.meets(granted),
-            None => self.reaches(assigned, granted),
+            Some(authorized) => granted.meets_without(authorized, Some(barred)),
+            None => self.reaches(assigned, granted, Some(barred)),
         }
     }
 
-    // Whether one of the granted roles is one of the active ones, or a junior of one.
-    fn reaches(&self, active: &BitRow, granted: &BitRow) -> bool
-        ensures { IsTrue result ↔ Reaches self.now.juniors.items active.now granted.now }
+    // Whether one of the granted roles is one of the active ones, or a junior of one, and not barred, if the barred ones are given.
+    fn reaches(&self, active: &Numbers, granted: &Numbers, barred: Option<&BitRow>) -> bool
+        ensures { IsTrue result ↔ Reaches self.now.juniors.items (holds active.now) (holds_without granted.now barred.entry) }
     {
-        if active.meets(granted) {
-            return true;
-        }
         let mut from = 0;
         while let Some(number) = active.next(from) {
-            if self.has_junior(number, granted) {
+            if granted.has_without(number, barred) {
+                return true;
+            }
+            if self.has_junior(number, granted, barred) {
                 return true;
             }
             from = number + 1;
@@ -94,12 +101,12 @@ impl AccessIndex {
         false
     }
 
-    // Whether one of these numbers is that of a junior of the role with the number.
-    fn has_junior(&self, number: usize, numbers: &BitRow) -> bool
-        ensures { IsTrue result ↔ ((n : ℕ) × IsTrue (is_below self.now.juniors.items number n) × IsTrue (has numbers.now n)) }
+    // Whether one of the granted roles is a junior of the role with the number, and not barred, if the barred ones are given.
+    fn has_junior(&self, number: usize, granted: &Numbers, barred: Option<&BitRow>) -> bool
+        ensures { IsTrue result ↔ ((n : ℕ) × IsTrue (is_below self.now.juniors.items number n) × IsTrue (holds_without granted.now barred.entry n)) }
     {
         match self.juniors.get(number) {
-            Some(row) => row.meets(numbers),
+            Some(row) => granted.meets_without(row, barred),
             None => false,
         }
     }

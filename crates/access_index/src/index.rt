@@ -48,13 +48,13 @@ impl AccessIndex {
     {
         AccessIndex {
             numbers: NumberTable::new(alloc, seed),
-            used: BitRow::empty(),
+            used: BitRow::new(alloc),
             juniors: Vec::new(alloc),
             seniors: Vec::new(alloc),
             assigned: BitTable::new(alloc, seed),
             sessions: BitTable::new(alloc, seed),
             grants: PairTable::new(alloc, seed),
-            barred: Some(BitRow::empty()),
+            barred: Some(BitRow::new(alloc)),
             by_set: HashMap::new(alloc),
             authorized: HashMap::with_hasher(alloc, seed),
         }
@@ -84,7 +84,7 @@ impl AccessIndex {
             return Err(Refusal::Memory);
         };
         self.numbers.put(alloc, role, number)?;
-        self.used.put(number);
+        self.used.put(number)?;
         Ok(number)
     }
 
@@ -104,7 +104,12 @@ impl AccessIndex {
     }
 
     // Makes the role of the second number a junior of that of the first.
-    pub(crate) fn put_junior(&mut self, senior: usize, junior: usize) -> Result<(), Refusal>
+    pub(crate) fn put_junior(
+        &mut self,
+        alloc: Global,
+        senior: usize,
+        junior: usize,
+    ) -> Result<(), Refusal>
         requires senior { senior < WIDTH }
         requires junior { junior < WIDTH }
         ensures there { OnOk result (IsTrue (is_below self.new.juniors.items senior junior)) }
@@ -114,8 +119,8 @@ impl AccessIndex {
         ensures seeds { seeds_of self.new ≡ seeds_of self.old }
         ensures cause { IfErr result (λ refusal. refusal ≡ Refusal.Memory) }
     {
-        put_bit(&mut self.juniors, senior, junior)?;
-        put_bit(&mut self.seniors, junior, senior)?;
+        put_bit(alloc, &mut self.juniors, senior, junior)?;
+        put_bit(alloc, &mut self.seniors, junior, senior)?;
         Ok(())
     }
 
@@ -134,14 +139,19 @@ impl AccessIndex {
 }
 
 // Puts the second number into the row of the first.
-fn put_bit(rows: &mut Vec<BitRow>, first: usize, second: usize) -> Result<(), Refusal>
+fn put_bit(
+    alloc: Global,
+    rows: &mut Vec<BitRow>,
+    first: usize,
+    second: usize,
+) -> Result<(), Refusal>
     requires { second < WIDTH }
     ensures there { OnOk result (IsTrue (is_below rows.new.items first second)) }
     ensures others { OnOk result ((i j : ℕ) → (i ≡ first → j ≢ second) → is_below rows.new.items i j ≡ is_below rows.old.items i j) }
     ensures cause { IfErr result (λ refusal. refusal ≡ Refusal.Memory) }
 {
-    reach(rows, first)?;
-    rows[first].put(second);
+    reach(alloc, rows, first)?;
+    rows[first].put(second)?;
     Ok(())
 }
 
@@ -157,13 +167,13 @@ fn take_bit(rows: &mut Vec<BitRow>, first: usize, second: usize)
 }
 
 // Appends empty rows until there is one of this number.
-pub(crate) fn reach(rows: &mut Vec<BitRow>, number: usize) -> Result<(), Refusal>
+pub(crate) fn reach(alloc: Global, rows: &mut Vec<BitRow>, number: usize) -> Result<(), Refusal>
     ensures within { OnOk result (number < vec_len rows.new) }
     ensures same { OnOk result ((i j : ℕ) → is_below rows.new.items i j ≡ is_below rows.old.items i j) }
     ensures cause { IfErr result (λ refusal. refusal ≡ Refusal.Memory) }
 {
     while rows.len() <= number {
-        rows.push(BitRow::empty())?;
+        rows.push(BitRow::new(alloc))?;
     }
     Ok(())
 }

@@ -21,3 +21,4 @@ pub mod SetRows
 pub mod StepLaws
 pub mod RemovalPlans
 pub mod TurnLaws
+pub mod TurnedRuns

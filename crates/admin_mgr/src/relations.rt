@@ -1,11 +1,13 @@
 //! The sets and relations of the office, whether they are good or not.
-ghost use Rattle.std.specs.Prelude.{◌≡◌};
-ghost use Rattle.rbac_sets.specs.Sets.{name_cmp, pair_cmp, triple_cmp, cardinality_cmp};
+ghost use Rattle.std.specs.Prelude.{◌≡◌, OnOk, IfErr};
+ghost use Rattle.rbac_sets.specs.Sets.{Pair, Triple, empty, image, name_cmp, pair_cmp, triple_cmp, cardinality_cmp};
 ghost use Rattle.rbac_sets.specs.SortedSet.{set_of};
 ghost use Rattle.admin_mgr.specs.RbacState.{empty_state};
 
-use chunked_sets::{ChunkedGrants, ChunkedNames, ChunkedPairs};
-use rbac_sets::{CountSet, NameSet, PairSet};
+use chunked_sets::{
+    ChunkedGrants, ChunkedNames, ChunkedPairs, TwoWayGrants, TwoWayPairs, TwoWaySet,
+};
+use rbac_sets::{CountSet, NameSet, PairSet, Refusal};
 use role_order::RoleOrder;
 use std::alloc::Global;
 use std::marker::Model;
@@ -25,15 +27,38 @@ pub(crate) struct Relations {
     roles: NameSet,
     objects: ChunkedNames,
     permissions: ChunkedPairs,
-    assignments: ChunkedPairs,
-    grants: ChunkedGrants,
+    assignments: TwoWayPairs,
+    grants: TwoWayGrants,
     order: RoleOrder,
-    sessions: ChunkedPairs,
+    sessions: TwoWayPairs,
     active: ChunkedPairs,
     ssd_members: PairSet,
     ssd_cardinalities: CountSet,
     dsd_members: PairSet,
     dsd_cardinalities: CountSet,
+}
+
+// The sets that relations keep in two orders, in one of them.
+#[derive(Drop)]
+pub(crate) struct LargeSets {
+    pub(crate) assignments: ChunkedPairs,
+    pub(crate) grants: ChunkedGrants,
+    pub(crate) sessions: ChunkedPairs,
+}
+
+impl LargeSets {
+    // Empty sets. It doesn't allocate.
+    pub(crate) fn new(alloc: Global) -> LargeSets
+        ensures assignments { set_of pair_cmp result.assignments ≡ empty }
+        ensures grants { set_of triple_cmp result.grants ≡ empty }
+        ensures sessions { set_of pair_cmp result.sessions ≡ empty }
+    {
+        LargeSets {
+            assignments: ChunkedPairs::new(alloc),
+            grants: ChunkedGrants::new(alloc),
+            sessions: ChunkedPairs::new(alloc),
+        }
+    }
 }
 
 impl Model for Relations {
@@ -60,10 +85,10 @@ impl Relations {
             roles: NameSet::new(alloc),
             objects: ChunkedNames::new(alloc),
             permissions: ChunkedPairs::new(alloc),
-            assignments: ChunkedPairs::new(alloc),
-            grants: ChunkedGrants::new(alloc),
+            assignments: TwoWayPairs::new(alloc),
+            grants: TwoWayGrants::new(alloc),
             order: RoleOrder::new(alloc),
-            sessions: ChunkedPairs::new(alloc),
+            sessions: TwoWayPairs::new(alloc),
             active: ChunkedPairs::new(alloc),
             ssd_members: PairSet::new(alloc),
             ssd_cardinalities: CountSet::new(alloc),
@@ -78,6 +103,68 @@ impl Relations {
     {
         self.version = 2;
         self
+    }
+
+    // Replaces the assignments.
+    pub(crate) fn set_assignments(
+        &mut self,
+        alloc: Global,
+        assignments: ChunkedPairs,
+    ) -> Result<(), Refusal>
+        ensures ok { OnOk result (self.new.facts ≡ record self.old.facts { assignments = set_of pair_cmp assignments }) }
+        ensures cause { IfErr result (λ refusal. refusal ≡ Refusal.Memory) }
+    {
+        self.assignments = TwoWaySet::of_forward(alloc, assignments)?;
+        Ok(())
+    }
+
+    // Replaces the grants.
+    pub(crate) fn set_grants(&mut self, alloc: Global, grants: ChunkedGrants) -> Result<(), Refusal>
+        ensures ok { OnOk result (self.new.facts ≡ record self.old.facts { grants = set_of triple_cmp grants }) }
+        ensures cause { IfErr result (λ refusal. refusal ≡ Refusal.Memory) }
+    {
+        self.grants = TwoWaySet::of_forward(alloc, grants)?;
+        Ok(())
+    }
+
+    // Replaces the sessions.
+    pub(crate) fn set_sessions(
+        &mut self,
+        alloc: Global,
+        sessions: ChunkedPairs,
+    ) -> Result<(), Refusal>
+        ensures ok { OnOk result (self.new.facts ≡ record self.old.facts { sessions = set_of pair_cmp sessions }) }
+        ensures cause { IfErr result (λ refusal. refusal ≡ Refusal.Memory) }
+    {
+        self.sessions = TwoWaySet::of_forward(alloc, sessions)?;
+        Ok(())
+    }
+
+    // Replaces the assignments, the grants and the sessions.
+    pub(crate) fn set_large(&mut self, alloc: Global, large: LargeSets) -> Result<(), Refusal>
+        ensures ok { OnOk result (self.new.facts ≡ record self.old.facts {
+          assignments = set_of pair_cmp large.assignments;
+          grants = set_of triple_cmp large.grants;
+          sessions = set_of pair_cmp large.sessions;
+        }) }
+        ensures cause { IfErr result (λ refusal. refusal ≡ Refusal.Memory) }
+    {
+        let LargeSets {
+            assignments,
+            grants,
+            sessions,
+        } = large;
+        self.set_assignments(alloc, assignments)?;
+        self.set_grants(alloc, grants)?;
+        self.set_sessions(alloc, sessions)?;
+        Ok(())
+    }
+
+    // Replaces the role hierarchy.
+    pub(crate) fn set_order(&mut self, order: RoleOrder)
+        ensures { self.new.facts ≡ record self.old.facts { edges = order.edges } }
+    {
+        self.order = order;
     }
 
     pub(crate) fn version(&self) -> u32
@@ -119,19 +206,40 @@ impl Relations {
     pub(crate) fn assignments(&self) -> &ChunkedPairs
         ensures { set_of pair_cmp result.now ≡ self.now.facts.assignments }
     {
-        &self.assignments
+        self.assignments.forward()
+    }
+
+    // The same as pairs (role, user).
+    pub(crate) fn assignments_by_role(&self) -> &ChunkedPairs
+        ensures { set_of pair_cmp result.now ≡ image (λ (pair : Pair). (pair.1, pair.0)) self.now.facts.assignments }
+    {
+        self.assignments.backward()
     }
 
     pub(crate) fn grants(&self) -> &ChunkedGrants
         ensures { set_of triple_cmp result.now ≡ self.now.facts.grants }
     {
-        &self.grants
+        self.grants.forward()
+    }
+
+    // The same as triples (role, object, operation).
+    pub(crate) fn grants_by_role(&self) -> &ChunkedGrants
+        ensures { set_of triple_cmp result.now ≡ image (λ (grant : Triple). (grant.2, grant.0, grant.1)) self.now.facts.grants }
+    {
+        self.grants.backward()
     }
 
     pub(crate) fn sessions(&self) -> &ChunkedPairs
         ensures { set_of pair_cmp result.now ≡ self.now.facts.sessions }
     {
-        &self.sessions
+        self.sessions.forward()
+    }
+
+    // The same as pairs (user, session).
+    pub(crate) fn sessions_by_user(&self) -> &ChunkedPairs
+        ensures { set_of pair_cmp result.now ≡ image (λ (pair : Pair). (pair.1, pair.0)) self.now.facts.sessions }
+    {
+        self.sessions.backward()
     }
 
     pub(crate) fn active(&self) -> &ChunkedPairs

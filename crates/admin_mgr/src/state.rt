@@ -1,6 +1,6 @@
 //! The state of the office.
 ghost use Rattle.std.specs.Prelude.{◌≡◌, ◌⊎◌, IfOk, IfErr, OnOk};
-ghost use Rattle.rbac_sets.specs.Sets.{name_cmp, pair_cmp, triple_cmp, cardinality_cmp};
+ghost use Rattle.rbac_sets.specs.Sets.{Pair, Triple, image, name_cmp, pair_cmp, triple_cmp, cardinality_cmp};
 ghost use Rattle.rbac_sets.specs.SortedSet.{set_of};
 ghost use Rattle.admin_mgr.specs.RbacState.{RbacState, empty_state, cardinality_of};
 ghost use Rattle.admin_mgr.specs.Good.{IsGood};
@@ -186,6 +186,13 @@ impl State {
         self.relations.assignments()
     }
 
+    /// The same as pairs (role, user), so that the users of a role follow one another.
+    pub fn assignments_by_role(&self) -> &ChunkedPairs
+        ensures { set_of pair_cmp result.now ≡ image (λ (pair : Pair). (pair.1, pair.0)) self.now.facts.assignments }
+    {
+        self.relations.assignments_by_role()
+    }
+
     /// PA, the permission assignments, as triples (object, operation, role).
     pub fn grants(&self) -> &ChunkedGrants
         ensures { set_of triple_cmp result.now ≡ self.now.facts.grants }
@@ -193,11 +200,25 @@ impl State {
         self.relations.grants()
     }
 
+    /// The same as triples (role, object, operation), so that the permissions of a role follow one another.
+    pub fn grants_by_role(&self) -> &ChunkedGrants
+        ensures { set_of triple_cmp result.now ≡ image (λ (grant : Triple). (grant.2, grant.0, grant.1)) self.now.facts.grants }
+    {
+        self.relations.grants_by_role()
+    }
+
     /// SESSIONS with the user of each, as pairs (session, user).
     pub fn sessions(&self) -> &ChunkedPairs
         ensures { set_of pair_cmp result.now ≡ self.now.facts.sessions }
     {
         self.relations.sessions()
+    }
+
+    /// The same as pairs (user, session), so that the sessions of a user follow one another.
+    pub fn sessions_by_user(&self) -> &ChunkedPairs
+        ensures { set_of pair_cmp result.now ≡ image (λ (pair : Pair). (pair.1, pair.0)) self.now.facts.sessions }
+    {
+        self.relations.sessions_by_user()
     }
 
     /// The roles that were activated in the sessions, as pairs (session, role). `session_roles` of the

@@ -74,8 +74,10 @@ either_bit (suc (suc x)) y lx ly = absurd (omega (arith, lx))
 either_bit zero (suc (suc y)) lx ly = absurd (omega (arith, ly))
 either_bit (suc zero) (suc (suc y)) lx ly = absurd (omega (arith, ly))
 
+pub bit_of_union : (a b i : ℕ) → word_has (bit_or a b) i ≡ (word_has a i || word_has b i)
+bit_of_union a b i = ap (λ n. nat_eq n 1) (bit_at_or a b i) ∙ either_bit (bit_at a i) (bit_at b i) (bit_at-lt a i) (bit_at-lt b i)
+
 pub bit_with_common : (word a b i : ℕ) → word_has (bit_or word (bit_and a b)) i ≡ (word_has word i || (word_has a i && word_has b i))
 bit_with_common word a b i =
-    ap (λ n. nat_eq n 1) (bit_at_or word (bit_and a b) i)
-    ∙ either_bit (bit_at word i) (bit_at (bit_and a b) i) (bit_at-lt word i) (bit_at-lt (bit_and a b) i)
+    bit_of_union word (bit_and a b) i
     ∙ ap (λ t. word_has word i || t) (ap (λ n. nat_eq n 1) (bit_at_and a b i) ∙ both_bits (bit_at a i) (bit_at b i) (bit_at-lt a i) (bit_at-lt b i))

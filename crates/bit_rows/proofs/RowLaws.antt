@@ -1,8 +1,8 @@
 -- The numbers of a row, word by word.
-use Rattle.std.proofs.Common.{◌≡◌, ◌≢◌, ℕ, ◌+◌, ◌*◌, ◌/◌, ◌%◌, ◌<◌, ◌≤◌, Bool, true, false, not, ◌&&◌, ◌||◌, List, length, refl, sym, ◌∙◌, ap, inl, inr, arith}
-use Rattle.std.specs.Prelude.{IsTrue, nat_eq, slice_index, slice_set}
+use Rattle.std.proofs.Common.{◌≡◌, ◌≢◌, ℕ, zero, suc, ◌+◌, ◌*◌, ◌/◌, ◌%◌, ◌<◌, ◌≤◌, Bool, true, false, not, ◌&&◌, ◌||◌, List, [], ◌∷◌, ◌++◌, length, refl, sym, ◌∙◌, ap, inl, inr, arith}
+use Rattle.std.specs.Prelude.{IsTrue, min, nat_eq, slice_index, slice_set}
 use Rattle.std.specs.Int.{bit_at}
-use Rattle.std.proofs.lemmas.Bool.{cases_eq, cases_lt, eq-eqb, ne_eqb, eqb-true, true≢false}
+use Rattle.std.proofs.lemmas.Bool.{and_from, and_parts, cases_eq, cases_lt, eq-eqb, ne_eqb, eqb-true, true≢false}
 use Rattle.std.proofs.lemmas.List.{get_or-set_same, get_or-set_other, get_or_past, length-set}
 use Rattle.std.proofs.lemmas.Nat.Bits.{bit_at-zero}
 use Rattle.bit_rows.specs.Rows.{HaveCommon, has_bit, word_has}
@@ -136,11 +136,73 @@ full_more words i before full n below = elim (cases_lt n (i * 64)) [
       has_from_bit words n (ap (λ k. bit_at (slice_index words k) (n % 64)) at ∙ full (n % 64) (omega arith))
 ]
 
--- two rows without a common bit in any word have no number in common
-pub none_past : (a b : List ℕ) (i : ℕ) → AreApart a b i → length a ≤ i → (n : ℕ) → IsTrue (has_bit a n) → IsTrue (has_bit b n) → ⊥
-none_past a b i apart whole n in_a in_b = elim (cases_lt (n / 64) i) [
+-- no number has its word past the end of one of two rows and is in both
+none_shared : (a b : List ℕ) (upto n : ℕ) → min (length a) (length b) ≤ upto → upto ≤ n / 64 → (has_bit a n && has_bit b n) ≡ false
+none_shared a b upto n whole past = elim (cases_lt (length a) (length b)) [
+  | inl less ↦ ap (λ x. x && has_bit b n) (absent_past a n (omega (arith, less, whole, past)))
+  | inr more ↦ and_false (has_bit a n) (has_bit b n) (absent_past b n (omega (arith, more, whole, past)))
+]
+  where
+    and_false : (x y : Bool) → y ≡ false → (x && y) ≡ false
+    and_false true y none = none
+    and_false false y none = refl
+
+-- two rows without a common bit in any word that both have
+pub none_common : (a b : List ℕ) (i : ℕ) → AreApart a b i → min (length a) (length b) ≤ i → (n : ℕ) → IsTrue (has_bit a n) → IsTrue (has_bit b n) → ⊥
+none_common a b i apart whole n in_a in_b = elim (cases_lt (n / 64) i) [
   | inl below ↦ apart (n / 64) below (common_word a b n in_a in_b)
-  | inr past ↦ true≢false (sym in_a ∙ absent_past a n (omega (arith, past, whole)))
+  | inr past ↦ true≢false (sym (and_from (has_bit a n) (has_bit b n) in_a in_b) ∙ none_shared a b i n whole past)
+]
+
+-- ---- two rows and the numbers that don't count
+
+-- no number whose word is before this one is in both rows and not in the third
+abbrev pub NoneWithout : List ℕ → List ℕ → List ℕ → ℕ → Type 0
+NoneWithout a b without upto = (n : ℕ) → n / 64 < upto → IsTrue (has_bit a n) → IsTrue (has_bit b n) → has_bit without n ≡ false → ⊥
+
+-- the bits of the one word that aren't in the other
+abbrev pub AreRest : ℕ → ℕ → ℕ → Type 0
+AreRest word without rest = (k : ℕ) → k < 64 → word_has rest k ≡ (word_has word k && not (word_has without k))
+
+not_true : (x : Bool) → IsTrue (not x) → x ≡ false
+not_true false is = refl
+not_true true is = sym is
+
+absent_at : (words : List ℕ) (i bit : ℕ) → bit < 64 → word_has (slice_index words i) bit ≡ false → has_bit words (i * 64 + bit) ≡ false
+unfolding has_bit
+absent_at words i bit low is = rw (place_word i bit low, place_bit i bit low) is
+
+pub number_without : (a b without : List ℕ) (i rest : ℕ) → AreRest (slice_index b i) (slice_index without i) rest → HaveCommon (slice_index a i) rest
+    → (n : ℕ) × IsTrue (has_bit a n) × IsTrue (has_bit b n) × (has_bit without n ≡ false)
+number_without a b without i rest made (bit, low, in_a, in_rest) =
+    let parts = and_parts (word_has (slice_index b i) bit) (not (word_has (slice_index without i) bit)) (sym (made bit low) ∙ eq-eqb _ _ in_rest) in (
+      i * 64 + bit,
+      has_at_place a i bit low in_a,
+      has_at_place b i bit low (eqb-true _ _ parts.0),
+      absent_at without i bit low (not_true (word_has (slice_index without i) bit) parts.1),
+    )
+
+pub without_more : (a b without : List ℕ) (i rest : ℕ) → AreRest (slice_index b i) (slice_index without i) rest → (HaveCommon (slice_index a i) rest → ⊥) → NoneWithout a b without i → NoneWithout a b without (i + 1)
+unfolding has_bit
+without_more a b without i rest made apart before n below in_a in_b out = elim (cases_eq (n / 64) i) [
+  | inl same ↦ apart (here same)
+  | inr differ ↦ before n (omega (arith, below, differ)) in_a in_b out
+]
+  where
+    in_rest : n / 64 ≡ i → word_has rest (n % 64) ≡ true
+    in_rest same =
+        made (n % 64) (omega arith)
+        ∙ and_from (word_has (slice_index b i) (n % 64)) (not (word_has (slice_index without i) (n % 64)))
+        (ap (λ k. word_has (slice_index b k) (n % 64)) (sym same) ∙ in_b)
+        (ap not (ap (λ k. word_has (slice_index without k) (n % 64)) (sym same) ∙ out))
+
+    here : n / 64 ≡ i → HaveCommon (slice_index a i) rest
+    here same = (n % 64, omega arith, ap (λ k. bit_at (slice_index a k) (n % 64)) (sym same) ∙ bit_from_has a n in_a, eqb-true _ _ (in_rest same))
+
+pub without_all : (a b without : List ℕ) (i : ℕ) → NoneWithout a b without i → min (length a) (length b) ≤ i → (n : ℕ) → IsTrue (has_bit a n) → IsTrue (has_bit b n) → has_bit without n ≡ false → ⊥
+without_all a b without i none whole n in_a in_b out = elim (cases_lt (n / 64) i) [
+  | inl below ↦ none n below in_a in_b out
+  | inr past ↦ true≢false (sym (and_from (has_bit a n) (has_bit b n) in_a in_b) ∙ none_shared a b i n whole past)
 ]
 
 -- ---- words are written one after the other
@@ -170,20 +232,33 @@ changed_all words old test upto whole none changed n = elim (cases_lt (n / 64) u
   | inr past ↦ absent_past words n (omega (arith, past, whole, changed.size)) ∙ sym (none n (omega (arith, past)))
 ]
 
--- the numbers of one row that aren't in another
-abbrev pub in_difference : List ℕ → List ℕ → ℕ → Bool
-in_difference a b n = has_bit a n && not (has_bit b n)
+-- the numbers of either row
+abbrev pub in_union : List ℕ → List ℕ → ℕ → Bool
+in_union words others n = has_bit words n || has_bit others n
 
-pub difference_more : (words a b : List ℕ) (i word : ℕ) → i < length words → AreChanged words a (in_difference a b) i
-    → ((k : ℕ) → k < 64 → word_has word k ≡ (word_has (slice_index words i) k && not (word_has (slice_index b i) k))) → AreChanged (slice_set words i word) a (in_difference a b) (i + 1)
+-- one more word gets the others' bits
+pub union_more : (words old others : List ℕ) (i word : ℕ) → i < length words → AreChanged words old (in_union old others) i
+    → ((k : ℕ) → word_has word k ≡ (word_has (slice_index words i) k || word_has (slice_index others i) k)) → AreChanged (slice_set words i word) old (in_union old others) (i + 1)
 unfolding has_bit
-difference_more words a b i word within before made =
-    changed_more words a (in_difference a b) i word within before
-    (λ n at. made (n % 64) (omega arith)
-    ∙ (λ j. word_has ((before.rest i (omega arith) ∙ ap (slice_index a) (sym at)) j) (n % 64) && not (word_has (slice_index b (sym at j)) (n % 64))))
+union_more words old others i word inside before made =
+    changed_more words old (in_union old others) i word inside before
+    (λ n at. made (n % 64) ∙ (λ j. word_has ((before.rest i (omega arith) ∙ ap (slice_index old) (sym at)) j) (n % 64) || word_has (slice_index others (sym at j)) (n % 64)))
 
-pub no_difference : (a b : List ℕ) (upto : ℕ) → length a ≤ upto → (n : ℕ) → upto ≤ n / 64 → in_difference a b n ≡ false
-no_difference a b upto whole n past = ap (λ t. t && not (has_bit b n)) (absent_past a n (omega (arith, past, whole)))
+or_false : (x y : Bool) → y ≡ false → x ≡ (x || y)
+or_false true y none = refl
+or_false false y none = sym none
+
+-- after the last word that can have other numbers
+changed_rest : (words old : List ℕ) (added : ℕ → Bool) (upto : ℕ) → ((n : ℕ) → upto ≤ n / 64 → added n ≡ false) → AreChanged words old (λ n. has_bit old n || added n) upto
+    → (n : ℕ) → has_bit words n ≡ (has_bit old n || added n)
+unfolding has_bit
+changed_rest words old added upto none changed n = elim (cases_lt (n / 64) upto) [
+  | inl below ↦ changed.done n below
+  | inr past ↦ ap (λ w. word_has w (n % 64)) (changed.rest (n / 64) past) ∙ or_false (has_bit old n) (added n) (none n past)
+]
+
+pub union_all : (words old others : List ℕ) (upto : ℕ) → length others ≤ upto → AreChanged words old (in_union old others) upto → (n : ℕ) → has_bit words n ≡ in_union old others n
+union_all words old others upto whole changed = changed_rest words old (has_bit others) upto (λ n past. absent_past others n (omega (arith, past, whole))) changed
 
 -- a row with the numbers that two others have
 abbrev pub in_either : List ℕ → List ℕ → List ℕ → ℕ → Bool
@@ -198,6 +273,17 @@ common_more words old a b i word within before made =
     (λ n at. made (n % 64) (omega arith)
     ∙ (λ j. word_has ((before.rest i (omega arith) ∙ ap (slice_index old) (sym at)) j) (n % 64) || (word_has (slice_index a (sym at j)) (n % 64) && word_has (slice_index b (sym at j)) (n % 64))))
 
-pub no_common : (old a b : List ℕ) (upto : ℕ) → length old ≤ upto → length a ≤ upto → (n : ℕ) → upto ≤ n / 64 → in_either old a b n ≡ false
-no_common old a b upto whole_old whole_a n past =
-    (λ j. absent_past old n (omega (arith, past, whole_old)) j || (absent_past a n (omega (arith, past, whole_a)) j && has_bit b n))
+pub common_all : (words old a b : List ℕ) (upto : ℕ) → min (length a) (length b) ≤ upto → AreChanged words old (in_either old a b) upto → (n : ℕ) → has_bit words n ≡ in_either old a b n
+common_all words old a b upto whole changed = changed_rest words old (λ n. has_bit a n && has_bit b n) upto (λ n past. none_shared a b upto n whole past) changed
+
+-- ---- a word is appended
+
+read_more : (words : List ℕ) (n : ℕ) → slice_index (words ++ 0 ∷ []) n ≡ slice_index words n
+read_more [] zero = refl
+read_more [] (suc n) = refl
+read_more (x ∷ words) zero = refl
+read_more (x ∷ words) (suc n) = read_more words n
+
+pub has_more : (words : List ℕ) (n : ℕ) → has_bit (words ++ 0 ∷ []) n ≡ has_bit words n
+unfolding has_bit
+has_more words n = ap (λ w. word_has w (n % 64)) (read_more words (n / 64))

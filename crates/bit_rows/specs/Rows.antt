@@ -1,5 +1,5 @@
 -- Sets of numbers as bits.
-use Rattle.std.specs.Prelude.{◌≡◌, ◌<◌, ◌/◌, ◌%◌, ℕ, List, Bool, nat_eq, slice_index, IsTrue}
+use Rattle.std.specs.Prelude.{◌≡◌, ◌<◌, ◌/◌, ◌%◌, ℕ, List, Bool, false, nat_eq, slice_index, IsTrue}
 use Rattle.std.specs.Int.{bit_at}
 use Rattle.bit_rows.specs.declared.row.BitRow.{BitRow}
 
@@ -17,8 +17,12 @@ has_bit words n = nat_eq (bit_at (slice_index words (n / 64)) (n % 64)) 1
 
 -- whether the number is in the row
 abbrev pub has : BitRow → ℕ → Bool
-has row n = has_bit row.words n
+has row n = has_bit row.words.items n
 
 -- some number is in both rows
 abbrev pub HaveNumber : BitRow → BitRow → Type 0
 HaveNumber a b = (n : ℕ) × IsTrue (has a n) × IsTrue (has b n)
+
+-- some number is in both rows, and not in the third
+abbrev pub HaveNumberWithout : BitRow → BitRow → BitRow → Type 0
+HaveNumberWithout a b without = (n : ℕ) × IsTrue (has a n) × IsTrue (has b n) × (has without n ≡ false)

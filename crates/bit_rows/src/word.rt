@@ -36,6 +36,13 @@ pub fn without(word: u64, number: u32) -> u64
     word & !(1 << number)
 }
 
+/// The numbers of both sets.
+pub fn union(a: u64, b: u64) -> u64
+    ensures { (i : ℕ) → word_has result i ≡ (word_has a i || word_has b i) }
+{
+    a | b
+}
+
 /// The numbers of the first set that aren't in the second.
 pub fn difference(a: u64, b: u64) -> u64
     ensures { (i : ℕ) → i < 64 → word_has result i ≡ (word_has a i && not (word_has b i)) }

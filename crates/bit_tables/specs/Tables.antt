@@ -1,5 +1,6 @@
 -- Rows of bits by name, and by two names.
-use Rattle.std.specs.Prelude.{◌≡◌, ℕ, Bool, false, ◌&&◌, ◌∷◌, ◌++◌, nat_eq, nat_le, nat_lt, length, List, Option, Some, None}
+use Rattle.std.specs.Prelude.{◌≡◌, ℕ, Bool, false, ◌&&◌, ◌∷◌, ◌++◌, not, nat_eq, nat_le, nat_lt, length, List, Option, Some, None}
+use Rattle.std.specs.Borrow.{Bor}
 use Rattle.std.specs.HashMap.{get_by_text, hasher_of}
 use Rattle.std.specs.List.{list_any}
 use Rattle.bit_rows.specs.declared.row.BitRow.{BitRow}
@@ -30,6 +31,15 @@ holds (Many row) number = has row.value number
 abbrev pub is_in : Option BitRow → ℕ → Bool
 is_in None number = false
 is_in (Some row) number = has row number
+
+-- whether the row behind the reference has the number; no row has none
+abbrev pub is_in_row : Option (Bor BitRow) → ℕ → Bool
+is_in_row None number = false
+is_in_row (Some row) number = has row.now number
+
+-- whether the set has the number, and the row hasn't
+abbrev pub holds_without : Numbers → Option (Bor BitRow) → ℕ → Bool
+holds_without numbers row number = holds numbers number && not (is_in_row row number)
 
 -- whether the set has the number; no set has none
 abbrev pub is_held : Option Numbers → ℕ → Bool

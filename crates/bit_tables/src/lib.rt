@@ -20,6 +20,7 @@
 #![tactic(auto)]
 
 pub use number_table::NumberTable;
+pub use numbers::Numbers;
 pub use pair_table::PairTable;
 pub use seed::Seed;
 pub use table::BitTable;

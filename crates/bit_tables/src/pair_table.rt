@@ -1,13 +1,13 @@
 //! Rows of bits by two names.
 ghost use Rattle.std.specs.Prelude.{◌≡◌, ◌≢◌, ◌<◌, ◌≤◌, ℕ, IsTrue, false, length, OnOk, IfErr, IfSome, IfNone};
 ghost use Rattle.rbac_sets.specs.Sets.{Bytes};
-ghost use Rattle.bit_rows.specs.Rows.{has};
-ghost use Rattle.bit_tables.specs.Tables.{are_names, has_pair, joined, seed_of};
+ghost use Rattle.bit_tables.specs.Tables.{are_names, has_pair, holds, joined, seed_of};
 
+use crate::numbers::Numbers;
 use crate::seed::Seed;
 use crate::table::BitTable;
 use arrayvec::ArrayString;
-use bit_rows::{BitRow, WIDTH};
+use bit_rows::WIDTH;
 use rbac_sets::Refusal;
 use std::alloc::Global;
 
@@ -36,8 +36,8 @@ impl PairTable {
     }
 
     /// The row at the two names, if there is one. It doesn't allocate.
-    pub fn row(&self, first: &str, second: &str) -> Option<BitRow>
-        ensures some { IfSome result (λ row. (n : ℕ) → has row n ≡ has_pair self.now first.now second.now n) }
+    pub fn row(&self, first: &str, second: &str) -> Option<&Numbers>
+        ensures some { IfSome result (λ row. (n : ℕ) → holds row.now n ≡ has_pair self.now first.now second.now n) }
         ensures none { IfNone result ((n : ℕ) → has_pair self.now first.now second.now n ≡ false) }
     {
         if !are_names(first, second) {

@@ -4,12 +4,11 @@ ghost use Rattle.std.specs.HashMap.{get_by_text};
 ghost use Rattle.std.specs.Map.{update};
 ghost use Rattle.std.specs.Str.{bytes_eq};
 ghost use Rattle.rbac_sets.specs.Sets.{Bytes};
-ghost use Rattle.bit_rows.specs.Rows.{has};
-ghost use Rattle.bit_tables.specs.Tables.{HasNoEmptyRow, has_at, seed_of};
+ghost use Rattle.bit_tables.specs.Tables.{HasNoEmptyRow, has_at, holds, seed_of};
 
 use crate::numbers::Numbers;
 use crate::seed::Seed;
-use bit_rows::{BitRow, WIDTH};
+use bit_rows::WIDTH;
 use rbac_sets::Refusal;
 use std::alloc::Global;
 use std::collections::HashMap;
@@ -32,14 +31,11 @@ impl BitTable {
     }
 
     /// The row at the name, if there is one. It doesn't allocate.
-    pub fn row(&self, name: &str) -> Option<BitRow>
-        ensures some { IfSome result (λ row. (n : ℕ) → has row n ≡ has_at self.now name.now n) }
+    pub fn row(&self, name: &str) -> Option<&Numbers>
+        ensures some { IfSome result (λ row. (n : ℕ) → holds row.now n ≡ has_at self.now name.now n) }
         ensures none { IfNone result ((n : ℕ) → has_at self.now name.now n ≡ false) }
     {
-        match self.rows.get(name) {
-            Some(numbers) => Some(numbers.row()),
-            None => None,
-        }
+        self.rows.get(name)
     }
 
     /// Puts the number into the row at the name.

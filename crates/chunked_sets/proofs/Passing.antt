@@ -1,5 +1,5 @@
 -- A pass over chunks: one step, and the place of an entry where it stops.
-use Rattle.std.proofs.Common.{◌≡◌, ℕ, zero, suc, ◌-◌, ◌<◌, ◌≤◌, true, false, List, [], ◌∷◌, ◌++◌}
+use Rattle.std.proofs.Common.{◌≡◌, ℕ, zero, suc, ◌+◌, ◌-◌, ◌<◌, ◌≤◌, true, false, List, [], ◌∷◌, ◌++◌}
 use Rattle.std.proofs.Common.{length, take, drop, get_or, set, refl, sym, ap, subst, ◌∙◌, arith, append_assoc, length-append, length-drop}
 use Rattle.std.specs.List.{AllByRecursion}
 use Rattle.std.specs.declared.vec.Vec.{Vec}
@@ -9,7 +9,7 @@ use Rattle.std.specs.declared.cmp.Ordering.TheVariants.{Less, Greater}
 use Rattle.std.specs.Ordering.{is_le}
 use Rattle.std.specs.Cmp.{IsTotalOrder}
 use Rattle.std.specs.FinMap.{IsAntisymmetric}
-use Rattle.std.proofs.lemmas.List.{take_at, drop_at, set_at, get_or_at, take-append-le, drop-append-le}
+use Rattle.std.proofs.lemmas.List.{take_at, drop_at, set_at, get_or_at, take-append-le, drop-append-le, length-take-le}
 use Rattle.chunked_sets.specs.Chunks.{entries_of}
 use Rattle.chunked_sets.specs.private.Chunks.{AreChunks}
 use Rattle.chunked_sets.specs.private.Places.{first_passes, IsHome}
@@ -48,6 +48,9 @@ module _ {X : Type 0} where
 
     pub order_within : length ring - ahead < length (in_order ahead ring current)
     order_within = omega (arith, here, length-append (drop ahead ring) (current ∷ take ahead ring))
+
+    pub order_length : length (in_order ahead ring current) ≡ length ring + 1
+    order_length = omega (arith, here, length-append (drop ahead ring) (current ∷ take ahead ring), length-take-le ahead ring le)
 
   -- the upper half is current, or the lower
   pub order_above : (ring now : List X) (ahead : ℕ) (lower upper : X) → ahead ≤ length ring → now ≡ ring ++ lower ∷ [] → in_order ahead now upper ≡ drop ahead ring ++ lower ∷ upper ∷ take ahead ring

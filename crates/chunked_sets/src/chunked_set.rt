@@ -6,7 +6,7 @@ ghost use Rattle.chunked_sets.specs.Entries.{entries_left};
 ghost use Rattle.rbac_sets.specs.Sets.{IsDisjoint, empty, contains, insert, remove, union, difference, from_list, len, members};
 ghost use Rattle.rbac_sets.specs.SortedSet.{set_of};
 
-use crate::chunks::{MOST_CHUNKS, add_spare, chunk_of, insert_into};
+use crate::chunks::{chunk_of, insert_into, make_room};
 use crate::entries::Entries;
 use crate::making::{chunks_from, copy_chunks, entry_at};
 use crate::pass::merge_into;
@@ -21,31 +21,34 @@ use std::mem;
 ///
 /// An entry is found by binary search. Only `reserve`, `copy` and `of_sorted` allocate: once room is
 /// reserved, entries are inserted without allocation, and so without a refusal. An insertion moves the
-/// entries of one chunk, and takes at most one spare chunk; `room` is the number of these. In contracts
-/// the value is the entries in their order and the room for more; `set_of` is the set of the entries.
+/// entries of one chunk, and takes a spare chunk if that one is full. In contracts the value is the
+/// entries in their order and the room for more; `set_of` is the set of the entries.
 #[derive(Drop)]
 pub struct ChunkedSet<K: Entry> {
     chunks: Vec<Vec<K>>,
     // Empty chunks, for insertions into full ones.
     spare: Vec<Vec<K>>,
     len: usize,
+    // How many more entries were promised room. The chunks and the spare ones are enough for them, wherever they belong.
+    room: usize,
 }
 
 impl<K: Entry> Model for ChunkedSet<K> {
-    ghost use Rattle.std.specs.Prelude.{◌≡◌, ◌≤◌, ◌-◌, ◌^◌, length, vec_len, vec_capacity, min};
+    ghost use Rattle.std.specs.Prelude.{◌≡◌, ◌≤◌, ◌^◌, length, vec_len, vec_capacity};
     ghost use Rattle.std.specs.List.Sorted.{IsStrictlySortedBy};
     ghost use Rattle.rbac_sets.specs.SortedSet.{Stored, stored_code};
     ghost use Rattle.chunked_sets.specs.Chunks.{entries_of};
     ghost use Rattle.chunked_sets.specs.private.Chunks.{AreChunks, AreSpare};
+    ghost use Rattle.chunked_sets.specs.private.Rooms.{HasRoom};
 
     ghost Value = { Stored K };
 
     ghost coded = { stored_code K.code };
 
-    ghost view = { λ s. record { in_order = entries_of s.chunks.items; room = min (vec_len s.spare) (min (vec_capacity s.chunks) (2 ^ 56) - vec_len s.chunks) } };
+    ghost view = { λ s. record { in_order = entries_of s.chunks.items; room = s.room } };
 
     ghost invariant = { λ s. AreChunks s.chunks.items × AreSpare s.spare.items × IsStrictlySortedBy K.cmp (entries_of s.chunks.items)
-        × (s.len ≡ length (entries_of s.chunks.items)) × (vec_len s.chunks ≤ 2 ^ 56) };
+        × (s.len ≡ length (entries_of s.chunks.items)) × (vec_len s.chunks ≤ 2 ^ 56) × HasRoom s.room s.chunks.items (vec_capacity s.chunks) s.spare };
 }
 
 impl<K: Entry> ChunkedSet<K> {
@@ -57,6 +60,7 @@ impl<K: Entry> ChunkedSet<K> {
             chunks: Vec::new(alloc),
             spare: Vec::new(alloc),
             len: 0,
+            room: 0,
         }
     }
 
@@ -78,8 +82,7 @@ impl<K: Entry> ChunkedSet<K> {
     pub fn room(&self) -> usize
         ensures { result ≡ self.now.room }
     {
-        let most = self.chunks.capacity().min(MOST_CHUNKS);
-        self.spare.len().min(most - self.chunks.len())
+        self.room
     }
 
     /// Whether the entry that `probe` looks for is there.
@@ -93,7 +96,7 @@ impl<K: Entry> ChunkedSet<K> {
         place(&self.chunks[at], probe).is_ok()
     }
 
-    /// Reserves room for at least `count` more entries.
+    /// Reserves room for at least `count` more entries, with as many spare chunks as are enough wherever the entries belong.
     ///
     /// # Errors
     ///
@@ -104,12 +107,13 @@ impl<K: Entry> ChunkedSet<K> {
         ensures room { self.old.room ≤ self.new.room }
         ensures cause { IfErr result (λ refusal. refusal ≡ Refusal.Memory) }
     {
-        if count > MOST_CHUNKS - self.chunks.len() {
-            return Err(Refusal::Memory);
+        if count <= self.room {
+            return Ok(());
         }
-        self.chunks.reserve(count)?;
         let alloc = *self.chunks.allocator();
-        add_spare(&mut self.spare, count, alloc)
+        make_room(&mut self.chunks, &mut self.spare, count, alloc)?;
+        self.room = count;
+        Ok(())
     }
 
     /// Inserts an entry that is not there, into reserved room.
@@ -123,6 +127,7 @@ impl<K: Entry> ChunkedSet<K> {
     {
         insert_into(&mut self.chunks, &mut self.spare, entry);
         self.len += 1;
+        self.room -= 1;
     }
 
     /// Inserts an entry that is not there.
@@ -169,6 +174,7 @@ impl<K: Entry> ChunkedSet<K> {
         ensures room { self.old.room ≤ self.new.room + vec_len others }
     {
         self.len += others.len();
+        self.room -= others.len();
         let nothing = Vec::new(*self.chunks.allocator());
         let chunks = mem::replace(&mut self.chunks, nothing);
         self.chunks = merge_into(chunks, &mut self.spare, others);
@@ -253,6 +259,7 @@ impl<K: Entry> ChunkedSet<K> {
             chunks,
             spare: Vec::new(alloc),
             len,
+            room: 0,
         })
     }
 
@@ -271,6 +278,7 @@ impl<K: Entry> ChunkedSet<K> {
             chunks,
             spare: Vec::new(alloc),
             len: self.len,
+            room: 0,
         })
     }
 
@@ -281,5 +289,6 @@ impl<K: Entry> ChunkedSet<K> {
     {
         let alloc = *self.chunks.allocator();
         self.spare = Vec::new(alloc);
+        self.room = 0;
     }
 }

@@ -9,6 +9,8 @@ pub use entries::Entries;
 pub use entry_set::EntrySet;
 pub use of_names::{ChunkedGrants, ChunkedNames, ChunkedPairs, has_first};
 pub use run::Run;
+pub use sorting::sorted_once;
+pub use two_way::{Turn, TwoWayGrants, TwoWayPairs, TwoWaySet};
 
 pub mod chunked_set;
 mod chunks;
@@ -19,3 +21,5 @@ pub mod of_names;
 mod pass;
 mod removing;
 pub mod run;
+pub mod sorting;
+pub mod two_way;

@@ -9,7 +9,7 @@ use std::alloc::Global;
 
 /// How many entries a chunk has that is made from a sorted list: it is not full, so that the first insertions
 /// don't split each chunk.
-const FILLED: usize = 96;
+const FILLED: usize = 112;
 
 /// The entry at a place in all chunks.
 pub(crate) fn entry_at<K: Entry>(chunks: &[Vec<K>], index: usize) -> &K

@@ -1,15 +1,17 @@
 //! A pass over chunks, in which entries are inserted in their order. Each chunk is moved at most once.
-ghost use Rattle.std.specs.Prelude.{◌≡◌, ◌+◌, ◌-◌, ◌<◌, ◌≤◌, ◌||◌, [], length, drop, vec_len, vec_capacity, false};
+ghost use Rattle.std.specs.Prelude.{ℕ, ◌≡◌, ◌+◌, ◌-◌, ◌<◌, ◌≤◌, ◌^◌, ◌||◌, [], length, drop, vec_len, vec_capacity, false};
 ghost use Rattle.std.specs.VecDeque.{deque_len, deque_capacity};
 ghost use Rattle.std.specs.List.{list_any};
 ghost use Rattle.std.specs.List.Sorted.{IsStrictlySortedBy};
 ghost use Rattle.rbac_sets.specs.Sets.{IsDisjoint, contains, insert, union, from_list};
 ghost use Rattle.chunked_sets.specs.Chunks.{entries_of};
 ghost use Rattle.chunked_sets.specs.private.Chunks.{AreChunks, AreSpare};
+ghost use Rattle.chunked_sets.specs.private.Rooms.{HasRoom};
+ghost use Rattle.chunked_sets.specs.private.Growth.{GrowsBy};
 ghost use Rattle.chunked_sets.specs.private.Places.{IsHome};
 ghost use Rattle.chunked_sets.specs.private.Passes.{chunks_in, entries_in, HasPassed};
 
-use crate::chunks::{CHUNK, begins_before, halve, insert_into};
+use crate::chunks::{CHUNK, begins_before, halve, insert_into, take_spare};
 use rbac_sets::{Entry, Probe, place};
 use std::collections::VecDeque;
 use std::mem;
@@ -92,6 +94,7 @@ fn split<K: Entry>(pass: &mut Pass<K>, mut upper: Vec<K>, entry: &K)
     requires room { deque_len pass.old.ring < deque_capacity pass.old.ring }
     ensures same { entries_in pass.new ≡ entries_in pass.old }
     ensures chunks { AreChunks (chunks_in pass.new) }
+    ensures weight { GrowsBy 0 (chunks_in pass.old) (chunks_in pass.new) }
     ensures home { IsHome K.cmp entry.now (chunks_in pass.new) (length pass.new.ring.items - pass.new.ahead) }
     ensures free { vec_len pass.new.current < CHUNK }
     ensures ahead { pass.new.ahead ≤ deque_len pass.new.ring }
@@ -114,22 +117,27 @@ fn make_space<K: Entry>(pass: &mut Pass<K>, spare: &mut Vec<Vec<K>>, entry: &K)
     requires sorted { IsStrictlySortedBy K.cmp (entries_in pass.old) }
     requires passed { HasPassed K.cmp entry.now pass.old.ahead pass.old.ring.items }
     requires ahead { pass.old.ahead ≤ deque_len pass.old.ring }
-    requires room { deque_len pass.old.ring < deque_capacity pass.old.ring }
+    requires listed { deque_len pass.old.ring < deque_capacity pass.old.ring }
+    requires few { deque_len pass.old.ring < 2 ^ 56 }
     requires spare { AreSpare spare.old.items }
-    requires one_spare { 1 ≤ vec_len spare.old }
+    requires room { HasRoom 1 (chunks_in pass.old) (deque_capacity pass.old.ring) spare.old }
     ensures same { entries_in pass.new ≡ entries_in pass.old }
     ensures chunks { AreChunks (chunks_in pass.new) }
+    ensures weight { GrowsBy 0 (chunks_in pass.old) (chunks_in pass.new) }
     ensures home { IsHome K.cmp entry.now (chunks_in pass.new) (length pass.new.ring.items - pass.new.ahead) }
     ensures free { vec_len pass.new.current < CHUNK }
     ensures ahead { pass.new.ahead ≤ deque_len pass.new.ring }
     ensures len { deque_len pass.new.ring ≤ deque_len pass.old.ring + 1 }
+    ensures listed { deque_len pass.new.ring < deque_capacity pass.new.ring }
+    ensures few { deque_len pass.new.ring < 2 ^ 56 }
     ensures capacity { deque_capacity pass.new.ring ≡ deque_capacity pass.old.ring }
     ensures spare { AreSpare spare.new.items }
-    ensures spare_len { vec_len spare.old ≤ vec_len spare.new + 1 }
+    ensures total { deque_len pass.new.ring + vec_len spare.new ≡ deque_len pass.old.ring + vec_len spare.old }
+    ensures spare_capacity { vec_capacity spare.new ≡ vec_capacity spare.old }
 {
     seek(pass, entry);
     if pass.current.len() == CHUNK {
-        let upper = spare.pop().unwrap();
+        let upper = take_spare(spare);
         split(pass, upper, entry);
     }
 }
@@ -141,19 +149,20 @@ fn put<K: Entry>(pass: &mut Pass<K>, spare: &mut Vec<Vec<K>>, entry: K)
     requires passed { HasPassed K.cmp entry pass.old.ahead pass.old.ring.items }
     requires absent { contains (from_list {R = K.cmp} (entries_in pass.old)) entry ≡ false }
     requires ahead { pass.old.ahead ≤ deque_len pass.old.ring }
-    requires room { deque_len pass.old.ring < deque_capacity pass.old.ring }
+    requires listed { deque_len pass.old.ring < deque_capacity pass.old.ring }
+    requires few { deque_len pass.old.ring < 2 ^ 56 }
     requires spare { AreSpare spare.old.items }
-    requires one_spare { 1 ≤ vec_len spare.old }
+    requires room { HasRoom 1 (chunks_in pass.old) (deque_capacity pass.old.ring) spare.old }
     ensures chunks { AreChunks (chunks_in pass.new) }
     ensures sorted { IsStrictlySortedBy K.cmp (entries_in pass.new) }
     ensures passed { HasPassed K.cmp entry pass.new.ahead pass.new.ring.items }
     ensures inserted { from_list {R = K.cmp} (entries_in pass.new) ≡ insert (from_list (entries_in pass.old)) entry }
     ensures entry_count { length (entries_in pass.new) ≡ length (entries_in pass.old) + 1 }
     ensures ahead { pass.new.ahead ≤ deque_len pass.new.ring }
-    ensures len { deque_len pass.new.ring ≤ deque_len pass.old.ring + 1 }
-    ensures capacity { deque_capacity pass.new.ring ≡ deque_capacity pass.old.ring }
+    ensures listed { deque_len pass.new.ring < deque_capacity pass.new.ring }
+    ensures few { deque_len pass.new.ring < 2 ^ 56 }
     ensures spare { AreSpare spare.new.items }
-    ensures spare_len { vec_len spare.old ≤ vec_len spare.new + 1 }
+    ensures room { (k : ℕ) → HasRoom (k + 1) (chunks_in pass.old) (deque_capacity pass.old.ring) spare.old → HasRoom k (chunks_in pass.new) (deque_capacity pass.new.ring) spare.new }
 {
     make_space(pass, spare, &entry);
     let gap = place(&pass.current, &entry).unwrap_err();
@@ -167,17 +176,16 @@ fn merge_pass<K: Entry>(chunks: Vec<Vec<K>>, spare: &mut Vec<Vec<K>>, others: Ve
     requires sorted { IsStrictlySortedBy K.cmp (entries_of chunks.items) }
     requires others_sorted { IsStrictlySortedBy K.cmp others.items }
     requires disjoint { IsDisjoint (from_list {R = K.cmp} (entries_of chunks.items)) (from_list {R = K.cmp} others.items) }
-    requires room { vec_len chunks + vec_len others ≤ vec_capacity chunks }
+    requires few { vec_len chunks ≤ 2 ^ 56 }
     requires spare { AreSpare spare.old.items }
-    requires enough { vec_len others ≤ vec_len spare.old }
+    requires room { HasRoom (vec_len others) chunks.items (vec_capacity chunks) spare.old }
     ensures chunks { AreChunks result.items }
     ensures sorted { IsStrictlySortedBy K.cmp (entries_of result.items) }
     ensures both { from_list {R = K.cmp} (entries_of result.items) ≡ union (from_list (entries_of chunks.items)) (from_list others.items) }
     ensures entry_count { length (entries_of result.items) ≡ length (entries_of chunks.items) + vec_len others }
-    ensures len { vec_len result ≤ vec_len chunks + vec_len others }
-    ensures capacity { vec_capacity chunks ≤ vec_capacity result }
+    ensures few { vec_len result ≤ 2 ^ 56 }
     ensures spare { AreSpare spare.new.items }
-    ensures spare_len { vec_len spare.old ≤ vec_len spare.new + vec_len others }
+    ensures room { (k : ℕ) → HasRoom (k + vec_len others) chunks.items (vec_capacity chunks) spare.old → HasRoom k result.items (vec_capacity result) spare.new }
 {
     let mut pass = start(chunks);
     let mut rest = VecDeque::from_vec(others);
@@ -197,17 +205,16 @@ fn insert_each<K: Entry>(
     requires sorted { IsStrictlySortedBy K.cmp (entries_of chunks.items) }
     requires others_sorted { IsStrictlySortedBy K.cmp others.items }
     requires disjoint { IsDisjoint (from_list {R = K.cmp} (entries_of chunks.items)) (from_list {R = K.cmp} others.items) }
-    requires room { vec_len chunks + vec_len others ≤ vec_capacity chunks }
+    requires few { vec_len chunks ≤ 2 ^ 56 }
     requires spare { AreSpare spare.old.items }
-    requires enough { vec_len others ≤ vec_len spare.old }
+    requires room { HasRoom (vec_len others) chunks.items (vec_capacity chunks) spare.old }
     ensures chunks { AreChunks result.items }
     ensures sorted { IsStrictlySortedBy K.cmp (entries_of result.items) }
     ensures both { from_list {R = K.cmp} (entries_of result.items) ≡ union (from_list (entries_of chunks.items)) (from_list others.items) }
     ensures entry_count { length (entries_of result.items) ≡ length (entries_of chunks.items) + vec_len others }
-    ensures len { vec_len result ≤ vec_len chunks + vec_len others }
-    ensures capacity { vec_capacity chunks ≤ vec_capacity result }
+    ensures few { vec_len result ≤ 2 ^ 56 }
     ensures spare { AreSpare spare.new.items }
-    ensures spare_len { vec_len spare.old ≤ vec_len spare.new + vec_len others }
+    ensures room { (k : ℕ) → HasRoom (k + vec_len others) chunks.items (vec_capacity chunks) spare.old → HasRoom k result.items (vec_capacity result) spare.new }
 {
     let mut all = chunks;
     let mut rest = VecDeque::from_vec(others);
@@ -217,8 +224,8 @@ fn insert_each<K: Entry>(
     all
 }
 
-/// Inserts all of these sorted entries, none of which is there. It goes once through the chunks, and takes at most one
-/// spare chunk for each entry.
+/// Inserts all of these sorted entries, none of which is there. It goes once through the chunks, and takes a spare chunk for
+/// each one that is full when an entry belongs in it.
 pub(crate) fn merge_into<K: Entry>(
     chunks: Vec<Vec<K>>,
     spare: &mut Vec<Vec<K>>,
@@ -228,17 +235,16 @@ pub(crate) fn merge_into<K: Entry>(
     requires sorted { IsStrictlySortedBy K.cmp (entries_of chunks.items) }
     requires others_sorted { IsStrictlySortedBy K.cmp others.items }
     requires disjoint { IsDisjoint (from_list {R = K.cmp} (entries_of chunks.items)) (from_list {R = K.cmp} others.items) }
-    requires room { vec_len chunks + vec_len others ≤ vec_capacity chunks }
+    requires few { vec_len chunks ≤ 2 ^ 56 }
     requires spare { AreSpare spare.old.items }
-    requires enough { vec_len others ≤ vec_len spare.old }
+    requires room { HasRoom (vec_len others) chunks.items (vec_capacity chunks) spare.old }
     ensures chunks { AreChunks result.items }
     ensures sorted { IsStrictlySortedBy K.cmp (entries_of result.items) }
     ensures both { from_list {R = K.cmp} (entries_of result.items) ≡ union (from_list (entries_of chunks.items)) (from_list others.items) }
     ensures entry_count { length (entries_of result.items) ≡ length (entries_of chunks.items) + vec_len others }
-    ensures len { vec_len result ≤ vec_len chunks + vec_len others }
-    ensures capacity { vec_capacity chunks ≤ vec_capacity result }
+    ensures few { vec_len result ≤ 2 ^ 56 }
     ensures spare { AreSpare spare.new.items }
-    ensures spare_len { vec_len spare.old ≤ vec_len spare.new + vec_len others }
+    ensures room { (k : ℕ) → HasRoom (k + vec_len others) chunks.items (vec_capacity chunks) spare.old → HasRoom k result.items (vec_capacity result) spare.new }
 {
     if chunks.is_empty() {
         return insert_each(chunks, spare, others);

@@ -1,5 +1,5 @@
 //! Removal of an entry from its chunk. What is freed becomes a spare chunk.
-ghost use Rattle.std.specs.Prelude.{◌≡◌, ◌+◌, ◌<◌, ◌≤◌, ◌↔◌, length, vec_len, vec_capacity, take, true, IsTrue, IsSome, IfSome};
+ghost use Rattle.std.specs.Prelude.{ℕ, ◌≡◌, ◌+◌, ◌<◌, ◌≤◌, ◌↔◌, min, length, vec_len, vec_capacity, take, true, IsTrue, IsSome, IfSome};
 ghost use Rattle.std.specs.Option.{is_some, OnSome};
 ghost use Rattle.std.specs.List.{HoldsAt};
 ghost use Rattle.std.specs.List.{remove as remove_at};
@@ -7,6 +7,7 @@ ghost use Rattle.std.specs.List.Sorted.{IsStrictlySortedBy};
 ghost use Rattle.rbac_sets.specs.Sets.{contains, remove, from_list};
 ghost use Rattle.chunked_sets.specs.Chunks.{entries_of};
 ghost use Rattle.chunked_sets.specs.private.Chunks.{AreChunks, AreSpare};
+ghost use Rattle.chunked_sets.specs.private.Rooms.{HasRoom};
 
 use crate::chunks::chunk_of;
 use rbac_sets::{Entry, Probe, place};
@@ -22,6 +23,8 @@ pub(crate) fn keep<K: Entry>(spare: &mut Vec<Vec<K>>, chunk: Vec<K>)
     requires memory { 128 ≤ vec_capacity chunk }
     ensures spare { AreSpare spare.new.items }
     ensures len { vec_len spare.old ≤ vec_len spare.new }
+    ensures kept { min (vec_len spare.old + 1) (vec_capacity spare.old) ≤ vec_len spare.new }
+    ensures capacity { vec_capacity spare.old ≤ vec_capacity spare.new }
 {
     if spare.len() < spare.capacity() {
         spare.push(chunk).unwrap();
@@ -33,12 +36,12 @@ fn join<K: Entry>(chunks: &mut Vec<Vec<K>>, spare: &mut Vec<Vec<K>>, at: usize)
     requires chunks { AreChunks chunks.old.items }
     requires spare { AreSpare spare.old.items }
     requires within { at ≤ vec_len chunks.old }
+    ensures within { at ≤ vec_len chunks.new }
     ensures same { entries_of chunks.new.items ≡ entries_of chunks.old.items }
     ensures chunks { AreChunks chunks.new.items }
     ensures len { vec_len chunks.new ≤ vec_len chunks.old }
-    ensures capacity { vec_capacity chunks.new ≡ vec_capacity chunks.old }
     ensures spare { AreSpare spare.new.items }
-    ensures spare_len { vec_len spare.old ≤ vec_len spare.new }
+    ensures room { (k : ℕ) → HasRoom k chunks.old.items (vec_capacity chunks.old) spare.old → HasRoom k chunks.new.items (vec_capacity chunks.new) spare.new }
 {
     if at + 1 < chunks.len() && chunks[at].len() + chunks[at + 1].len() <= JOINED {
         let mut next = chunks.remove(at + 1);
@@ -51,19 +54,18 @@ fn join<K: Entry>(chunks: &mut Vec<Vec<K>>, spare: &mut Vec<Vec<K>>, at: usize)
 pub(crate) fn tidy<K: Entry>(chunks: &mut Vec<Vec<K>>, spare: &mut Vec<Vec<K>>, at: usize)
     requires chunks { AreChunks chunks.old.items }
     requires spare { AreSpare spare.old.items }
+    requires within { at ≤ vec_len chunks.old }
     ensures same { entries_of chunks.new.items ≡ entries_of chunks.old.items }
     ensures chunks { AreChunks chunks.new.items }
     ensures len { vec_len chunks.new ≤ vec_len chunks.old }
-    ensures capacity { vec_capacity chunks.new ≡ vec_capacity chunks.old }
     ensures spare { AreSpare spare.new.items }
-    ensures spare_len { vec_len spare.old ≤ vec_len spare.new }
+    ensures room { (k : ℕ) → HasRoom k chunks.old.items (vec_capacity chunks.old) spare.old → HasRoom k chunks.new.items (vec_capacity chunks.new) spare.new }
 {
-    if at < chunks.len() {
-        join(chunks, spare, at);
+    join(chunks, spare, at);
+    if at == 0 {
+        return;
     }
-    if at > 0 && at <= chunks.len() {
-        join(chunks, spare, at - 1);
-    }
+    join(chunks, spare, at - 1);
 }
 
 /// Removes an entry from a chunk, and the chunk if it was the only one in it.
@@ -74,10 +76,10 @@ fn take_out<K: Entry>(chunks: &mut Vec<Vec<K>>, spare: &mut Vec<Vec<K>>, at: usi
     requires inside { HoldsAt (λ chunk. found < vec_len chunk) chunks.old.items at }
     ensures out { entries_of chunks.new.items ≡ remove_at (entries_of chunks.old.items) (length (entries_of (take at chunks.old.items)) + found) }
     ensures chunks { AreChunks chunks.new.items }
+    ensures within { at ≤ vec_len chunks.new }
     ensures len { vec_len chunks.new ≤ vec_len chunks.old }
-    ensures capacity { vec_capacity chunks.new ≡ vec_capacity chunks.old }
     ensures spare { AreSpare spare.new.items }
-    ensures spare_len { vec_len spare.old ≤ vec_len spare.new }
+    ensures room { (k : ℕ) → HasRoom k chunks.old.items (vec_capacity chunks.old) spare.old → HasRoom k chunks.new.items (vec_capacity chunks.new) spare.new }
 {
     if chunks[at].len() > 1 {
         chunks[at].remove(found);
@@ -103,10 +105,10 @@ pub(crate) fn remove_from<K: Entry, P: Probe<K>>(
     ensures chunks { AreChunks chunks.new.items }
     ensures entry_count { OnSome result (length (entries_of chunks.new.items) + 1 ≡ length (entries_of chunks.old.items)) }
     ensures same_count { result ≡ None → length (entries_of chunks.new.items) ≡ length (entries_of chunks.old.items) }
+    ensures within { IfSome result (λ at. at ≤ vec_len chunks.new) }
     ensures len { vec_len chunks.new ≤ vec_len chunks.old }
-    ensures capacity { vec_capacity chunks.new ≡ vec_capacity chunks.old }
     ensures spare { AreSpare spare.new.items }
-    ensures spare_len { vec_len spare.old ≤ vec_len spare.new }
+    ensures room { (k : ℕ) → HasRoom k chunks.old.items (vec_capacity chunks.old) spare.old → HasRoom k chunks.new.items (vec_capacity chunks.new) spare.new }
 {
     if chunks.is_empty() {
         return None;

@@ -6,11 +6,11 @@ use Rattle.std.specs.Cmp.{IsTotalOrder}
 use Rattle.std.specs.FinMap.{IsAntisymmetric}
 use Rattle.std.specs.Option.{option_copied, option_map}
 use Rattle.std.specs.Ordering.{eq_by_cmp}
-use Rattle.std.specs.List.{list_all, list_any}
+use Rattle.std.specs.List.{filter, list_all, list_any}
 use Rattle.std.specs.declared.cmp.Ordering.{Ordering}
 use denote.Ref.{Bor}
 use Rattle.rbac_sets.proofs.SetLaws.{tie_Decides}
-use Rattle.rbac_sets.proofs.Lists.{is_some_found}
+use Rattle.rbac_sets.proofs.Lists.{find_filter, is_some_found}
 
 -- there is a reference exactly if there is a value
 pub is_some_copied : {X : Type 0} (o : Option (Bor X)) → is_some (option_copied o) ≡ is_some o
@@ -67,6 +67,35 @@ find_fails {X} p q (x ∷ xs) y none found = step (p x) (q x) refl (find_fails p
     step true true is rest none found = cc
     step true false is rest none found = let same : x ≡ y = cc in subst (λ z. q z ≡ false) same is
     step false b is rest none found = rest none found
+
+-- what passes both tests passes one, and then the other
+pub both_kept : {X : Type 0} (p q : X → Bool) (xs : List X) → filter (λ x. p x && q x) xs ≡ filter q (filter p xs)
+both_kept p q [] = refl
+both_kept {X} p q (x ∷ xs) = step (p x) (q x) refl (both_kept p q xs)
+  where
+    step : (a b : Bool) → q x ≡ b → filter (λ y. p y && q y) xs ≡ filter q (filter p xs)
+        → cond (a && b) (x ∷ filter (λ y. p y && q y) xs) (filter (λ y. p y && q y) xs) ≡ filter q (cond a (x ∷ filter p xs) (filter p xs))
+    step true true is rest = rw is (ap (λ ys. x ∷ ys) rest)
+    step true false is rest = rw is rest
+    step false b is rest = rest
+
+-- and the first that does is the first of those that pass one that passes the other
+find_both : {X : Type 0} (p q : X → Bool) (xs : List X) → find (λ x. p x && q x) xs ≡ find q (filter p xs)
+find_both p q xs = find_filter (λ x. p x && q x) xs ∙ ap (λ ys. slice_get ys 0) (both_kept p q xs) ∙ sym (find_filter q (filter p xs))
+
+find_never : {X : Type 0} (xs : List X) → find (λ x. false) xs ≡ None
+find_never [] = refl
+find_never (x ∷ xs) = find_never xs
+
+-- the same if a third test, which is not about the items, passes too
+pub find_only : {X : Type 0} (b : Bool) (p q : X → Bool) (xs : List X) → find (λ x. b && (p x && q x)) xs ≡ cond b (find q (filter p xs)) None
+find_only true p q xs = find_both p q xs
+find_only false p q xs = find_never xs
+
+pub find_only_map : {X Y : Type 0} (b : Bool) (f : X → Y) (p : X → Bool) (t : Y → Bool) (xs : List X)
+    → option_map f (find (λ x. b && (p x && t (f x))) xs) ≡ cond b (find t (map f (filter p xs))) None
+find_only_map true f p t xs = ap (option_map f) (find_both p (λ x. t (f x)) xs) ∙ find_map f t (filter p xs)
+find_only_map false f p t xs = ap (option_map f) (find_never xs)
 
 -- nothing is found in an empty list
 pub find_nothing : {X : Type 0} (p : X → Bool) (xs : List X) → slice_get xs 0 ≡ None → find p xs ≡ None

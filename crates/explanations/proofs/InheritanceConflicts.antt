@@ -4,7 +4,7 @@ use Rattle.std.specs.Prelude.{IsTrue, is_some, find, nat_lt, count_by, slice_get
 use Rattle.std.specs.Option.{option_map}
 use Rattle.std.specs.List.{list_any}
 use Rattle.std.proofs.lemmas.Bool.{and_parts, and_from, or_cases, or_left, or_right, lt-ltb, true≢false}
-use Rattle.std.proofs.Math.Bool.{or-false}
+use Rattle.std.proofs.Math.Bool.{and-false, or-false}
 use Rattle.std.specs.Cmp.{both_ways}
 use Rattle.rbac_sets.specs.NameOrder.{name_total, name_exact, pair_total, pair_exact}
 use Rattle.rbac_sets.specs.Sets.{Bytes, Pair, Names, Cardinality, all, contains, count, insert, members}
@@ -20,14 +20,15 @@ use Rattle.admin_mgr.specs.Good.{IsGood}
 use Rattle.admin_mgr.specs.RbacState.{RbacState, members_of}
 use Rattle.admin_mgr.specs.Refusals.{violates_static, violates_dynamic}
 use Rattle.admin_mgr.specs.Separation.{is_kept_statically, is_kept_dynamically}
-use Rattle.admin_mgr.specs.private.HolderRoles.{is_reached, reached_members, run_of}
+use Rattle.admin_mgr.specs.private.HolderRoles.{is_reached, is_touched, reached_members, run_of}
 use Rattle.admin_mgr.proofs.StateAfter.SessionLaws.{none_ends_where}
 use Rattle.admin_mgr.proofs.Verdicts.AuthorizationLaws.{authorized_members_count, session_members_count}
 use Rattle.admin_mgr.proofs.Verdicts.InheritLaws.{goes_on_below, with_edge}
+use Rattle.admin_mgr.proofs.Verdicts.TouchLaws.{one_more}
 use Rattle.explanations.specs.Conflicts.{dynamic_conflicts, first_session_with, first_user_with, static_conflicts, violated_by_first}
-use Rattle.explanations.specs.private.Found.{conflicts_with, first_holder_below, has_too_many_below, has_too_many_with}
+use Rattle.explanations.specs.private.Found.{conflicts_with, first_with, has_too_many_with, sessions_with, users_with}
 use Rattle.explanations.proofs.Conflicting.{least_is_listed, mapped_agrees, some_fail}
-use Rattle.explanations.proofs.Finds.{find_agrees, is_some_map}
+use Rattle.explanations.proofs.Finds.{find_agrees, find_only, find_only_map, is_some_map}
 use Rattle.explanations.proofs.Least.{least-retain}
 
 -- ---- who has which roles with one more edge
@@ -65,40 +66,49 @@ module _ (S : RbacState) (good : IsGood S) (asc desc : Bytes) (no_back : geq S.e
       (λ i. list_any (λ (p : Pair). crossed p.1 q i) held)
       ∙ any_crossed (λ (p : Pair). geq S.edges p.1 q) (λ (p : Pair). geq S.edges p.1 asc) (geq S.edges desc q) held
 
-  -- only whoever has asc can have too many
+  -- only whoever has asc can have too many, and only if desc or a junior of it is one of the members
   counted_below : (held rows : List Pair) (n : ℕ) → reached_members S.edges held rows < n →
-      not (nat_lt (reached_members (insert S.edges (asc, desc)) held rows) n) ≡ has_too_many_below S.edges held asc desc rows n
-  unfolding has_too_many_below
+      not (nat_lt (reached_members (insert S.edges (asc, desc)) held rows) n) ≡ (is_touched S.edges desc rows && (is_reached S.edges held asc && has_too_many_with S.edges held desc rows n))
   counted_below held rows n fewer =
       ap (λ k. not (nat_lt k n)) (λ i. count_by (λ (m : Pair). reached_more held m.1 i) rows) ∙ by (is_reached S.edges held asc)
     where
-      by : (b : Bool) → not (nat_lt (count_by (λ (m : Pair). is_reached S.edges held m.1 || (b && geq S.edges desc m.1)) rows) n) ≡ (b && has_too_many_with S.edges held desc rows n)
-      by true = refl
-      by false = ap (λ k. not (nat_lt k n)) (λ i. count_by (λ (m : Pair). or-false (is_reached S.edges held m.1) i) rows) ∙ ap not (lt-ltb _ _ fewer)
+      by : (b : Bool) → not (nat_lt (count_by (λ (m : Pair). is_reached S.edges held m.1 || (b && geq S.edges desc m.1)) rows) n) ≡ (is_touched S.edges desc rows && (b && has_too_many_with S.edges held desc rows n))
+      by true = sym (one_more (λ (m : Pair). is_reached S.edges held m.1) (λ (m : Pair). geq S.edges desc m.1) rows n fewer)
+      by false = ap (λ k. not (nat_lt k n)) (λ i. count_by (λ (m : Pair). or-false (is_reached S.edges held m.1) i) rows) ∙ ap not (lt-ltb _ _ fewer) ∙ sym (and-false (is_touched S.edges desc rows))
 
   -- ---- the first user, and the first session
 
-  user_below : (x : Cardinality) → IsTrue (contains S.ssd.cardinalities x) → first_user_with (with_edge S asc desc) (members_of S.ssd x.0) x.1 ≡ first_holder_below false S asc desc (run_of S.ssd.members x.0) x.1
+  user_below : (x : Cardinality) → IsTrue (contains S.ssd.cardinalities x)
+      → first_user_with (with_edge S asc desc) (members_of S.ssd x.0) x.1 ≡ first_with S.edges S.assignments desc (users_with S asc) (run_of S.ssd.members x.0) x.1
   unfolding first_user_with with_edge
   user_below x there =
       least-retain name_total name_exact S.users (λ user. not (nat_lt (count (is_authorized (with_edge S asc desc) user) (members_of S.ssd x.0)) x.1))
       ∙ (λ i. find (λ user. counted user i) (members S.users))
+      ∙ find_only (is_touched S.edges desc (run_of S.ssd.members x.0)) (λ user. is_reached S.edges (run_of S.assignments user) asc) (λ user. has_too_many_with S.edges (run_of S.assignments user) desc (run_of S.ssd.members x.0) x.1) (members S.users)
     where
-      counted : (user : Bytes) → not (nat_lt (count (is_authorized (with_edge S asc desc) user) (members_of S.ssd x.0)) x.1) ≡ has_too_many_below S.edges (run_of S.assignments user) asc desc (run_of S.ssd.members x.0) x.1
+      counted : (user : Bytes) → not (nat_lt (count (is_authorized (with_edge S asc desc) user) (members_of S.ssd x.0)) x.1)
+          ≡ (is_touched S.edges desc (run_of S.ssd.members x.0)
+          && (is_reached S.edges (run_of S.assignments user) asc && has_too_many_with S.edges (run_of S.assignments user) desc (run_of S.ssd.members x.0) x.1))
       counted user =
           ap (λ k. not (nat_lt k x.1)) (authorized_members_count (with_edge S asc desc) user S.ssd.members x.0)
           ∙ counted_below (run_of S.assignments user) (run_of S.ssd.members x.0) x.1
           (subst (λ k. k < x.1) (authorized_members_count S user S.ssd.members x.0) (good.static_separation x.0 user x.1 there))
 
-  session_below : (x : Cardinality) → IsTrue (contains S.dsd.cardinalities x) → first_session_with (with_edge S asc desc) (members_of S.dsd x.0) x.1 ≡ first_holder_below true S asc desc (run_of S.dsd.members x.0) x.1
+  session_below : (x : Cardinality) → IsTrue (contains S.dsd.cardinalities x)
+      → first_session_with (with_edge S asc desc) (members_of S.dsd x.0) x.1 ≡ first_with S.edges S.active desc (sessions_with S asc) (run_of S.dsd.members x.0) x.1
   unfolding first_session_with with_edge
   session_below x there =
+      let has_asc : Pair → Bool = λ session. is_reached S.edges (run_of S.active session.0) asc in
+      let too_many : Bytes → Bool = λ session. has_too_many_with S.edges (run_of S.active session) desc (run_of S.dsd.members x.0) x.1 in
       ap (option_map (λ (session : Pair). session.0))
       (least-retain pair_total pair_exact S.sessions (λ (session : Pair). not (nat_lt (count (is_session_role (with_edge S asc desc) session.0) (members_of S.dsd x.0)) x.1))
       ∙ find_agrees pair_total pair_exact _ _ (members S.sessions) (λ session is. counted session (contains-members S.sessions session ∙ is)))
+      ∙ find_only_map (is_touched S.edges desc (run_of S.dsd.members x.0)) (λ (session : Pair). session.0) has_asc too_many (members S.sessions)
     where
       counted : (session : Pair) → IsTrue (contains S.sessions session)
-          → not (nat_lt (count (is_session_role (with_edge S asc desc) session.0) (members_of S.dsd x.0)) x.1) ≡ has_too_many_below S.edges (run_of S.active session.0) asc desc (run_of S.dsd.members x.0) x.1
+          → not (nat_lt (count (is_session_role (with_edge S asc desc) session.0) (members_of S.dsd x.0)) x.1)
+          ≡ (is_touched S.edges desc (run_of S.dsd.members x.0)
+          && (is_reached S.edges (run_of S.active session.0) asc && has_too_many_with S.edges (run_of S.active session.0) desc (run_of S.dsd.members x.0) x.1))
       counted session is =
           ap (λ k. not (nat_lt k x.1)) (session_members_count (with_edge S asc desc) session.0 S.dsd.members x.0)
           ∙ counted_below (run_of S.active session.0) (run_of S.dsd.members x.0) x.1
@@ -110,13 +120,13 @@ module _ (S : RbacState) (good : IsGood S) (asc desc : Bytes) (no_back : geq S.e
   unfolding after changed with_edge
   after_edge = none_ends_where (with_edge S asc desc) (goes_on_below S good asc desc no_back) good.well_formed.owned
 
-  pub users_below : static_conflicts (after S (AddInheritance asc desc)) ≡ conflicts_with (first_holder_below false S asc desc) S.ssd.members (members S.ssd.cardinalities)
+  pub users_below : static_conflicts (after S (AddInheritance asc desc)) ≡ conflicts_with (first_with S.edges S.assignments desc (users_with S asc)) S.ssd.members (members S.ssd.cardinalities)
   unfolding violated_by_first with_edge
   users_below =
       ap static_conflicts after_edge
       ∙ mapped_agrees _ _ (members S.ssd.cardinalities) (λ x is. ap (option_map (λ holder. (x.0, holder))) (user_below x (contains-members S.ssd.cardinalities x ∙ is)))
 
-  pub sessions_below : dynamic_conflicts (after S (AddInheritance asc desc)) ≡ conflicts_with (first_holder_below true S asc desc) S.dsd.members (members S.dsd.cardinalities)
+  pub sessions_below : dynamic_conflicts (after S (AddInheritance asc desc)) ≡ conflicts_with (first_with S.edges S.active desc (sessions_with S asc)) S.dsd.members (members S.dsd.cardinalities)
   unfolding violated_by_first with_edge
   sessions_below =
       ap dynamic_conflicts after_edge

@@ -3,6 +3,7 @@ mod Finds
 mod InheritanceConflicts
 mod KeptNames
 mod Least
+mod NumberedHolders
 mod ReasonLaws
 mod SessionCreation
 mod SessionReasonLaws

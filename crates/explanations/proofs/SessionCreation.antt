@@ -29,22 +29,11 @@ use Rattle.admin_mgr.proofs.Verdicts.TouchLaws.{with_sessions, OthersStay, sessi
 use Rattle.admin_mgr.proofs.Verdicts.ViolationLaws.{with_paired-others}
 use Rattle.explanations.specs.Conflicts.{dynamic_violations, had_members, violated_members}
 use Rattle.explanations.specs.private.Found.{violated_with_roles}
-use Rattle.explanations.proofs.Finds.{find_passes, is_behind, is_here}
+use Rattle.explanations.proofs.Finds.{both_kept, find_passes, is_behind, is_here}
 use Rattle.explanations.proofs.SessionViolations.{dynamic_refusal_of_first}
 use Rattle.explanations.proofs.ViolatedSets.{violated_are}
 
 -- ---- lists
-
--- what passes both tests passes one, and then the other
-both_kept : {X : Type 0} (p q : X → Bool) (xs : List X) → filter (λ x. p x && q x) xs ≡ filter q (filter p xs)
-both_kept p q [] = refl
-both_kept {X} p q (x ∷ xs) = step (p x) (q x) refl (both_kept p q xs)
-  where
-    step : (a b : Bool) → q x ≡ b → filter (λ y. p y && q y) xs ≡ filter q (filter p xs)
-        → cond (a && b) (x ∷ filter (λ y. p y && q y) xs) (filter (λ y. p y && q y) xs) ≡ filter q (cond a (x ∷ filter p xs) (filter p xs))
-    step true true is rest = rw is (ap (λ ys. x ∷ ys) rest)
-    step true false is rest = rw is rest
-    step false b is rest = rest
 
 -- the lists of the items that pass, one after the other
 joined_kept : {X Y Z : Type 0} (f : Y → List Z) (g : X → Y) (p : X → Bool) (xs : List X) → flat_map f (map g (filter p xs)) ≡ flat_map (λ x. cond (p x) (f (g x)) []) xs

@@ -1,7 +1,9 @@
 //! The separation of duty sets that a command would violate by one more role of a user or a session.
-ghost use Rattle.std.specs.Prelude.{◌≡◌, ◌⊎◌, [], ◌∷◌, ◌++◌, None, Some, IfOk, IfErr, slice_get};
+ghost use Rattle.std.specs.Prelude.{◌≡◌, ◌⊎◌, [], ◌∷◌, ◌++◌, None, Some, IsTrue, IfOk, IfErr, slice_get};
+ghost use Rattle.std.specs.List.{list_all};
+ghost use Rattle.std.specs.List.Sorted.{IsStrictlySortedBy};
 ghost use Rattle.std.specs.Option.{option_map};
-ghost use Rattle.rbac_sets.specs.Sets.{pair_cmp};
+ghost use Rattle.rbac_sets.specs.Sets.{Pair, all, contains, name_cmp, pair_cmp};
 ghost use Rattle.rbac_sets.specs.SortedSet.{set_of};
 ghost use Rattle.rbac_sets.specs.declared.command.Command.TheVariants.{AddActiveRole, AssignUser};
 ghost use Rattle.admin_mgr.specs.After.{after};
@@ -10,12 +12,14 @@ ghost use Rattle.admin_mgr.specs.Authorization.{is_authorized};
 ghost use Rattle.admin_mgr.specs.Refusals.{first};
 ghost use Rattle.admin_mgr.specs.Verdict.{add_active_role_refusals, verdict};
 ghost use Rattle.explanations.specs.Conflicts.{activation_refused, assignment_refused, dynamic_violations, static_violations};
-ghost use Rattle.explanations.specs.private.Found.{has_too_many_with, violated_with};
+ghost use Rattle.explanations.specs.private.Found.{violated_with};
+ghost use Rattle.explanations.specs.private.Numbered.{numbered_violated};
 
+use crate::by_number::{has_too_many, numbers_with};
 use admin_mgr::{State, is_reached};
 use chunked_sets::{Run, has_first};
+use order_matrix::{OrderMatrix, number, second_numbers};
 use rbac_sets::{Name, PairSet, Refusal};
-use role_order::RoleOrder;
 use std::alloc::Global;
 
 /// The static separation of duty sets that the user would violate with one more role, in byte order. It is of no
@@ -45,7 +49,7 @@ pub fn violated_by_assignment(
     let held = state.assignments().with_first(user);
     let sets = state.ssd_cardinalities().as_slice();
     state.recall_good();
-    violated_with(alloc, state.order(), &held, role, state.ssd_members(), sets)
+    violated_with(alloc, state, &held, role, state.ssd_members(), sets)
 }
 
 /// The dynamic separation of duty sets that the session would violate with one more role, in byte order. It is of no
@@ -76,7 +80,7 @@ pub fn violated_by_activation(
     let held = state.active().with_first(session);
     let sets = state.dsd_cardinalities().as_slice();
     state.recall_good();
-    violated_with(alloc, state.order(), &held, role, state.dsd_members(), sets)
+    violated_with(alloc, state, &held, role, state.dsd_members(), sets)
 }
 
 // Why there is no answer for the activation of the role in the session.
@@ -112,37 +116,43 @@ pub(crate) fn is_authorized(state: &State, user: &Name, role: &Name) -> bool
 // The sets that a holder of these pairs violates with one more role.
 fn violated_with(
     alloc: Global,
-    order: &RoleOrder,
+    state: &State,
     held: &Run<'_, (Name, Name)>,
     more: &Name,
     members: &PairSet,
     sets: &[(Name, u32)],
 ) -> Result<Vec<Name>, Refusal>
-    ensures ok { IfOk result (λ names. names.items ≡ violated_with order.now.edges held.now more.now (set_of pair_cmp members.now) sets.now) }
+    requires held { IsTrue (list_all (λ (pair : Pair). contains state.now.facts.roles pair.1) held.now) }
+    requires more { IsTrue (contains state.now.facts.roles more.now) }
+    requires members { IsTrue (all (λ (pair : Pair). contains state.now.facts.roles pair.1) (set_of pair_cmp members.now)) }
+    ensures ok { IfOk result (λ names. names.items ≡ violated_with state.now.facts.edges held.now more.now (set_of pair_cmp members.now) sets.now) }
+    ensures cause { IfErr result (λ refusal. refusal ≡ Refusal.Memory) }
+{
+    let roles = state.roles().as_slice();
+    let table = OrderMatrix::new(alloc, state.order(), roles)?;
+    let numbers = numbers_with(alloc, roles, held, number(roles, more))?;
+    numbered_violated(alloc, &table, roles, &numbers, members, sets)
+}
+
+// The sets that a holder of the roles with these numbers violates.
+fn numbered_violated(
+    alloc: Global,
+    table: &OrderMatrix<'_>,
+    roles: &[Name],
+    held: &[usize],
+    members: &PairSet,
+    sets: &[(Name, u32)],
+) -> Result<Vec<Name>, Refusal>
+    requires { IsStrictlySortedBy name_cmp roles.now }
+    ensures ok { IfOk result (λ names. names.items ≡ numbered_violated table.now roles.now held.now (set_of pair_cmp members.now) sets.now) }
     ensures cause { IfErr result (λ refusal. refusal ≡ Refusal.Memory) }
 {
     let mut names = Vec::new(alloc);
     for set in sets {
-        if has_too_many_with(order, held, more, members.with_first(&set.0), set.1) {
+        let members = second_numbers(alloc, roles, &Run::of(members.with_first(&set.0)))?;
+        if has_too_many(table, held, &members, set.1) {
             names.push(set.0.copy(alloc)?)?;
         }
     }
     Ok(names)
-}
-
-// Whether a holder of these pairs has no fewer of the members than the cardinality with one more role.
-pub(crate) fn has_too_many_with(
-    order: &RoleOrder,
-    held: &Run<'_, (Name, Name)>,
-    more: &Name,
-    members: &[(Name, Name)],
-    cardinality: u32,
-) -> bool
-    ensures { result ≡ has_too_many_with order.now.edges held.now more.now members.now cardinality }
-{
-    members
-        .iter()
-        .filter(|member| is_reached(order, held, &member.1) || order.geq(more, &member.1))
-        .count()
-        >= cardinality as usize
 }

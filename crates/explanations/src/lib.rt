@@ -30,6 +30,7 @@ pub use inheritance::{violated_by_inheritance, violated_in_sessions};
 pub use session_access::{SessionReason, explain_session_access};
 pub use user_access::{UserReason, explain_user_access};
 
+mod by_number;
 pub mod conflicts;
 pub mod creation;
 pub mod inheritance;

@@ -8,7 +8,7 @@ ghost use Rattle.rbac_sets.specs.Sets.{same_name};
 
 use crate::borrowed_name::BorrowedName;
 use crate::refusal::Refusal;
-use short_text::ShortText;
+use short_text::{ShortText, Spare};
 use std::alloc::Global;
 use std::cmp::Ordering;
 use std::marker::Model;
@@ -89,6 +89,17 @@ impl Name {
     {
         let text = self.text.copy(alloc)?;
         Ok(Name { text })
+    }
+
+    /// A copy of the name. That of a name of more than 22 bytes is in the memory of `spare`.
+    ///
+    /// It doesn't allocate and can't fail.
+    pub fn copy_into(&self, spare: Spare) -> Name
+        ensures { result ≡ self.now }
+    {
+        Name {
+            text: self.text.copy_into(spare),
+        }
     }
 
     /// A number below `FINGERPRINTS`, computed from the name's first eight bytes. Equal names have the

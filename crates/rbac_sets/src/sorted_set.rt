@@ -178,6 +178,15 @@ impl<K: Entry> SortedSet<K> {
         &self.entries
     }
 
+    /// The entries in their order, without the set around them. It doesn't allocate.
+    pub fn into_entries(self) -> Vec<K>
+        ensures entries { result.items ≡ members (set_of K.cmp self) }
+        ensures sorted { IsStrictlySortedBy K.cmp result.items }
+    {
+        let SortedSet { entries } = self;
+        entries
+    }
+
     /// The entries one by one, in their order.
     pub fn iter(&self) -> Iter<'_, K>
         ensures { iter_rest result ≡ members (set_of K.cmp self.now) }

@@ -1,23 +1,10 @@
 -- The bits of two words.
-use Rattle.std.proofs.Common.{◌≡◌, ℕ, zero, suc, ◌<◌, ◌≤◌, ◌||◌, refl, sym, ◌∙◌, ap, arith}
-use Rattle.std.specs.Prelude.{Option, None, Some, IfNone, nat_eq, min, max}
+use Rattle.std.proofs.Common.{◌≡◌, ℕ, ◌<◌, ◌≤◌, sym, ◌∙◌, arith}
+use Rattle.std.specs.Prelude.{Option, None, Some, IfNone, min}
 use Rattle.std.specs.Int.{bit_at}
-use Rattle.std.specs.Int.Bits.{bit_and, bit_or}
-use Rattle.std.proofs.lemmas.Nat.Bits.{bit_at_and, bit_at_or, bit_at-lt}
-use Rattle.bit_rows.specs.Rows.{HaveCommon, word_has}
-
-either_bit : (x y : ℕ) → x < 2 → y < 2 → nat_eq (max x y) 1 ≡ (nat_eq x 1 || nat_eq y 1)
-either_bit zero zero lx ly = refl
-either_bit zero (suc zero) lx ly = refl
-either_bit (suc zero) zero lx ly = refl
-either_bit (suc zero) (suc zero) lx ly = refl
-either_bit (suc (suc x)) y lx ly = absurd (omega (arith, lx))
-either_bit zero (suc (suc y)) lx ly = absurd (omega (arith, ly))
-either_bit (suc zero) (suc (suc y)) lx ly = absurd (omega (arith, ly))
-
--- a bit of the union is one of either word
-pub bit_of_union : (a b i : ℕ) → word_has (bit_or a b) i ≡ (word_has a i || word_has b i)
-bit_of_union a b i = ap (λ n. nat_eq n 1) (bit_at_or a b i) ∙ either_bit (bit_at a i) (bit_at b i) (bit_at-lt a i) (bit_at-lt b i)
+use Rattle.std.specs.Int.Bits.{bit_and}
+use Rattle.std.proofs.lemmas.Nat.Bits.{bit_at_and, bit_at-lt}
+use Rattle.bit_rows.specs.Rows.{HaveCommon}
 
 both : (x y : ℕ) → x < 2 → y < 2 → min x y ≡ 1 → (x ≡ 1) × (y ≡ 1)
 both x y lx ly e = (omega (arith, lx, ly, e), omega (arith, lx, ly, e))

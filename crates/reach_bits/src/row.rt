@@ -2,7 +2,8 @@
 ghost use Rattle.std.specs.Prelude.{◌≡◌, ◌≢◌, ◌↔◌, ◌*◌, ◌<◌, ◌≤◌, ◌||◌, ℕ, IsTrue, false, length, [], IfSome, IfNone, IfOk};
 ghost use Rattle.bit_rows.specs.Rows.{has_bit};
 
-use crate::words;
+use crate::words::{clear, common};
+use bit_rows::words;
 use std::alloc::{AllocError, Global};
 use std::marker::Model;
 
@@ -85,7 +86,7 @@ impl Row {
         ensures some { IfSome result (λ n. (n < 64 * length self.now) × IsTrue (has_bit self.now n) × IsTrue (has_bit other.now n)) }
         ensures none { IfNone result ((n : ℕ) → IsTrue (has_bit self.now n) → has_bit other.now n ≡ false) }
     {
-        words::common(&self.words, &other.words)
+        common(&self.words, &other.words)
     }
 
     // Puts the number into the set, if it isn't there.
@@ -113,7 +114,7 @@ impl Row {
         ensures empty { (n : ℕ) → has_bit self.new n ≡ false }
         ensures words { length self.new ≡ length self.old }
     {
-        words::clear(&mut self.words);
+        clear(&mut self.words);
     }
 
     // Puts the numbers of the other set into this one.

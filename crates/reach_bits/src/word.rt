@@ -1,16 +1,9 @@
 //! Two words at once.
-ghost use Rattle.std.specs.Prelude.{◌≡◌, ◌<◌, ◌||◌, ℕ, IfSome, IfNone};
+ghost use Rattle.std.specs.Prelude.{◌≡◌, ◌<◌, ℕ, IfSome, IfNone};
 ghost use Rattle.std.specs.Int.{bit_at};
-ghost use Rattle.bit_rows.specs.Rows.{HaveCommon, word_has};
+ghost use Rattle.bit_rows.specs.Rows.{HaveCommon};
 
 use bit_rows::word;
-
-// The numbers of both words.
-pub(crate) fn union(a: u64, b: u64) -> u64
-    ensures { (i : ℕ) → word_has result i ≡ (word_has a i || word_has b i) }
-{
-    a | b
-}
 
 // The least number that both words have, or `None` if there is none.
 pub(crate) fn first_common(a: u64, b: u64) -> Option<u32>

@@ -1,18 +1,16 @@
 -- Roles with their juniors, collected as a sorted list.
-use Rattle.std.proofs.Common.{◌≡◌, ℕ, ◌+◌, ◌<◌, ◌≤◌, inl, inr, Bool, ◌||◌, ◌≢◌, ◌↔◌, List, [], ◌∷◌, ◌++◌, length, take, get_or, refl, sym, ◌∙◌, ap, subst}
+use Rattle.std.proofs.Common.{◌≡◌, inl, inr, Bool, ◌||◌, ◌≢◌, ◌↔◌, List, [], ◌∷◌, ◌++◌, refl, sym, ◌∙◌, ap, subst}
 use Rattle.std.specs.Prelude.{IsTrue, Result, Ok, Err, IfOk}
 use Rattle.std.specs.List.{list_any}
 use Rattle.std.specs.List.Sorted.{IsStrictlySortedBy}
-use Rattle.std.proofs.lemmas.List.{take_more}
 use Rattle.std.proofs.Math.Bool.{or_assoc}
 use Rattle.std.proofs.lemmas.Bool.{and_parts, and_from, or_cases, or_left, or_right}
 use Rattle.std.specs.Cmp.{both_ways}
 use Rattle.rbac_sets.specs.Sets.{Bytes, Names, Pair, Pairs, name_cmp, same_name, contains, from_list, insert, members, retain, any}
 use Rattle.rbac_sets.specs.NameOrder.{name_total, name_exact, pair_total, pair_exact}
-use Rattle.rbac_sets.proofs.SetLaws.{any-Decides, contains-empty, contains-insert, contains-retain, or_turned, same_members, tie_Decides}
+use Rattle.rbac_sets.proofs.SetLaws.{any-Decides, contains-empty, contains-insert, contains-retain, from_list_push, from_members, or_turned, same_members, tie_Decides}
 use Rattle.rbac_sets.proofs.Members.{members-retain}
 use Rattle.rbac_sets.proofs.InOrder.{members-sorted}
-use Rattle.rbac_sets.proofs.Runs.{take_whole}
 use Rattle.rbac_sets.proofs.Lists.{any-push}
 use Rattle.role_order.specs.Order.{Geq, here, step, geq, IsClosure}
 use Rattle.role_order.proofs.Deciding.{geq-Decides, below-are}
@@ -23,12 +21,6 @@ use Rattle.admin_mgr.specs.Good.{IsGood, IsWellFormed}
 use Rattle.admin_mgr.specs.private.HolderRoles.{run_of, is_reached}
 use Rattle.admin_mgr.proofs.Verdicts.AuthorizationLaws.{authorized_reached, session_reached}
 
--- ---- a loop over a list
-
--- whether some of the first items of a list pass a test, with one more item
-any-more : {A : Type 0} (p : A → Bool) (xs : List A) (i : ℕ) (x : A) → i < length xs → x ≡ get_or xs i x → list_any p (take (i + 1) xs) ≡ (p x || list_any p (take i xs))
-any-more p xs i x within is = ap (list_any p) (take_more xs i x within ∙ ap (λ y. take i xs ++ y ∷ []) (sym is)) ∙ any-push p (take i xs) x
-
 -- ---- the second names of the pairs of a list are added to those that are there
 
 -- the list has, in order, what was there and the second names of the pairs
@@ -37,23 +29,23 @@ pub record Joins (start entries : List Bytes) (items : List Pair) : Type 0 where
   pub all : (q : Bytes) → contains (from_list {R = name_cmp} entries) q ≡ (list_any (λ (pair : Pair). same_name q pair.1) items || contains (from_list {R = name_cmp} start) q)
 
 -- before the first pair it is what was there
-pub joins_start : (start : List Bytes) (items : List Pair) → IsStrictlySortedBy name_cmp start → Joins start start (take 0 items)
-joins_start start items sorted = record { sorted = sorted; all = λ q. refl }
+pub joins_start : (start : List Bytes) → IsStrictlySortedBy name_cmp start → Joins start start []
+joins_start start sorted = record { sorted = sorted; all = λ q. refl }
 
 -- with the second name of the next pair inserted, it has those of one more pair
-pub joins_put : (start entries more : List Bytes) (items : List Pair) (i : ℕ) (x : Pair) → i < length items → x ≡ get_or items i x → Joins start entries (take i items)
-    → IsStrictlySortedBy name_cmp more → from_list {R = name_cmp} more ≡ insert (from_list {R = name_cmp} entries) x.1 → Joins start more (take (i + 1) items)
-joins_put start entries more items i x within is old sorted put = record {
+pub joins_put : (start entries more : List Bytes) (done : List Pair) (x : Pair) → Joins start entries done
+    → IsStrictlySortedBy name_cmp more → from_list {R = name_cmp} more ≡ insert (from_list {R = name_cmp} entries) x.1 → Joins start more (done ++ x ∷ [])
+joins_put start entries more done x old sorted put = record {
   sorted = sorted;
   all = λ q. ap (λ s. contains s q) put ∙ contains-insert name_total (from_list {R = name_cmp} entries) x.1 q ∙ ap (λ b. same_name q x.1 || b) (old.all q)
       ∙ sym (or_assoc (same_name q x.1) _ _)
-      ∙ ap (λ b. b || contains (from_list {R = name_cmp} start) q) (sym (any-more (λ (pair : Pair). same_name q pair.1) items i x within is));
+      ∙ ap (λ b. b || contains (from_list {R = name_cmp} start) q) (sym (any-push (λ (pair : Pair). same_name q pair.1) done x));
 }
 
 -- ---- a role and its juniors
 
 -- the role, and its seniors
-pub above-are : (edges : Pairs) (above : Names) (role : Bytes) → ((p : Bytes) → IsTrue (contains above p) ↔ ((p ≢ role) × Geq edges p role))
+above-are : (edges : Pairs) (above : Names) (role : Bytes) → ((p : Bytes) → IsTrue (contains above p) ↔ ((p ≢ role) × Geq edges p role))
     → (p : Bytes) → (same_name p role || contains above p) ≡ geq edges p role
 above-are edges above role are p = both_ways _ _
     (λ h. (geq-Decides edges p role).1 (elim (or_cases (same_name p role) _ h) [
@@ -65,14 +57,21 @@ above-are edges above role are p = both_ways _ _
       | inr other ↦ or_right _ _ ((are p).1 (other, (geq-Decides edges p role).0 h))
     ])
 
+-- and so in a list of both
+pub above-listed : (edges : Pairs) (above : Names) (role : Bytes) (names : List Bytes) → names ≡ members above ++ role ∷ [] → ((p : Bytes) → IsTrue (contains above p) ↔ ((p ≢ role) × Geq edges p role))
+    → (p : Bytes) → contains (from_list {R = name_cmp} names) p ≡ geq edges p role
+above-listed edges above role names is are p =
+    ap (λ s. contains s p) (ap (from_list {R = name_cmp}) is ∙ from_list_push name_total name_exact (members above) role ∙ ap (λ s. insert s role) (from_members name_total name_exact above))
+    ∙ contains-insert name_total above role p ∙ above-are edges above role are p
+
 -- with both inserted, the list has what was there, the role and its juniors
-pub joined-below : (edges pairs : Pairs) → IsClosure edges pairs → (role : Bytes) (before named entries : List Bytes) (items : List Pair) (i : ℕ)
-    → from_list {R = name_cmp} named ≡ insert (from_list {R = name_cmp} before) role → items ≡ run_of pairs role → length items ≤ i → Joins named entries (take i items)
+pub joined-below : (edges pairs : Pairs) → IsClosure edges pairs → (role : Bytes) (before named entries : List Bytes) (items : List Pair)
+    → from_list {R = name_cmp} named ≡ insert (from_list {R = name_cmp} before) role → items ≡ run_of pairs role → Joins named entries items
     → (q : Bytes) → contains (from_list {R = name_cmp} entries) q ≡ (geq edges role q || contains (from_list {R = name_cmp} before) q)
-joined-below edges pairs closed role before named entries items i put run past all q =
+joined-below edges pairs closed role before named entries items put run all q =
     let ends : Pair → Bool = λ pair. same_name q pair.1 in
     all.all q
-    ∙ ap (λ ys. list_any ends ys || contains (from_list {R = name_cmp} named) q) (take_whole i items past ∙ run)
+    ∙ ap (λ ys. list_any ends ys || contains (from_list {R = name_cmp} named) q) run
     ∙ ap (λ b. list_any ends (run_of pairs role) || b) (ap (λ s. contains s q) put ∙ contains-insert name_total (from_list {R = name_cmp} before) role q)
     ∙ or_turned (list_any ends (run_of pairs role)) (same_name q role) (contains (from_list {R = name_cmp} before) q)
     ∙ sym (or_assoc (same_name q role) _ _) ∙ ap (λ b. b || contains (from_list {R = name_cmp} before) q) (below-are edges pairs closed role q)

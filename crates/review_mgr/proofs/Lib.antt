@@ -1,5 +1,6 @@
 pub mod AccessByRuns
 pub mod Below
+pub mod ByRole
 pub mod Columns
 pub mod Counts
 pub mod Gathering

@@ -1,17 +1,17 @@
 //! Lists in byte order, collected from the sets of a state.
-ghost use Rattle.std.specs.Prelude.{◌≡◌, ◌||◌, Bool, IfOk, IfErr, OnOk};
+ghost use Rattle.std.specs.Prelude.{◌≡◌, ◌||◌, ◌++◌, Bool, IfOk, IfErr, OnOk, map};
 ghost use Rattle.std.specs.FinSet.{FinSet};
 ghost use Rattle.std.specs.Fn.{FnReturnsAt};
 ghost use Rattle.std.specs.List.Sorted.{IsStrictlySortedBy};
-ghost use Rattle.rbac_sets.specs.Sets.{Bytes, Cardinality, Pair, Triple, cardinality_cmp, contains, firsts, from_list, image, insert, members, name_cmp, pair_cmp, retain, same_name, seconds, triple_cmp};
+ghost use Rattle.rbac_sets.specs.Sets.{Bytes, Cardinality, Pair, Triple, cardinality_cmp, contains, from_list, image, insert, members, name_cmp, pair_cmp, retain, same_name, seconds, triple_cmp};
 ghost use Rattle.rbac_sets.specs.SortedSet.{set_of};
 ghost use Rattle.role_order.specs.Order.{geq};
 ghost use Rattle.admin_mgr.specs.private.HolderRoles.{is_reached};
-ghost use Rattle.review_mgr.specs.Review.{is_grant_of, permission_of};
+ghost use Rattle.review_mgr.specs.Review.{is_grant_of};
 
 use admin_mgr::is_reached;
-use chunked_sets::{ChunkedGrants, ChunkedPairs, EntrySet, Run};
-use rbac_sets::{CountSet, Entry, Name, Probe, Refusal, is_same, place};
+use chunked_sets::{ChunkedGrants, ChunkedPairs, EntrySet, Run, sorted_once};
+use rbac_sets::{CountSet, Entry, Name, Probe, Refusal, place};
 use role_order::RoleOrder;
 use std::alloc::Global;
 
@@ -85,23 +85,6 @@ fn gather_all<'a, A: Entry, K: Entry, P: Part<K>, F: Fn(&'a A) -> P>(
     gather(alloc, items, |_| true, part)
 }
 
-// The first names of the pairs that have this second name.
-pub(crate) fn firsts_of(
-    alloc: Global,
-    pairs: &ChunkedPairs,
-    second: &Name,
-) -> Result<Vec<Name>, Refusal>
-    ensures ok { IfOk result (λ names. names.items ≡ members (firsts (set_of pair_cmp pairs.now) second.now)) }
-    ensures cause { IfErr result (λ refusal. refusal ≡ Refusal.Memory) }
-{
-    gather(
-        alloc,
-        &pairs.as_run(),
-        |pair| is_same(&pair.1, second),
-        |pair| &pair.0,
-    )
-}
-
 // The second names of the pairs that have this first name.
 pub(crate) fn seconds_of<P: EntrySet<(Name, Name)>>(
     alloc: Global,
@@ -122,24 +105,51 @@ pub(crate) fn names_of(alloc: Global, cardinalities: &CountSet) -> Result<Vec<Na
     gather_all(alloc, &Run::of(cardinalities.as_slice()), |entry| &entry.0)
 }
 
-// The users that are assigned to the role or to a senior of it.
+// Adds the values of `part` at the items, one after the other.
+fn push_parts<'a, A: Entry, K: Entry, P: Part<K>, F: Fn(&'a A) -> P>(
+    alloc: Global,
+    entries: &mut Vec<K>,
+    items: &Run<'a, A>,
+    part: F,
+) -> Result<(), Refusal>
+    requires { F.IsAlwaysCallable part }
+    ensures pushed { OnOk result ((gives : A → K) → ((x : A) (p : P) → FnReturnsAt F.Fn part x p → P.entry p ≡ gives x)
+        → entries.new.items ≡ entries.old.items ++ map gives items.now) }
+    ensures cause { IfErr result (λ refusal. refusal ≡ Refusal.Memory) }
+{
+    for item in items.iter() {
+        entries.push(part(item).to_entry(alloc)?)?;
+    }
+    Ok(())
+}
+
+// The users of the roles, by the pairs (role, user).
+fn users_of(alloc: Global, by_role: &ChunkedPairs, roles: &[Name]) -> Result<Vec<Name>, Refusal>
+    ensures ok { IfOk result (λ names. names.items
+        ≡ members (image {Q = name_cmp} (λ (pair : Pair). pair.1) (retain (set_of pair_cmp by_role.now) (λ pair. contains (from_list {R = name_cmp} roles.now) pair.0)))) }
+    ensures cause { IfErr result (λ refusal. refusal ≡ Refusal.Memory) }
+{
+    let mut users = Vec::new(alloc);
+    for role in roles {
+        push_parts(alloc, &mut users, &by_role.with_first(role), |pair| &pair.1)?;
+    }
+    sorted_once(users)
+}
+
+// The users that are assigned to the role or to a senior of it, by the pairs (role, user).
 pub(crate) fn users_above(
     alloc: Global,
     order: &RoleOrder,
-    assignments: &ChunkedPairs,
+    by_role: &ChunkedPairs,
     role: &Name,
 ) -> Result<Vec<Name>, Refusal>
     ensures ok { IfOk result (λ names. names.items
-        ≡ members (image {Q = name_cmp} (λ (pair : Pair). pair.0) (retain (set_of pair_cmp assignments.now) (λ pair. geq order.now.edges pair.1 role.now)))) }
+        ≡ members (image {Q = name_cmp} (λ (pair : Pair). pair.1) (retain (set_of pair_cmp by_role.now) (λ pair. geq order.now.edges pair.0 role.now)))) }
     ensures cause { IfErr result (λ refusal. refusal ≡ Refusal.Memory) }
 {
-    let above = order.seniors(alloc, role)?;
-    gather(
-        alloc,
-        &assignments.as_run(),
-        |pair| is_same(&pair.1, role) || above.contains(&pair.1),
-        |pair| &pair.0,
-    )
+    let mut roles = order.seniors(alloc, role)?.into_entries();
+    roles.push(role.copy(alloc)?)?;
+    users_of(alloc, by_role, &roles)
 }
 
 // Inserts a role and its juniors at their places in byte order, unless they are there.
@@ -155,7 +165,8 @@ fn put_below(
     ensures cause { IfErr result (λ refusal. refusal ≡ Refusal.Memory) }
 {
     put(alloc, names, role)?;
-    for pair in order.pairs().with_first(role) {
+    let juniors = order.pairs().entries_with_first(role);
+    for pair in juniors.iter() {
         put(alloc, names, &pair.1)?;
     }
     Ok(())
@@ -189,50 +200,57 @@ pub(crate) fn roles_reached(
     Ok(names)
 }
 
-// Whether a name is one of these, which are in byte order.
-fn has_name(names: &[Name], name: &Name) -> bool
-    requires { IsStrictlySortedBy name_cmp names.now }
-    ensures { result ≡ contains (from_list {R = name_cmp} names.now) name.now }
+// The permissions of the roles, by the triples (role, object, operation).
+fn permissions_of(
+    alloc: Global,
+    by_role: &ChunkedGrants,
+    roles: &[Name],
+) -> Result<Vec<(Name, Name)>, Refusal>
+    ensures ok { IfOk result (λ pairs. pairs.items
+        ≡ members (image {Q = pair_cmp} (λ (grant : Triple). (grant.1, grant.2)) (retain (set_of triple_cmp by_role.now) (λ grant. contains (from_list {R = name_cmp} roles.now) grant.0)))) }
+    ensures cause { IfErr result (λ refusal. refusal ≡ Refusal.Memory) }
 {
-    place(names, name).is_ok()
+    let mut permissions = Vec::new(alloc);
+    for role in roles {
+        push_parts(
+            alloc,
+            &mut permissions,
+            &by_role.with_first(role),
+            |grant| (&grant.1, &grant.2),
+        )?;
+    }
+    sorted_once(permissions)
 }
 
-// The permissions that are granted to the role or to a junior of it.
+// The permissions that are granted to the role or to a junior of it, by the triples (role, object, operation).
 pub(crate) fn permissions_below(
     alloc: Global,
     order: &RoleOrder,
-    grants: &ChunkedGrants,
+    by_role: &ChunkedGrants,
     role: &Name,
 ) -> Result<Vec<(Name, Name)>, Refusal>
-    ensures ok { IfOk result (λ pairs. pairs.items ≡ members (image {Q = pair_cmp} permission_of (retain (set_of triple_cmp grants.now) (λ grant. geq order.now.edges role.now grant.2)))) }
+    ensures ok { IfOk result (λ pairs. pairs.items
+        ≡ members (image {Q = pair_cmp} (λ (grant : Triple). (grant.1, grant.2)) (retain (set_of triple_cmp by_role.now) (λ grant. geq order.now.edges role.now grant.0)))) }
     ensures cause { IfErr result (λ refusal. refusal ≡ Refusal.Memory) }
 {
     let roles = roles_below(alloc, order, role)?;
-    gather(
-        alloc,
-        &grants.as_run(),
-        |grant| has_name(&roles, &grant.2),
-        |grant| (&grant.0, &grant.1),
-    )
+    permissions_of(alloc, by_role, &roles)
 }
 
-// The permissions that are granted to the second name of a pair or to a junior of one.
+// The permissions that are granted to the second name of a pair or to a junior of one, by the triples (role, object,
+// operation).
 pub(crate) fn permissions_reached(
     alloc: Global,
     order: &RoleOrder,
-    grants: &ChunkedGrants,
+    by_role: &ChunkedGrants,
     held: &Run<'_, (Name, Name)>,
 ) -> Result<Vec<(Name, Name)>, Refusal>
-    ensures ok { IfOk result (λ pairs. pairs.items ≡ members (image {Q = pair_cmp} permission_of (retain (set_of triple_cmp grants.now) (λ grant. is_reached order.now.edges held.now grant.2)))) }
+    ensures ok { IfOk result (λ pairs. pairs.items
+        ≡ members (image {Q = pair_cmp} (λ (grant : Triple). (grant.1, grant.2)) (retain (set_of triple_cmp by_role.now) (λ grant. is_reached order.now.edges held.now grant.0)))) }
     ensures cause { IfErr result (λ refusal. refusal ≡ Refusal.Memory) }
 {
     let roles = roles_reached(alloc, order, held)?;
-    gather(
-        alloc,
-        &grants.as_run(),
-        |grant| has_name(&roles, &grant.2),
-        |grant| (&grant.0, &grant.1),
-    )
+    permissions_of(alloc, by_role, &roles)
 }
 
 // The operations of the grants of the object to the role or to a junior of it.

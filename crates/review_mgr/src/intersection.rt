@@ -11,8 +11,8 @@ ghost use Rattle.review_mgr.specs.private.Intersection.{may_have, meets, third_c
 
 use crate::fingerprints::{fingerprints_of, may_have};
 use admin_mgr::is_reached;
-use chunked_sets::Run;
-use rbac_sets::{Name, PairSet};
+use chunked_sets::{EntrySet, Run};
+use rbac_sets::Name;
 use role_order::RoleOrder;
 use std::cmp::Ordering;
 
@@ -117,19 +117,35 @@ fn meets(pairs: &[(Name, Name)], grants: &[(Name, Name, Name)], flags: &[bool]) 
     false
 }
 
+// The same for pairs in several parts.
+fn meets_run(run: &Run<'_, (Name, Name)>, grants: &[(Name, Name, Name)], flags: &[bool]) -> bool
+    requires pairs { IsStrictlySortedBy second_cmp run.now }
+    requires grants { IsStrictlySortedBy third_cmp grants.now }
+    requires flags { All (λ (grant : Triple). may_have flags.now grant.2 ≡ true) grants.now }
+    ensures { result ≡ meets run.now grants.now }
+{
+    let mut entries = run.iter();
+    while let Some(part) = entries.next_part() {
+        if meets(part, grants, flags) {
+            return true;
+        }
+    }
+    false
+}
+
 // Whether the role of one of the grants is in the run of the second part of one of `held`.
-fn is_granted_to_junior(
-    pairs: &PairSet,
+fn is_granted_to_junior<P: EntrySet<(Name, Name)>>(
+    pairs: &P,
     held: &[(Name, Name)],
     grants: &[(Name, Name, Name)],
     flags: &[bool],
 ) -> bool
     requires grants { IsStrictlySortedBy third_cmp grants.now }
     requires flags { All (λ (grant : Triple). may_have flags.now grant.2 ≡ true) grants.now }
-    ensures { result ≡ list_any (λ (pair : Pair). meets (run_of (set_of pair_cmp pairs.now) pair.1) grants.now) held.now }
+    ensures { result ≡ list_any (λ (pair : Pair). meets (run_of (set_of pair_cmp (P.stored pairs.now)) pair.1) grants.now) held.now }
 {
     for pair in held {
-        if meets(pairs.with_first(&pair.1), grants, flags) {
+        if meets_run(&pairs.entries_with_first(&pair.1), grants, flags) {
             return true;
         }
     }

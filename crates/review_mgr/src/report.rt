@@ -11,6 +11,7 @@ ghost use Rattle.review_mgr.specs.Report.{column, counts_of, line_of, report};
 ghost use Rattle.review_mgr.specs.Review.{assigned_users};
 
 use admin_mgr::State;
+use chunked_sets::EntrySet;
 use counting::{count_number, count_runs_above, count_runs_below, count_runs_with};
 use numbering::Numbers;
 use order_matrix::number;
@@ -83,7 +84,7 @@ fn count_permitted(state: &State, numbers: &Numbers<'_>, role: &Name) -> u64
 fn count_juniors(state: &State, role: &Name) -> u64
     ensures { result ≡ len (juniors state.now.facts.edges role.now) }
 {
-    state.order().pairs().with_first(role).len() as u64
+    state.order().pairs().entries_with_first(role).len() as u64
 }
 
 // How many seniors the role has. The matrix counts the role itself with them.

@@ -1,16 +1,39 @@
 -- Edges without a cycle, their closure, and how one more edge changes them.
-use Rattle.std.proofs.Common.{◌≡◌, ◌↔◌, ◌⊎◌, inl, inr, List, [], ◌∷◌, refl, sym, ◌∙◌, subst}
+use Rattle.std.proofs.Common.{◌≡◌, ◌⊎◌, inl, inr, List, [], ◌∷◌, refl, sym, ◌∙◌, subst}
 use Rattle.rbac_sets.specs.Sets.{Bytes, Pairs, empty, insert}
-use Rattle.role_order.specs.Order.{HasPair, here, step, Geq, IsAcyclic, IsClosure}
+use Rattle.role_order.specs.Order.{HasPair, Leads, here, step, Geq, IsAcyclic, IsClosure}
 use Rattle.role_order.specs.Laws.{CrossesAt, AddedEdgeCrosses, IsChain, ChainsLead}
-use Rattle.role_order.proofs.Members.{AddsPair, AddsPair-insert, HasPair-none, same_or_other}
-use Rattle.role_order.proofs.Leading.{Leads-from_eq, Leads-trans, Leads-once, Leads-mono, Leads-added}
+use Rattle.role_order.proofs.Members.{AddsPair, AddsPair-insert, HasPair-none}
+use Rattle.role_order.proofs.Leading.{Leads-from_eq, Leads-trans, Leads-once, Leads-mono, Leads-added, first_step}
 
 -- no edge leads back
 pub no_way_back : (edges : Pairs) → IsAcyclic edges → (a b : Bytes) → HasPair edges a b → Geq edges b a → ⊥
 no_way_back edges good a b e back =
     let same : a ≡ b = good.antisymmetric a b (Leads-once e) back in
     good.no_loop a (subst (λ (z : Bytes). HasPair edges a z) (sym same) e)
+
+-- no step leads back, which is to have no cycle
+abbrev pub NoWayBack : (Bytes → Bytes → Type 0) → Type 0
+NoWayBack E = (a b : Bytes) → E a b → Leads E b a → ⊥
+
+pub IsAcyclic-from_steps : (edges : Pairs) → NoWayBack (HasPair edges) → IsAcyclic edges
+IsAcyclic-from_steps edges none = record {
+  no_loop = λ a h. none a a h here;
+  antisymmetric = λ a b l k. elim (first_step (HasPair edges) l) [ inl same ↦ same | inr s ↦ absurd (none a s.0 s.1 (Leads-trans s.2 k)) ];
+}
+
+-- one more step makes no way back if none leads from its end to its start
+pub NoWayBack-added : (E F : Bytes → Bytes → Type 0) (x y : Bytes) → ((a b : Bytes) → F a b → E a b ⊎ ((a ≡ x) × (b ≡ y))) → (Leads E y x → ⊥) → NoWayBack E → NoWayBack F
+NoWayBack-added E F x y only none old a b f way = elim (Leads-added E F x y only way) [
+  | inl l ↦ elim (only a b f) [
+    | inl e ↦ old a b e l
+    | inr at ↦ none (subst (λ (z : Bytes). Leads E z x) at.1 (subst (λ (z : Bytes). Leads E b z) at.0 l))
+  ]
+  | inr ls ↦ elim (only a b f) [
+    | inl e ↦ none (Leads-trans ls.1 (step e ls.0))
+    | inr at ↦ none (subst (λ (z : Bytes). Leads E z x) at.1 ls.0)
+  ]
+]
 
 -- without edges nothing leads anywhere
 pub Geq-none : (a b : Bytes) → Geq empty a b → a ≡ b
@@ -63,13 +86,6 @@ IsAcyclic-subset edges more sub good = record {
   no_loop = λ a h. good.no_loop a (sub a a h);
   antisymmetric = λ a b l k. good.antisymmetric a b (Leads-mono (HasPair edges) (HasPair more) sub l) (Leads-mono (HasPair edges) (HasPair more) sub k);
 }
-
--- the pairs of the closure determine the order
-pub Geq-by_pairs : (edges pairs : Pairs) → IsClosure edges pairs → (a b : Bytes) → Geq edges a b ↔ ((a ≡ b) ⊎ HasPair pairs a b)
-Geq-by_pairs edges pairs closed a b = (
-  λ l. elim (same_or_other a b) [ inl e ↦ inl e | inr n ↦ inr ((closed a b).1 (n, l)) ],
-  λ s. elim s [ inl e ↦ Leads-from_eq e | inr h ↦ ((closed a b).0 h).1 ],
-)
 
 -- ---- chains of names, and the order
 

@@ -1,23 +1,19 @@
 -- Sets that a walk in byte order builds by appending each entry.
-use Rattle.std.proofs.Common.{◌≡◌, ◌≢◌, ◌↔◌, ◌⊎◌, inl, inr, ℕ, ◌+◌, ◌<◌, ◌≤◌, true, List, length, get_or, take, refl, sym, ◌∙◌, ap, subst}
+use Rattle.std.proofs.Common.{◌≡◌, ◌↔◌, ◌⊎◌, inl, inr, ℕ, ◌+◌, ◌<◌, ◌≤◌, true, List, [], length, get_or, take, refl, sym, ◌∙◌, ap, subst, arith}
 use Rattle.std.specs.Prelude.{IsTrue, Contains}
 use Rattle.std.specs.List.Sorted.{IsStrictlySortedBy}
 use Rattle.std.specs.declared.cmp.Ordering.{Ordering}
 use Rattle.std.specs.declared.cmp.Ordering.TheVariants.{Less, Equal, Greater}
-use Rattle.std.specs.Ordering.{ordering_then}
+use Rattle.std.specs.Ordering.{nat_cmp, ordering_then}
 use Rattle.std.specs.Cmp.{tied_itself}
-use Rattle.rbac_sets.specs.Sets.{Bytes, Pair, Names, Pairs, name_cmp, pair_cmp, empty, contains, insert, members, len}
-use Rattle.rbac_sets.specs.NameOrder.{name_total, name_exact, pair_total}
-use Rattle.rbac_sets.proofs.SetLaws.{contains-insert-Decides, members-empty}
-use Rattle.rbac_sets.proofs.Members.{len-members, len-insert-le}
+use Rattle.rbac_sets.specs.Sets.{Bytes, Pair, Cardinality, Names, Pairs, Cardinalities, name_cmp, pair_cmp, cardinality_cmp, empty, contains, insert, members}
+use Rattle.rbac_sets.specs.NameOrder.{name_total, name_exact, cardinality_total, cardinality_exact}
+use Rattle.rbac_sets.proofs.SetLaws.{contains-insert-Decides}
+use Rattle.rbac_sets.proofs.Members.{members-rise}
 use Rattle.role_order.specs.Order.{HasPair}
-use Rattle.role_order.specs.private.Checked.{second_cmp, LeadsOn}
-use Rattle.role_order.proofs.Members.{Contains-take_more, passed_below, pair_parts, AddsPair-insert}
-
-less_before_tie : (o : Ordering) → ordering_then o Equal ≡ Less → o ≡ Less
-less_before_tie Less e = refl
-less_before_tie Equal e = e
-less_before_tie Greater e = e
+use Rattle.role_order.specs.private.Numbered.{HasNumber, IsNumbering}
+use Rattle.role_order.proofs.Members.{Contains-take_more, passed_below, AddsPair-insert, none_in}
+use Rattle.role_order.proofs.Walks.{member_at, taken_member, passed_all}
 
 pair_below : (x y a b : Bytes) → name_cmp x a ≡ Less → pair_cmp (x, y) (a, b) ≡ Less
 pair_below x y a b less = rw less refl
@@ -25,60 +21,67 @@ pair_below x y a b less = rw less refl
 pair_below_second : (x y a b : Bytes) → x ≡ a → name_cmp y b ≡ Less → pair_cmp (x, y) (a, b) ≡ Less
 pair_below_second x y a b same less = rw (same, tied_itself name_total a) less
 
--- ---- the first names of the pairs with one second name
+-- ---- the names of numbers that pass a test
 
-module _ (xs : List Pair) (i : ℕ) (p : Pair) (second : Bytes) (names : Names) (rise : IsStrictlySortedBy pair_cmp xs) (lt : i < length xs) (is : p ≡ get_or xs i p)
-    (so_far : (x : Bytes) → IsTrue (contains names x) ↔ Contains (take i xs) (x, second))
+-- names are those of the list of which P holds
+abbrev pub NamesSoFar : (Bytes → Type 0) → List Cardinality → Names → Type 0
+NamesSoFar P xs names = (x : Bytes) → IsTrue (contains names x) ↔ ((n : ℕ) × Contains xs (x, n) × P x)
+
+less_first : (o rest : Ordering) → ordering_then o rest ≡ Less → (o ≡ Equal → rest ≡ Less → ⊥) → o ≡ Less
+less_first Less rest less apart = refl
+less_first Equal rest less apart = absurd (apart refl less)
+less_first Greater rest less apart = less
+
+module _ (P : Bytes → Type 0) (numbers : Cardinalities) (good : IsNumbering numbers) (xs : List Cardinality) (are : xs ≡ members numbers) (i : ℕ) (e : Cardinality) (names : Names)
+    (lt : i < length xs) (is : e ≡ get_or xs i e) (so_far : NamesSoFar P (take i xs) names)
   where
-    pub first_above : p.1 ≡ second → (x : Bytes) → contains names x ≡ true → name_cmp x p.0 ≡ Less
-    first_above at x h =
-        let less : pair_cmp (x, second) p ≡ Less = passed_below pair_cmp xs i p (x, second) rise lt is ((so_far x).0 h) in
-        let tie : name_cmp second p.1 ≡ Equal = ap (name_cmp second) at ∙ tied_itself name_total second in
-        less_before_tie (name_cmp x p.0) (sym (ap (ordering_then (name_cmp x p.0)) tie) ∙ less)
+    -- no name comes twice, so that they rise
+    pub name_above : (x : Bytes) → contains names x ≡ true → name_cmp x e.0 ≡ Less
+    name_above x h =
+        let at = (so_far x).0 h in
+        let rise : IsStrictlySortedBy cardinality_cmp xs = subst (IsStrictlySortedBy cardinality_cmp) (sym are) (members-rise cardinality_cmp numbers) in
+        let less : cardinality_cmp (x, at.0) e ≡ Less = passed_below cardinality_cmp xs i e (x, at.0) rise lt is at.1 in
+        let before : HasNumber numbers x at.0 = taken_member cardinality_total cardinality_exact numbers xs are i (x, at.0) at.1 in
+        let here : HasNumber numbers e.0 e.1 = member_at cardinality_total cardinality_exact numbers xs are i e lt is in
+        less_first (name_cmp x e.0) (nat_cmp at.0 e.1) less (λ tie _.
+        let same : x ≡ e.0 = name_exact x e.0 tie in
+        let number : at.0 ≡ e.1 = good.one x at.0 e.1 before (subst (λ (y : Bytes). HasNumber numbers y e.1) (sym same) here) in
+        let both : Equal ≡ Less = sym (tied_itself cardinality_total e) ∙ sym (λ k. cardinality_cmp (same k, number k) e) ∙ less in
+        cc)
 
-    pub firsts_more : (names' : Names) → names' ≡ insert names p.0 → p.1 ≡ second → (x : Bytes) → IsTrue (contains names' x) ↔ Contains (take (i + 1) xs) (x, second)
-    firsts_more names' put at x =
-        let more = Contains-take_more xs i p (x, second) lt is in
-        let both = subst (λ (s : Names). (IsTrue (contains s x) → (x ≡ p.0) ⊎ IsTrue (contains names x)) × ((x ≡ p.0) ⊎ IsTrue (contains names x) → IsTrue (contains s x))) (sym put)
-        (contains-insert-Decides name_total name_exact names p.0 x) in (
-          λ h. more.1 (elim (both.0 h) [ inl e ↦ inr ((pair_parts x second p.0 p.1).1 (e, sym at)) | inr o ↦ inl ((so_far x).0 o) ]),
-          λ h. both.1 (elim (more.0 h) [ inl o ↦ inr ((so_far x).1 o) | inr e ↦ inl ((pair_parts x second p.0 p.1).0 e).0 ]),
-        )
-
-    pub firsts_skip : (p.1 ≢ second) → (x : Bytes) → IsTrue (contains names x) ↔ Contains (take (i + 1) xs) (x, second)
-    firsts_skip other x =
-        let more = Contains-take_more xs i p (x, second) lt is in (
-          λ h. more.1 (inl ((so_far x).0 h)),
-          λ h. elim (more.0 h) [ inl o ↦ (so_far x).1 o | inr e ↦ absurd (other (sym ((pair_parts x second p.0 p.1).0 e).1)) ],
-        )
-
--- ---- the second names of a run
-
--- y is the second name of one of them
-abbrev pub HasSecond : List Pair → Bytes → Type 0
-HasSecond xs y = (q : Pair) × Contains xs q × (q.1 ≡ y)
-
-module _ (xs : List Pair) (i : ℕ) (p : Pair) (names : Names) (lt : i < length xs) (is : p ≡ get_or xs i p)
-    (so_far : (y : Bytes) → IsTrue (contains names y) ↔ HasSecond (take i xs) y)
-  where
-    pub second_above : IsStrictlySortedBy second_cmp xs → (y : Bytes) → contains names y ≡ true → name_cmp y p.1 ≡ Less
-    second_above rise y h =
-        let at = (so_far y).0 h in
-        subst (λ (z : Bytes). name_cmp z p.1 ≡ Less) at.2 (passed_below second_cmp xs i p at.0 rise lt is at.1)
-
-    pub seconds_more : (names' : Names) → names' ≡ insert names p.1 → (y : Bytes) → IsTrue (contains names' y) ↔ HasSecond (take (i + 1) xs) y
-    seconds_more names' put y =
-        let both = subst (λ (s : Names). (IsTrue (contains s y) → (y ≡ p.1) ⊎ IsTrue (contains names y)) × ((y ≡ p.1) ⊎ IsTrue (contains names y) → IsTrue (contains s y))) (sym put)
-        (contains-insert-Decides name_total name_exact names p.1 y) in (
+    pub names_more : (names' : Names) → names' ≡ insert names e.0 → P e.0 → NamesSoFar P (take (i + 1) xs) names'
+    names_more names' put holds x =
+        let both = subst (λ (s : Names). (IsTrue (contains s x) → (x ≡ e.0) ⊎ IsTrue (contains names x)) × ((x ≡ e.0) ⊎ IsTrue (contains names x) → IsTrue (contains s x))) (sym put)
+        (contains-insert-Decides name_total name_exact names e.0 x) in (
           λ h. elim (both.0 h) [
-            | inl e ↦ (p, (Contains-take_more xs i p p lt is).1 (inr refl), sym e)
-            | inr o ↦ let at = (so_far y).0 o in (at.0, (Contains-take_more xs i p at.0 lt is).1 (inl at.1), at.2)
+            | inl same ↦ (e.1, (Contains-take_more xs i e (x, e.1) lt is).1 (inr (λ k. (same k, e.1))), subst P (sym same) holds)
+            | inr old ↦ let at = (so_far x).0 old in (at.0, (Contains-take_more xs i e (x, at.0) lt is).1 (inl at.1), at.2)
           ],
-          λ h. both.1 (elim ((Contains-take_more xs i p h.0 lt is).0 h.1) [
-            | inl o ↦ inr ((so_far y).1 (h.0, o, h.2))
-            | inr e ↦ inl (sym h.2 ∙ ap (λ (q : Pair). q.1) e)
+          λ h. both.1 (elim ((Contains-take_more xs i e (x, h.0) lt is).0 h.1) [
+            | inl old ↦ inr ((so_far x).1 (h.0, old, h.2))
+            | inr same ↦ inl (ap (λ (c : Cardinality). c.0) same)
           ]),
         )
+
+    pub names_skip : (P e.0 → ⊥) → NamesSoFar P (take (i + 1) xs) names
+    names_skip fails x = (
+      λ h. (let at = (so_far x).0 h in (at.0, (Contains-take_more xs i e (x, at.0) lt is).1 (inl at.1), at.2)),
+      λ h. elim ((Contains-take_more xs i e (x, h.0) lt is).0 h.1) [
+        | inl old ↦ (so_far x).1 (h.0, old, h.2)
+        | inr same ↦ absurd (fails (subst P (ap (λ (c : Cardinality). c.0) same) h.2))
+      ],
+    )
+
+pub names_none : (P : Bytes → Type 0) (names : Names) → names ≡ empty → NamesSoFar P [] names
+names_none P names none x = (λ h. absurd (none_in names none x h), λ h. absurd (omega (arith, h.1.1)))
+
+-- at the end they are all names with numbers of which P holds
+pub names_done : (P : Bytes → Type 0) (numbers : Cardinalities) (xs : List Cardinality) (i : ℕ) (names : Names) → xs ≡ members numbers → length xs ≤ i
+    → NamesSoFar P (take i xs) names → ((x : Bytes) → P x → (n : ℕ) × HasNumber numbers x n) → (x : Bytes) → IsTrue (contains names x) ↔ P x
+names_done P numbers xs i names are past so_far numbered x = (
+  λ h. ((so_far x).0 h).2,
+  λ p. let n = numbered x p in (so_far x).1 (n.0, (passed_all cardinality_total cardinality_exact numbers xs are i past (x, n.0)).1 n.1, p),
+)
 
 -- ---- a row: the pairs of a and the names of a list of which W does not hold, beside old pairs
 
@@ -124,61 +127,23 @@ module _ (Old : Bytes → Bytes → Type 0) (W : Bytes → Type 0) (a : Bytes) (
           ],
         )
 
--- ---- the rows of a product without the stored pairs
+-- ---- the rows of a product without the pairs of which W holds
 
-abbrev pub RowsSoFar : Pairs → Names → List Bytes → Pairs → Type 0
-RowsSoFar pairs below done puts = (x y : Bytes) → HasPair puts x y ↔ (Contains done x × (IsTrue (contains below y) × (HasPair pairs x y → ⊥)))
+abbrev pub RowsSoFar : (Bytes → Bytes → Type 0) → List Bytes → List Bytes → Pairs → Type 0
+RowsSoFar W below done puts = (x y : Bytes) → HasPair puts x y ↔ (Contains done x × (Contains below y × (W x y → ⊥)))
 
-pub rows_more : (pairs : Pairs) (below : Names) (xs : List Bytes) (i : ℕ) (a : Bytes) (puts puts' : Pairs) → i < length xs → a ≡ get_or xs i a
-    → RowsSoFar pairs below (take i xs) puts
-    → ((x y : Bytes) → HasPair puts' x y ↔ (HasPair puts x y ⊎ ((x ≡ a) × (IsTrue (contains below y) × (HasPair pairs a y → ⊥)))))
-    → RowsSoFar pairs below (take (i + 1) xs) puts'
-rows_more pairs below xs i a puts puts' lt is so_far row x y =
+pub rows_more : (W : Bytes → Bytes → Type 0) (below xs : List Bytes) (i : ℕ) (a : Bytes) (puts puts' : Pairs) → i < length xs → a ≡ get_or xs i a
+    → RowsSoFar W below (take i xs) puts
+    → ((x y : Bytes) → HasPair puts' x y ↔ (HasPair puts x y ⊎ ((x ≡ a) × (Contains below y × (W a y → ⊥)))))
+    → RowsSoFar W below (take (i + 1) xs) puts'
+rows_more W below xs i a puts puts' lt is so_far row x y =
     let more = Contains-take_more xs i a x lt is in (
       λ h. elim ((row x y).0 h) [
         | inl o ↦ let k = (so_far x y).0 o in (more.1 (inl k.0), k.1)
-        | inr k ↦ (more.1 (inr k.0), (k.1.0, λ s. k.1.1 (subst (λ (z : Bytes). HasPair pairs z y) k.0 s)))
+        | inr k ↦ (more.1 (inr k.0), (k.1.0, λ s. k.1.1 (subst (λ (z : Bytes). W z y) k.0 s)))
       ],
       λ h. (row x y).1 (elim (more.0 h.0) [
         | inl o ↦ inl ((so_far x y).1 (o, h.1))
-        | inr e ↦ inr (e, (h.1.0, λ s. h.1.1 (subst (λ (z : Bytes). HasPair pairs z y) (sym e) s)))
+        | inr e ↦ inr (e, (h.1.0, λ s. h.1.1 (subst (λ (z : Bytes). W z y) (sym e) s)))
       ]),
     )
-
--- ---- the edges that lead on
-
-module _ (edges : Pairs) (xs : List Pair) (i : ℕ) (p : Pair) (kept : Pairs) (lt : i < length xs) (is : p ≡ get_or xs i p)
-    (so_far : (x m : Bytes) → HasPair kept x m ↔ (Contains (take i xs) (x, m) × LeadsOn edges m))
-  where
-    pub kept_above : IsStrictlySortedBy pair_cmp xs → (q : Pair) → contains kept q ≡ true → pair_cmp q p ≡ Less
-    kept_above rise q h = passed_below pair_cmp xs i p q rise lt is ((so_far q.0 q.1).0 h).0
-
-    pub kept_more : (kept' : Pairs) → kept' ≡ insert kept p → LeadsOn edges p.1 → (x m : Bytes) → HasPair kept' x m ↔ (Contains (take (i + 1) xs) (x, m) × LeadsOn edges m)
-    kept_more kept' put on x m =
-        let more = Contains-take_more xs i p (x, m) lt is in
-        let adds = subst (λ (s : Pairs). HasPair s x m ↔ (HasPair kept x m ⊎ ((x ≡ p.0) × (m ≡ p.1)))) (sym put) (AddsPair-insert kept p.0 p.1 x m) in (
-          λ h. elim (adds.0 h) [
-            | inl o ↦ let k = (so_far x m).0 o in (more.1 (inl k.0), k.1)
-            | inr e ↦ (more.1 (inr ((pair_parts x m p.0 p.1).1 e)), subst (LeadsOn edges) (sym e.1) on)
-          ],
-          λ h. adds.1 (elim (more.0 h.0) [
-            | inl o ↦ inl ((so_far x m).1 (o, h.1))
-            | inr e ↦ inr ((pair_parts x m p.0 p.1).0 e)
-          ]),
-        )
-
-    pub kept_skip : (LeadsOn edges p.1 → ⊥) → (x m : Bytes) → HasPair kept x m ↔ (Contains (take (i + 1) xs) (x, m) × LeadsOn edges m)
-    kept_skip off x m =
-        let more = Contains-take_more xs i p (x, m) lt is in (
-          λ h. let k = (so_far x m).0 h in (more.1 (inl k.0), k.1),
-          λ h. elim (more.0 h.0) [
-            | inl o ↦ (so_far x m).1 (o, h.1)
-            | inr e ↦ absurd (off (subst (LeadsOn edges) ((pair_parts x m p.0 p.1).0 e).1 h.1))
-          ],
-        )
-
-pub len-put : (kept kept' : Pairs) (p : Pair) → kept' ≡ insert kept p → len kept' ≤ len kept + 1
-len-put kept kept' p put = subst (λ (s : Pairs). len s ≤ len kept + 1) (sym put) (len-insert-le pair_total kept p)
-
-pub len-none : (s : Pairs) → s ≡ empty → len s ≡ 0
-len-none s none = len-members s ∙ ap (λ (t : Pairs). length (members t)) none ∙ ap length (members-empty pair_cmp)

@@ -8,6 +8,4 @@ pub mod Planning
 pub mod Ranking
 pub mod Removing
 pub mod Runs
-pub mod StoredClosure
-pub mod Unions
 pub mod Walks

@@ -5,25 +5,25 @@ use Rattle.std.specs.Bool.{one_answer}
 use Rattle.std.specs.Option.{option_map}
 use Rattle.std.specs.List.{filter, slice_get}
 use Rattle.std.specs.FinMap as finmap
-use Rattle.std.proofs.lemmas.Bool.{and_parts, and_from, true≢false, false_from_ne_true}
+use Rattle.std.proofs.lemmas.Bool.{and_parts, and_from, false_from_ne_true}
 use Rattle.std.proofs.lemmas.Option.{slice_get_within, get_or_from_slice_get, slice_get-get_or}
-use Rattle.std.proofs.lemmas.List.{length-take, get_or-take, get_or-map, map_more}
+use Rattle.std.proofs.lemmas.List.{get_or-map, map_more}
 use Rattle.std.proofs.lemmas.List.Elements.{Contains-get_or}
-use Rattle.rbac_sets.specs.Sets.{Bytes, Pair, Pairs, Cardinality, Cardinalities, cardinality_cmp, empty, contains, insert, remove, len, members, retain, same_name}
-use Rattle.rbac_sets.specs.NameOrder.{name_total, name_exact, pair_total, pair_exact, cardinality_total, cardinality_exact}
+use Rattle.rbac_sets.specs.Sets.{Bytes, Pair, Names, Pairs, Cardinality, Cardinalities, cardinality_cmp, empty, contains, insert, remove, len, members, retain, same_name}
+use Rattle.rbac_sets.specs.NameOrder.{name_total, name_exact, cardinality_total, cardinality_exact}
 use Rattle.rbac_sets.proofs.SetLaws.{tie_Decides, contains-retain, contains-insert-Decides}
 use Rattle.rbac_sets.proofs.Lists.{find_filter}
 use Rattle.rbac_sets.proofs.Members.{members-retain}
-use Rattle.reach_bits.specs.Graph.{Graph, HasEdge, once}
+use Rattle.reach_bits.specs.Graph.{Graph, HasEdge, has_edge, once}
 use Rattle.reach_bits.specs.Graph.{Leads as NumbersLead, step as number_step}
 use Rattle.reach_bits.proofs.RowLaws.{has_row}
-use Rattle.role_order.specs.Order.{HasPair, Leads, Geq, here, step, geq, IsAcyclic}
+use Rattle.role_order.specs.Order.{HasPair, Leads, Geq, here, step, geq, IsAcyclic, IsClosure}
 use Rattle.role_order.specs.Planned.{Plan, Fits, changed}
 use Rattle.role_order.specs.NumberedEdges.{NumberedEdges}
-use Rattle.role_order.specs.private.Numbered.{HasNumber, number_of, IsNumbering, AreNamed, HasNamedEdge, AreEdgesOf}
+use Rattle.role_order.specs.private.Numbered.{HasNumber, number_of, IsNumbering, AreNumbered, HasNamedEdge, AreEdgesOf}
 use Rattle.role_order.proofs.Members.{AddsPair-insert, TakesPair-remove, Contains-members, Contains-take_more, none_in, pair_parts, same_or_other}
 use Rattle.role_order.proofs.Leading.{Leads-from_eq, Leads-once, Leads-mono, first_step, last_step}
-use Rattle.role_order.proofs.Closing.{no_way_back}
+use Rattle.role_order.proofs.Closing.{NoWayBack, IsAcyclic-from_steps, no_way_back}
 use Rattle.role_order.proofs.Deciding.{geq-Decides}
 use Rattle.role_order.proofs.Planning.{changed-adds}
 
@@ -46,20 +46,33 @@ module _ (edges : NumberedEdges) (good : IsNumbering edges.numbers) where
       ]
 
   -- and one between numbers is one between their names
-  pub names_lead : AreNamed edges.numbers edges.graph → {i j : ℕ} → NumbersLead (HasEdge edges.graph) i j → (a b : Bytes) → HasNumber edges.numbers a i → HasNumber edges.numbers b j
+  pub names_lead : AreNumbered edges.numbers edges.graph → {i j : ℕ} → NumbersLead (HasEdge edges.graph) i j → (a b : Bytes) → HasNumber edges.numbers a i → HasNumber edges.numbers b j
       → Leads (HasNamedEdge edges) a b
   names_lead named {i} {j} (once e) a b at to = Leads-once (i, j, at, to, e)
   names_lead named {i} {j} (number_step {b = k} e rest) a b at to =
       let ends = named i k e in
       step (i, k, at, ends.3, e) (names_lead named rest ends.1 b ends.3 to)
 
--- only a name with a number begins a way to another name
-pub begins_numbered : (edges : NumberedEdges) (a b : Bytes) → Leads (HasNamedEdge edges) a b → a ≢ b → ((n : ℕ) → HasNumber edges.numbers a n → ⊥) → ⊥
-begins_numbered edges a b way other none = elim (first_step (HasNamedEdge edges) way) [ inl same ↦ other same | inr s ↦ none s.1.0 s.1.2 ]
+  -- between two names there is one exactly if there is one between their numbers, since no number leads to itself
+  pub lead_apart : AreNumbered edges.numbers edges.graph → ((n : ℕ) → NumbersLead (HasEdge edges.graph) n n → ⊥) → (a b : Bytes) (i j : ℕ) → HasNumber edges.numbers a i → HasNumber edges.numbers b j
+      → NumbersLead (HasEdge edges.graph) i j ↔ ((a ≢ b) × Leads (HasNamedEdge edges) a b)
+  lead_apart named round a b i j from to = (
+    λ l. (
+      λ same.
+          let number : j ≡ i = good.one b j i to (subst (λ (x : Bytes). HasNumber edges.numbers x i) same from) in
+          round i (subst (λ (n : ℕ). NumbersLead (HasEdge edges.graph) i n) number l),
+      names_lead named l a b from to,
+    ),
+    λ way. elim (numbers_lead way.1 i j from to) [ inl same ↦ absurd (way.0 same) | inr numbers ↦ numbers ],
+  )
 
--- or ends one
-pub ends_numbered : (edges : NumberedEdges) (a b : Bytes) → Leads (HasNamedEdge edges) a b → a ≢ b → ((n : ℕ) → HasNumber edges.numbers b n → ⊥) → ⊥
-ends_numbered edges a b way other none = elim (last_step (HasNamedEdge edges) way) [ inl same ↦ other same | inr s ↦ none s.1.1 s.1.3 ]
+-- a name that begins a way to another name has a number
+pub begin_number : (edges : NumberedEdges) (a b : Bytes) → (a ≢ b) × Leads (HasNamedEdge edges) a b → (n : ℕ) × HasNumber edges.numbers a n
+begin_number edges a b way = elim (first_step (HasNamedEdge edges) way.1) [ inl same ↦ absurd (way.0 same) | inr s ↦ (s.1.0, s.1.2) ]
+
+-- and so has one that ends one
+pub end_number : (edges : NumberedEdges) (a b : Bytes) → (a ≢ b) × Leads (HasNamedEdge edges) a b → (n : ℕ) × HasNumber edges.numbers b n
+end_number edges a b way = elim (last_step (HasNamedEdge edges) way.1) [ inl same ↦ absurd (way.0 same) | inr s ↦ (s.1.1, s.1.3) ]
 
 -- ---- a search for a number
 
@@ -139,8 +152,12 @@ numbers_more numbers names i name old new o within is told before put =
 -- ---- a number more
 
 -- what is kept of numbered edges
-abbrev pub AreNumbered : Cardinalities → Graph → Type 0
-AreNumbered numbers graph = IsNumbering numbers × AreNamed numbers graph × (len numbers ≤ length graph) × (length graph ≤ 8192)
+abbrev pub IsKept : Cardinalities → Graph → Type 0
+IsKept numbers graph = IsNumbering numbers × AreNumbered numbers graph × (len numbers ≤ length graph) × (length graph ≤ 8192)
+
+-- numbers have rows
+pub number_within : (numbers : Cardinalities) (graph : Graph) → IsKept numbers graph → (a : Bytes) (n : ℕ) → HasNumber numbers a n → n < length graph
+number_within numbers graph kept a n has = omega (arith, kept.0.below a n has, kept.2)
 
 no_edge_in : (graph : Graph) → graph ≡ [] → (i j : ℕ) → HasEdge graph i j → ⊥
 no_edge_in graph none i j h = let size : length graph ≡ 0 = ap length none in absurd (omega (arith, size, has_row graph i j h))
@@ -149,7 +166,7 @@ len_none : (numbers : Cardinalities) → numbers ≡ empty → len numbers ≡ 0
 unfolding len empty
 len_none numbers none = ap finmap.len none ∙ finmap.len-empty cardinality_cmp (Unit {0})
 
-pub numbered_none : (numbers : Cardinalities) (graph : Graph) → numbers ≡ empty → graph ≡ [] → AreNumbered numbers graph
+pub numbered_none : (numbers : Cardinalities) (graph : Graph) → numbers ≡ empty → graph ≡ [] → IsKept numbers graph
 numbered_none numbers graph none nothing =
     let size : length graph ≡ 0 = ap length nothing in (
       record {
@@ -220,16 +237,33 @@ module _ (numbers more : Cardinalities) (name : Bytes) (n : ℕ) (good : IsNumbe
   numbering_more = record { one = one_more; apart = apart_more; below = below_more }
 
   -- the edges are named as before
-  pub named_more : (graph : Graph) → AreNamed numbers graph → AreNamed more graph
+  pub named_more : (graph : Graph) → AreNumbered numbers graph → AreNumbered more graph
   named_more graph named i j e = let ends = named i j e in (ends.0, ends.1, number_stays ends.0 i ends.2, number_stays ends.1 j ends.3)
 
-  pub numbered_more : (graph : Graph) → AreNumbered numbers graph → len numbers < length graph → AreNumbered more graph
+  pub numbered_more : (graph : Graph) → IsKept numbers graph → len numbers < length graph → IsKept more graph
   numbered_more graph old room = (numbering_more, named_more graph old.1, omega (arith, len_more, room), old.3)
+
+-- ---- a copy
+
+module _ (numbers numbers' : Cardinalities) (graph graph' : Graph) (same : numbers' ≡ numbers) (edges : (i j : ℕ) → has_edge graph' i j ≡ has_edge graph i j) where
+  pub copy_kept : length graph' ≡ length graph → IsKept numbers graph → IsKept numbers' graph'
+  copy_kept size kept = subst (λ (s : Cardinalities). IsKept s graph') (sym same) (
+    kept.0,
+    λ i j e. kept.1 i j (sym (edges i j) ∙ e),
+    omega (arith, kept.2, size),
+    omega (arith, kept.3, size),
+  )
+
+  pub copy_named : (a b : Bytes) → NamedEdge numbers' graph' a b ↔ NamedEdge numbers graph a b
+  copy_named a b = subst (λ (s : Cardinalities). NamedEdge s graph' a b ↔ NamedEdge numbers graph a b) (sym same) (
+    λ e. (e.0, e.1, e.2, e.3, sym (edges e.0 e.1) ∙ e.4),
+    λ e. (e.0, e.1, e.2, e.3, edges e.0 e.1 ∙ e.4),
+  )
 
 -- ---- the edges between names
 
 -- more numbers name no more edges
-pub same_named : (numbers more : Cardinalities) (graph : Graph) → IsNumbering more → ((a : Bytes) (n : ℕ) → HasNumber numbers a n → HasNumber more a n) → AreNamed numbers graph
+pub same_named : (numbers more : Cardinalities) (graph : Graph) → IsNumbering more → ((a : Bytes) (n : ℕ) → HasNumber numbers a n → HasNumber more a n) → AreNumbered numbers graph
     → (a b : Bytes) → NamedEdge more graph a b ↔ NamedEdge numbers graph a b
 same_named numbers more graph good stays named a b = (
   λ e.
@@ -260,7 +294,7 @@ module _ (numbers : Cardinalities) (graph graph' : Graph) (asc desc : Bytes) (i 
     ],
   )
 
-  pub still_named : ((x y : ℕ) → HasEdge graph' x y ↔ (HasEdge graph x y ⊎ ((x ≡ i) × (y ≡ j)))) → AreNamed numbers graph → AreNamed numbers graph'
+  pub still_named : ((x y : ℕ) → HasEdge graph' x y ↔ (HasEdge graph x y ⊎ ((x ≡ i) × (y ≡ j)))) → AreNumbered numbers graph → AreNumbered numbers graph'
   still_named added named x y e = elim ((added x y).0 e) [
     | inl old ↦ named x y old
     | inr new ↦ (asc, desc, subst (λ (n : ℕ). HasNumber numbers asc n) (sym new.0) from, subst (λ (n : ℕ). HasNumber numbers desc n) (sym new.1) to)
@@ -294,7 +328,7 @@ module _ (numbers : Cardinalities) (graph graph' : Graph) (asc desc : Bytes) (i 
   )
 
 -- fewer edges are named
-pub named_fewer : (numbers : Cardinalities) (graph graph' : Graph) → ((x y : ℕ) → HasEdge graph' x y → HasEdge graph x y) → AreNamed numbers graph → AreNamed numbers graph'
+pub named_fewer : (numbers : Cardinalities) (graph graph' : Graph) → ((x y : ℕ) → HasEdge graph' x y → HasEdge graph x y) → AreNumbered numbers graph → AreNumbered numbers graph'
 named_fewer numbers graph graph' fewer named x y e = named x y (fewer x y e)
 
 -- ---- the edges of a set
@@ -306,43 +340,65 @@ AreEdgesOf-lead numbered edges are a b = (
   λ l. Leads-mono (HasPair edges) (HasNamedEdge numbered) (λ x y h. (are x y).1 h) l,
 )
 
--- so a test of them tests the order of two names
-pub AreEdgesOf-tell : (numbered : NumberedEdges) (edges : Pairs) → AreEdgesOf numbered edges → (a b : Bytes) → a ≢ b → (told : Bool)
-    → IsTrue told ↔ ((a ≢ b) × Leads (HasNamedEdge numbered) a b) → IsTrue told ↔ Geq edges a b
-AreEdgesOf-tell numbered edges are a b other told is =
-    let same = AreEdgesOf-lead numbered edges are a b in
-    (λ t. same.0 (is.0 t).1, λ l. is.1 (other, same.1 l))
+-- and have a cycle exactly if those have one
+pub AreEdgesOf-acyclic : (numbered : NumberedEdges) (edges : Pairs) → AreEdgesOf numbered edges → NoWayBack (HasNamedEdge numbered) → IsAcyclic edges
+AreEdgesOf-acyclic numbered edges are none = IsAcyclic-from_steps edges (λ a b h way. none a b ((are a b).1 h) ((AreEdgesOf-lead numbered edges are b a).1 way))
 
-module _ (numbered : NumberedEdges) (edges : Pairs) (are : AreEdgesOf numbered edges) (a b : Bytes) where
+-- pairs are their closure exactly if they are that of the set's edges
+pub AreEdgesOf-closure : (numbered : NumberedEdges) (edges pairs : Pairs) → AreEdgesOf numbered edges
+    → ((a b : Bytes) → HasPair pairs a b ↔ ((a ≢ b) × Leads (HasNamedEdge numbered) a b)) ↔ IsClosure edges pairs
+AreEdgesOf-closure numbered edges pairs are = (
+  λ is a b. (let lead = AreEdgesOf-lead numbered edges are a b in (
+    λ h. (let k = (is a b).0 h in (k.0, lead.0 k.1)),
+    λ k. (is a b).1 (k.0, lead.1 k.1),
+  )),
+  λ closed a b. (let lead = AreEdgesOf-lead numbered edges are a b in (
+    λ h. (let k = (closed a b).0 h in (k.0, lead.1 k.1)),
+    λ k. (closed a b).1 (k.0, lead.0 k.1),
+  )),
+)
+
+-- so what says that they lead from one name to another says it of the edges
+pub apart_are : (numbered : NumberedEdges) (edges : Pairs) → AreEdgesOf numbered edges → (a b : Bytes) (told : Bool)
+    → IsTrue told ↔ ((a ≢ b) × Leads (HasNamedEdge numbered) a b) → IsTrue told ↔ ((a ≢ b) × Geq edges a b)
+apart_are numbered edges are a b told is =
+    let lead = AreEdgesOf-lead numbered edges are a b in
+    (λ t. (let k = is.0 t in (k.0, lead.0 k.1)), λ k. is.1 (k.0, lead.1 k.1))
+
+-- and a test of them tests the order of two names
+pub AreEdgesOf-answer : (numbered : NumberedEdges) (edges : Pairs) → AreEdgesOf numbered edges → (a b : Bytes) (told : Bool) → IsTrue told ↔ Leads (HasNamedEdge numbered) a b → told ≡ geq edges a b
+AreEdgesOf-answer numbered edges are a b told is =
+    let same = AreEdgesOf-lead numbered edges are a b in
+    one_answer told (geq edges a b) (λ t. same.0 (is.0 t), λ l. is.1 (same.1 l)) (geq-Decides edges a b)
+
+-- the names of which a number has none, or has one
+module _ (numbered : NumberedEdges) (a b : Bytes) where
   -- a name without a number leads to itself alone
-  pub tell_same : (told : Bool) → number_of numbered.numbers a ≡ None → IsTrue told ↔ (a ≡ b) → told ≡ geq edges a b
-  tell_same told none is =
-      let lead = AreEdgesOf-lead numbered edges are a b in
-      one_answer told (geq edges a b) (
-        λ t. Leads-from_eq (is.0 t),
-        λ l. is.1 (elim (same_or_other a b) [ inl e ↦ e | inr n ↦ absurd (begins_numbered numbered a b (lead.1 l) n (number_of-none numbered.numbers a none)) ]),
-      ) (geq-Decides edges a b)
+  pub lead_same : number_of numbered.numbers a ≡ None → (a ≡ b) ↔ Leads (HasNamedEdge numbered) a b
+  lead_same none = (
+    λ same. Leads-from_eq same,
+    λ way. elim (same_or_other a b) [
+      | inl same ↦ same
+      | inr other ↦ let begun = begin_number numbered a b (other, way) in absurd (number_of-none numbered.numbers a none begun.0 begun.1)
+    ],
+  )
 
   -- one with a number doesn't lead to one without
-  pub tell_apart : (i : ℕ) → number_of numbered.numbers a ≡ Some i → number_of numbered.numbers b ≡ None → false ≡ geq edges a b
-  tell_apart i some none =
-      let lead = AreEdgesOf-lead numbered edges are a b in
-      let missing = number_of-none numbered.numbers b none in
-      one_answer false (geq edges a b) (
-        λ t. absurd (true≢false (sym t)),
-        λ l. elim (same_or_other a b) [
-          | inl e ↦ absurd (missing i (subst (λ (x : Bytes). HasNumber numbered.numbers x i) e (number_of-some numbered.numbers a i some)))
-          | inr n ↦ absurd (ends_numbered numbered a b (lead.1 l) n missing)
-        ],
-      ) (geq-Decides edges a b)
+  pub lead_none : (i : ℕ) → number_of numbered.numbers a ≡ Some i → number_of numbered.numbers b ≡ None → Leads (HasNamedEdge numbered) a b → ⊥
+  lead_none i some none way = elim (same_or_other a b) [
+    | inl same ↦ number_of-none numbered.numbers b none i (subst (λ (x : Bytes). HasNumber numbered.numbers x i) same (number_of-some numbered.numbers a i some))
+    | inr other ↦ let ended = end_number numbered a b (other, way) in number_of-none numbered.numbers b none ended.0 ended.1
+  ]
 
-  -- numbers lead as their names do
-  pub tell_numbered : (i j : ℕ) (told : Bool) → number_of numbered.numbers a ≡ Some i → number_of numbered.numbers b ≡ Some j
-      → ((x y : Bytes) → HasNumber numbered.numbers x i → HasNumber numbered.numbers y j → IsTrue told ↔ Leads (HasNamedEdge numbered) x y) → told ≡ geq edges a b
-  tell_numbered i j told from to is =
-      let lead = AreEdgesOf-lead numbered edges are a b in
-      let same = is a b (number_of-some numbered.numbers a i from) (number_of-some numbered.numbers b j to) in
-      one_answer told (geq edges a b) (λ t. lead.0 (same.0 t), λ l. same.1 (lead.1 l)) (geq-Decides edges a b)
+-- so the pairs of some names between which they don't lead are those between which the edges don't
+pub missing_are : (numbered : NumberedEdges) (edges : Pairs) (above below : Names) (pairs : Pairs) → AreEdgesOf numbered edges
+    → ((x y : Bytes) → HasPair pairs x y ↔ (IsTrue (contains above x) × (IsTrue (contains below y) × (Leads (HasNamedEdge numbered) x y → ⊥))))
+    → (x y : Bytes) → HasPair pairs x y ↔ (IsTrue (contains above x) × (IsTrue (contains below y) × (Geq edges x y → ⊥)))
+missing_are numbered edges above below pairs are rest x y =
+    let lead = AreEdgesOf-lead numbered edges are x y in (
+      λ h. (let k = (rest x y).0 h in (k.0, (k.1.0, λ l. k.1.1 (lead.1 l)))),
+      λ k. (rest x y).1 (k.0, (k.1.0, λ l. k.1.1 (lead.0 l))),
+    )
 
 -- some of the edges of a set have no way back along another one
 pub no_numbered_way_back : (numbered : NumberedEdges) (edges : Pairs) → ((a b : Bytes) → HasNamedEdge numbered a b → HasPair edges a b) → IsAcyclic edges → (asc desc : Bytes) → HasPair edges asc desc
@@ -355,6 +411,10 @@ no_own_edge edges good asc desc edge same = good.no_loop asc (subst (λ (x : Byt
 -- without edges
 pub AreEdgesOf-none : (numbered : NumberedEdges) (edges : Pairs) → edges ≡ empty → ((a b : Bytes) → HasNamedEdge numbered a b → ⊥) → AreEdgesOf numbered edges
 AreEdgesOf-none numbered edges nothing none a b = (λ e. absurd (none a b e), λ h. absurd (none_in edges nothing (a, b) h))
+
+-- of a copy
+pub AreEdgesOf-copied : (numbered copy : NumberedEdges) (edges : Pairs) → AreEdgesOf numbered edges → ((a b : Bytes) → HasNamedEdge copy a b ↔ HasNamedEdge numbered a b) → AreEdgesOf copy edges
+AreEdgesOf-copied numbered copy edges are same a b = (λ e. (are a b).0 ((same a b).0 e), λ h. (same a b).1 ((are a b).1 h))
 
 -- with the edge that is added
 pub AreEdgesOf-added : (numbered new : NumberedEdges) (old edges : Pairs) (asc desc : Bytes) → AreEdgesOf numbered old
@@ -399,10 +459,3 @@ first_more numbered new xs i p lt is before added a b =
       λ e. both.1 (elim ((added a b).0 e) [ inl k ↦ inl ((before a b).0 k) | inr at ↦ inr (same.1 at) ]),
       λ h. (added a b).1 (elim (both.0 h) [ inl k ↦ inl ((before a b).1 k) | inr at ↦ inr (same.0 at) ]),
     )
-
--- they are edges of the set
-pub taken_in : (edges : Pairs) (xs : List Pair) → xs ≡ members edges → (i : ℕ) (a b : Bytes) → Contains (take i xs) (a, b) → HasPair edges a b
-taken_in edges xs are i a b h =
-    let early : h.0 < length xs = omega (arith, h.1, length-take i xs) in
-    let at : get_or xs h.0 (a, b) ≡ (a, b) = sym (get_or-take i xs h.0 (a, b) (omega (arith, h.1, length-take i xs))) ∙ h.2 in
-    (Contains-members pair_total pair_exact edges (a, b)).0 (subst (λ (ys : List Pair). Contains ys (a, b)) are (h.0, early, at))

@@ -1,16 +1,32 @@
 -- How the order changes with the edges.
-use Rattle.std.proofs.Common.{◌≡◌, ◌↔◌, inl, inr, ℕ, ◌+◌, ◌*◌, true, false, refl, sym, ◌∙◌, ap, subst, arith}
+use Rattle.std.proofs.Common.{◌≡◌, ◌↔◌, inl, inr, ℕ, ◌+◌, ◌*◌, List, true, false, refl, sym, ◌∙◌, ap, subst, arith}
 use Rattle.std.specs.Prelude.{IsTrue}
 use Rattle.std.proofs.lemmas.Bool.{false_from_ne_true}
-use Rattle.rbac_sets.specs.Sets.{Bytes, Names, Pairs, empty, contains, insert, remove, union, difference, len}
+use Rattle.rbac_sets.specs.Sets.{Bytes, Pair, Names, Pairs, empty, contains, insert, remove, union, difference, len, members, from_list}
+use Rattle.rbac_sets.specs.NameOrder.{pair_total, pair_exact}
+use Rattle.rbac_sets.proofs.SetLaws.{from_members}
 use Rattle.role_order.specs.Order.{HasPair, Geq, IsAcyclic, IsClosure, IsGained, seniors, juniors}
 use Rattle.role_order.specs.Laws.{CrossesAt}
 use Rattle.role_order.specs.Planned.{Plan, changed, Fits, pairs_at}
 use Rattle.role_order.proofs.Members.{AddsPair-insert, TakesPair-remove, HasPair-none, HasPair-union, HasPair-difference}
-use Rattle.role_order.proofs.Leading.{Leads-from_eq, Leads-trans, Leads-mono}
+use Rattle.role_order.proofs.Leading.{Leads-from_eq, Leads-mono}
 use Rattle.role_order.proofs.Closing.{crosses, IsAcyclic-added, IsAcyclic-subset}
 use Rattle.role_order.proofs.Deciding.{geq_or_not, not_own_senior, not_own_junior}
 use Rattle.role_order.proofs.Ranking.{len-new}
+
+-- the set of a set's entries is the set
+pub entries_are : (s : Pairs) (entries : List Pair) → entries ≡ members s → from_list entries ≡ s
+entries_are s entries are = ap from_list are ∙ from_members pair_total pair_exact s
+
+pub stored_after :
+    (pairs puts takes merged taken kept : Pairs) (put_entries take_entries : List Pair) (plan : Plan)
+    → put_entries ≡ members puts → take_entries ≡ members takes → puts ≡ plan.puts → takes ≡ plan.takes
+    → merged ≡ union pairs (from_list put_entries) → taken ≡ difference merged (from_list take_entries) → kept ≡ taken
+    → kept ≡ difference (union pairs plan.puts) plan.takes
+stored_after pairs puts takes merged taken kept put_entries take_entries plan puts_are takes_are same_puts same_takes put take keep =
+    let more : merged ≡ union pairs plan.puts = put ∙ ap (union pairs) (entries_are puts put_entries puts_are ∙ same_puts) in
+    let gone : from_list take_entries ≡ plan.takes = entries_are takes take_entries takes_are ∙ same_takes in
+    keep ∙ take ∙ (λ i. difference (more i) (gone i))
 
 -- the stored pairs after a change
 pub IsClosure-after :
@@ -39,24 +55,18 @@ IsClosure-after old new pairs puts takes closed gained lost a b = (
 pub gained_apart : (old new pairs puts : Pairs) → IsClosure old pairs → IsGained old new puts → (x y : Bytes) → HasPair pairs x y → HasPair puts x y → ⊥
 gained_apart old new pairs puts closed gained x y h g = ((gained x y).0 g).1 ((closed x y).0 h).1
 
--- the crossed pairs that were not stored
+-- the crossed pairs between which the old edges don't lead
 pub IsGained-crossed :
-    (old new pairs : Pairs) (asc desc : Bytes) (above below : Names) (puts : Pairs)
-    → CrossesAt old new asc desc → (Geq old desc asc → ⊥) → IsClosure old pairs
+    (old new : Pairs) (asc desc : Bytes) (above below : Names) (puts : Pairs)
+    → CrossesAt old new asc desc
     → ((p : Bytes) → IsTrue (contains above p) ↔ Geq old p asc) → ((q : Bytes) → IsTrue (contains below q) ↔ Geq old desc q)
-    → ((x y : Bytes) → HasPair puts x y ↔ (IsTrue (contains above x) × (IsTrue (contains below y) × (HasPair pairs x y → ⊥))))
+    → ((x y : Bytes) → HasPair puts x y ↔ (IsTrue (contains above x) × (IsTrue (contains below y) × (Geq old x y → ⊥))))
     → IsGained old new puts
-IsGained-crossed old new pairs asc desc above below puts order no_back closed ups downs rest a b = (
-  λ h.
-      let k = (rest a b).0 h in
-      let up = (ups a).0 k.0 in
-      let down = (downs b).0 k.1.0 in (
-        (order a b).1 (inr (up, down)),
-        λ l. k.1.1 ((closed a b).1 ((λ e. no_back (Leads-trans down (Leads-trans (Leads-from_eq (sym e)) up))), l)),
-      ),
+IsGained-crossed old new asc desc above below puts order ups downs rest a b = (
+  λ h. let k = (rest a b).0 h in ((order a b).1 (inr ((ups a).0 k.0, (downs b).0 k.1.0)), k.1.1),
   λ h. elim ((order a b).0 h.0) [
     | inl l ↦ absurd (h.1 l)
-    | inr ls ↦ (rest a b).1 ((ups a).1 ls.0, ((downs b).1 ls.1, λ k. h.1 ((closed a b).0 k).1))
+    | inr ls ↦ (rest a b).1 ((ups a).1 ls.0, ((downs b).1 ls.1, h.1))
   ],
 )
 
@@ -73,18 +83,18 @@ changed-takes edges plan asc desc kind same_asc same_desc = rw (kind, same_asc, 
 
 -- a plan to add an edge that would make no cycle
 pub Fits-added :
-    (old pairs : Pairs) (asc desc : Bytes) (above below : Names) (plan : Plan)
+    (old : Pairs) (asc desc : Bytes) (above below : Names) (plan : Plan)
     → plan.adds ≡ true → plan.asc ≡ asc → plan.desc ≡ desc → plan.takes ≡ empty
-    → (HasPair old asc desc → ⊥) → IsAcyclic old → (Geq old desc asc → ⊥) → IsClosure old pairs
+    → (HasPair old asc desc → ⊥) → IsAcyclic old → (Geq old desc asc → ⊥)
     → ((p : Bytes) → IsTrue (contains above p) ↔ Geq old p asc) → ((q : Bytes) → IsTrue (contains below q) ↔ Geq old desc q)
-    → ((x y : Bytes) → HasPair plan.puts x y ↔ (IsTrue (contains above x) × (IsTrue (contains below y) × (HasPair pairs x y → ⊥))))
+    → ((x y : Bytes) → HasPair plan.puts x y ↔ (IsTrue (contains above x) × (IsTrue (contains below y) × (Geq old x y → ⊥))))
     → Fits old plan
-Fits-added old pairs asc desc above below plan kind same_asc same_desc none absent good no_back closed ups downs rest =
+Fits-added old asc desc above below plan kind same_asc same_desc none absent good no_back ups downs rest =
     let new : Pairs = insert old (asc, desc) in
     let is : changed old plan ≡ new = changed-adds old plan asc desc kind same_asc same_desc in
     let adds = AddsPair-insert old asc desc in
     let acyclic : IsAcyclic new = IsAcyclic-added old new asc desc good no_back adds in
-    let gained : IsGained old new plan.puts = IsGained-crossed old new pairs asc desc above below plan.puts (crosses old new asc desc adds) no_back closed ups downs rest in
+    let gained : IsGained old new plan.puts = IsGained-crossed old new asc desc above below plan.puts (crosses old new asc desc adds) ups downs rest in
     let lost : IsGained new old plan.takes = subst (λ (takes : Pairs). IsGained new old takes) (sym none) (IsGained-none old new (λ a b h. (adds a b).1 (inl h))) in
     record {
       absent = λ _. rw (same_asc, same_desc) (false_from_ne_true (contains old (asc, desc)) absent);

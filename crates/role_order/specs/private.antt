@@ -1,5 +1,4 @@
 -- Definitions that no public contract reaches: whoever calls or audits this crate need not read them.
 pub mod Checked
 pub mod Numbered
-pub mod Removal
 pub mod Runs

@@ -1,12 +1,14 @@
 //! Sets that are built in byte order: each entry is appended.
-ghost use Rattle.std.specs.Prelude.{◌≡◌, ◌↔◌, ◌⊎◌, IsTrue, true, Contains, IfOk, IfErr, OnOk};
+ghost use Rattle.std.specs.Prelude.{◌≡◌, ◌↔◌, ◌⊎◌, IsTrue, true, Contains, IfOk, IfErr, OnOk, map};
+ghost use Rattle.std.specs.List.Sorted.{IsStrictlySortedBy};
 ghost use Rattle.std.specs.declared.cmp.Ordering.TheVariants.{Less};
 ghost use Rattle.rbac_sets.specs.Sets.{Bytes, Pair, name_cmp, pair_cmp, contains, insert};
 ghost use Rattle.rbac_sets.specs.SortedSet.{set_of};
-ghost use Rattle.role_order.specs.Order.{HasPair};
+ghost use Rattle.role_order.specs.Order.{HasPair, Leads};
+ghost use Rattle.role_order.specs.private.Numbered.{HasNamedEdge, number_of};
 
-use crate::comparison::run;
-use rbac_sets::{Entry, Name, NameSet, PairSet, Refusal, SortedSet, is_same};
+use crate::numbered::Numbered;
+use rbac_sets::{Entry, Name, NameSet, PairSet, Refusal, SortedSet};
 use std::alloc::Global;
 
 // Appends an entry that is greater than all that are there.
@@ -20,67 +22,47 @@ pub fn push<K: Entry>(set: &mut SortedSet<K>, entry: K) -> Result<(), Refusal>
     Ok(())
 }
 
-// The names that have a pair with `second`.
-pub fn set_of_firsts(alloc: Global, pairs: &PairSet, second: &Name) -> Result<NameSet, Refusal>
-    ensures names { IfOk result (λ names. (a : Bytes) → IsTrue (contains (set_of name_cmp names) a) ↔ HasPair (set_of pair_cmp pairs.now) a second.now) }
-    ensures cause { IfErr result (λ refusal. refusal ≡ Refusal.Memory) }
-{
-    let mut names = NameSet::new(alloc);
-    for (a, b) in pairs.as_slice() {
-        if is_same(b, second) {
-            push(&mut names, a.copy(alloc)?)?;
-        }
-    }
-    Ok(names)
-}
-
-// The names that `first` has a pair with.
-pub fn set_of_seconds(alloc: Global, pairs: &PairSet, first: &Name) -> Result<NameSet, Refusal>
-    ensures names { IfOk result (λ names. (b : Bytes) → IsTrue (contains (set_of name_cmp names) b) ↔ HasPair (set_of pair_cmp pairs.now) first.now b) }
-    ensures cause { IfErr result (λ refusal. refusal ≡ Refusal.Memory) }
-{
-    let mut names = NameSet::new(alloc);
-    for pair in run(pairs, first) {
-        push(&mut names, pair.1.copy(alloc)?)?;
-    }
-    Ok(names)
-}
-
-// Appends the pairs of `a` and each of `below` that are not stored. Those that are there begin with lesser names.
-fn cross_row(
+// Appends the pairs of `a` and each of `below` to which the edges don't lead from it. Those that are there begin with lesser names.
+fn missing_in_row(
     alloc: Global,
-    pairs: &PairSet,
-    puts: &mut PairSet,
+    numbered: &Numbered,
+    pairs: &mut PairSet,
     a: &Name,
-    below: &NameSet,
+    below: &[Name],
+    numbers: &[Option<usize>],
 ) -> Result<(), Refusal>
-    requires { (p : Pair) → IsTrue (contains (set_of pair_cmp puts.old) p) → name_cmp p.0 a.now ≡ Less }
-    ensures puts { OnOk result ((x y : Bytes) → HasPair (set_of pair_cmp puts.new) x y
-        ↔ (HasPair (set_of pair_cmp puts.old) x y ⊎ ((x ≡ a.now) × (IsTrue (contains (set_of name_cmp below.now) y) × (HasPair (set_of pair_cmp pairs.now) a.now y → ⊥))))) }
+    requires first { (p : Pair) → IsTrue (contains (set_of pair_cmp pairs.old) p) → name_cmp p.0 a.now ≡ Less }
+    requires rising { IsStrictlySortedBy name_cmp below.now }
+    requires numbers { numbers.now ≡ map (number_of numbered.now.numbers) below.now }
+    ensures pairs { OnOk result ((x y : Bytes) → HasPair (set_of pair_cmp pairs.new) x y
+        ↔ (HasPair (set_of pair_cmp pairs.old) x y ⊎ ((x ≡ a.now) × (Contains below.now y × (Leads (HasNamedEdge numbered.now) a.now y → ⊥))))) }
     ensures cause { IfErr result (λ refusal. refusal ≡ Refusal.Memory) }
 {
-    for b in below.as_slice() {
-        if !pairs.contains((a, b)) {
-            push(puts, (a.copy(alloc)?, b.copy(alloc)?))?;
+    let from = numbered.number(a);
+    for i in 0..below.len() {
+        let b = &below[i];
+        if !numbered.is_geq(a, from, b, numbers[i]) {
+            push(pairs, (a.copy(alloc)?, b.copy(alloc)?))?;
         }
     }
     Ok(())
 }
 
-// The pairs of each of `above` and each of `below` that are not stored.
-pub fn crossed_pairs(
+// The pairs of each of `above` and each of `below` that are two names between which the edges don't lead. Each name is searched for once.
+pub fn missing_pairs(
     alloc: Global,
-    pairs: &PairSet,
+    numbered: &Numbered,
     above: &NameSet,
     below: &NameSet,
 ) -> Result<PairSet, Refusal>
-    ensures puts { IfOk result (λ puts. (x y : Bytes) → HasPair (set_of pair_cmp puts) x y
-        ↔ (IsTrue (contains (set_of name_cmp above.now) x) × (IsTrue (contains (set_of name_cmp below.now) y) × (HasPair (set_of pair_cmp pairs.now) x y → ⊥)))) }
+    ensures pairs { IfOk result (λ pairs. (x y : Bytes) → HasPair (set_of pair_cmp pairs) x y
+        ↔ (IsTrue (contains (set_of name_cmp above.now) x) × (IsTrue (contains (set_of name_cmp below.now) y) × (Leads (HasNamedEdge numbered.now) x y → ⊥)))) }
     ensures cause { IfErr result (λ refusal. refusal ≡ Refusal.Memory) }
 {
-    let mut puts = PairSet::new(alloc);
+    let numbers = numbered.numbers_of(alloc, below.as_slice())?;
+    let mut pairs = PairSet::new(alloc);
     for a in above.as_slice() {
-        cross_row(alloc, pairs, &mut puts, a, below)?;
+        missing_in_row(alloc, numbered, &mut pairs, a, below.as_slice(), &numbers)?;
     }
-    Ok(puts)
+    Ok(pairs)
 }

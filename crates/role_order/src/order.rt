@@ -1,19 +1,17 @@
-//! The hierarchy of roles: edges without a cycle, with the closure stored beside them.
+//! The hierarchy of roles: edges without a cycle, with the closure beside them, as pairs and as bits.
 ghost use Rattle.std.specs.Prelude.{◌≡◌, ◌≢◌, ◌*◌, ◌≤◌, ◌↔◌, ◌⊎◌, IsTrue, true, false, Contains, IfOk, IfErr, OnOk, OnErr};
 ghost use Rattle.std.specs.List.{IsDistinct};
 ghost use Rattle.rbac_sets.specs.Sets.{Bytes, name_cmp, pair_cmp, empty, contains, insert, len, same_name};
 ghost use Rattle.rbac_sets.specs.SortedSet.{set_of};
 ghost use Rattle.role_order.specs.Order.{HasPair, Geq, geq, IsAcyclic, IsClosure, seniors, juniors};
 ghost use Rattle.role_order.specs.Planned.{changed, Fits, IsOrderPlanOf, OrderHasRoom};
-ghost use Rattle.role_order.specs.private.Removal.{AreJuniorsFirst};
 
-use crate::building::{crossed_pairs, set_of_firsts, set_of_seconds};
-use crate::checking::{has_cycle, is_closed_under};
+use crate::building::missing_pairs;
 use crate::numbered::Numbered;
 use crate::places::OrderOfNames;
 use crate::plan::OrderPlan;
-use crate::removal::{juniors_first, lost_pairs};
-use rbac_sets::{Name, NameSet, PairSet, Refusal, is_same};
+use chunked_sets::ChunkedPairs;
+use rbac_sets::{Name, NameSet, PairSet, Refusal};
 use std::alloc::Global;
 use std::marker::Model;
 
@@ -22,15 +20,23 @@ use std::marker::Model;
 /// of two different roles of which the first is senior to the second.
 ///
 /// A role r is senior to q, and q is junior to r, if edges lead from r to q; `r >= q` holds if r is q
-/// or senior to it. The closure is stored, as pairs and as rows of bits, and updated with each edge, so
-/// that `geq` searches for the numbers of two names and reads one bit. A change of an edge takes three
-/// calls: a plan (`plan_add`, `plan_remove`), room for it (`make_room`), and `commit`, which can't
-/// fail. In contracts the value is the set of the edges, and how many more edges and pairs can be
-/// added without allocation.
+/// or senior to it. The roles of edges have numbers, and rows of bits say to which numbers the edges
+/// lead, so that `geq` searches for the numbers of two names and reads one bit. The pairs of the closure
+/// are kept beside the bits, in chunks. A change of an edge takes three calls: a plan (`plan_add`,
+/// `plan_remove`), room for it (`make_room`), and `commit`, which can't fail.
+///
+/// A plan reads bits too: one for each number to find the seniors or juniors of a role, and one for each
+/// pair that it judges. To remove an edge, it does so in a copy of the bits, in which it makes the rows of
+/// the ascendant and its seniors anew. `commit` moves the pairs of the chunks that the plan's pairs belong
+/// to, and then gives back the room for pairs that is left.
+///
+/// In contracts the value is the set of the edges, and how many more edges and pairs can be added without
+/// allocation.
 #[derive(Drop)]
 pub struct RoleOrder {
     edges: PairSet,
-    pairs: PairSet,
+    // The closure, as pairs and as bits.
+    pairs: ChunkedPairs,
     numbered: Numbered,
 }
 
@@ -59,7 +65,7 @@ impl RoleOrder {
     {
         RoleOrder {
             edges: PairSet::new(alloc),
-            pairs: PairSet::new(alloc),
+            pairs: ChunkedPairs::new(alloc),
             numbered: Numbered::new(alloc),
         }
     }
@@ -78,7 +84,7 @@ impl RoleOrder {
     /// The closure: the pairs (r, q) with `r >= q` and r not q.
     ///
     /// It doesn't allocate.
-    pub fn pairs(&self) -> &PairSet
+    pub fn pairs(&self) -> &ChunkedPairs
         ensures { IsClosure self.now.edges (set_of pair_cmp result.now) }
     {
         &self.pairs
@@ -101,7 +107,7 @@ impl RoleOrder {
         ensures reaches { IsTrue result ↔ Geq self.now.edges a.now b.now }
         ensures test { result ≡ geq self.now.edges a.now b.now }
     {
-        is_same(a, b) || self.numbered.leads(a, b)
+        self.numbered.geq(a, b)
     }
 
     /// The order of these names by their places in the list. The names may be any names.
@@ -132,7 +138,7 @@ impl RoleOrder {
         ensures members { IfOk result (λ names. (q : Bytes) → IsTrue (contains (set_of name_cmp names) q) ↔ ((r.now ≢ q) × Geq self.now.edges r.now q)) }
         ensures cause { IfErr result (λ refusal. refusal ≡ Refusal.Memory) }
     {
-        let names = set_of_seconds(alloc, &self.pairs, r)?;
+        let names = self.numbered.juniors(alloc, r)?;
         Ok(names)
     }
 
@@ -146,7 +152,7 @@ impl RoleOrder {
         ensures members { IfOk result (λ names. (p : Bytes) → IsTrue (contains (set_of name_cmp names) p) ↔ ((p ≢ r.now) × Geq self.now.edges p r.now)) }
         ensures cause { IfErr result (λ refusal. refusal ≡ Refusal.Memory) }
     {
-        let names = set_of_firsts(alloc, &self.pairs, r)?;
+        let names = self.numbered.seniors(alloc, r)?;
         Ok(names)
     }
 
@@ -198,7 +204,7 @@ impl RoleOrder {
         }
         let above = self.at_or_above(alloc, asc)?;
         let below = self.at_or_below(alloc, desc)?;
-        let puts = crossed_pairs(alloc, &self.pairs, &above, &below)?;
+        let puts = missing_pairs(alloc, &self.numbered, &above, &below)?;
         let judged = count_judged(&above, &below)?;
         let takes = PairSet::new(alloc);
         let plan = OrderPlan::new(alloc, true, asc, desc, puts, takes, judged)?;
@@ -223,13 +229,12 @@ impl RoleOrder {
         if !self.has_edge(asc, desc) {
             return Err(Refusal::NoEdge);
         }
-        let mut left = self.edges.copy(alloc)?;
-        left.remove((asc, desc));
         let above = self.at_or_above(alloc, asc)?;
         let below = self.at_or_below(alloc, desc)?;
+        let mut left = self.numbered.copy(alloc)?;
+        left.remove(asc, desc);
+        let takes = missing_pairs(alloc, &left, &above, &below)?;
         let judged = count_judged(&above, &below)?;
-        let rows = juniors_first(alloc, &self.pairs, &above)?;
-        let takes = lost_pairs(alloc, &left, &self.pairs, &rows, &below)?;
         let puts = PairSet::new(alloc);
         let plan = OrderPlan::new(alloc, false, asc, desc, puts, takes, judged)?;
         Ok(plan)
@@ -282,8 +287,9 @@ impl RoleOrder {
             judged: _,
             ends,
         } = plan;
-        self.pairs.merge_reserved(puts);
-        self.pairs.take_all(&takes);
+        self.pairs.merge_reserved(puts.into_entries());
+        self.pairs.take_all(takes.as_slice());
+        self.pairs.release();
         if adds {
             self.numbered.add(ends.0, ends.1);
             self.edges.insert_reserved((asc, desc));
@@ -298,7 +304,8 @@ impl RoleOrder {
     /// # Errors
     ///
     /// `Damaged(5)` if the edges have a cycle; an edge from a role to itself is one. `Damaged(6)` if they
-    /// have none and `pairs` isn't their closure. `Memory` if allocation failed.
+    /// have none and `pairs` isn't their closure. `Memory` if allocation failed, or if the edges have more than
+    /// 8,192 roles.
     pub fn of_rows(alloc: Global, edges: PairSet, pairs: PairSet) -> Result<RoleOrder, Refusal>
         ensures order { IfOk result (λ order. order.edges ≡ set_of pair_cmp edges) }
         ensures acyclic { OnOk result (IsAcyclic (set_of pair_cmp edges)) }
@@ -307,18 +314,18 @@ impl RoleOrder {
         ensures differ { result ≡ Err (Refusal.Damaged 6) → IsAcyclic (set_of pair_cmp edges) × (IsClosure (set_of pair_cmp edges) (set_of pair_cmp pairs) → ⊥) }
         ensures only { OnErr result ((result ≡ Err (Refusal.Damaged 5)) ⊎ ((result ≡ Err (Refusal.Damaged 6)) ⊎ (result ≡ Err Refusal.Memory))) }
     {
-        if is_closed_under(&edges, &pairs) {
-            let numbered = Numbered::of_edges(alloc, &edges)?;
-            return Ok(RoleOrder {
-                edges,
-                pairs,
-                numbered,
-            });
-        }
-        if has_cycle(alloc, &edges)? {
+        let Some(numbered) = Numbered::of_edges(alloc, &edges)? else {
             return Err(Refusal::Damaged(5));
+        };
+        if !numbered.has_closure(&pairs) {
+            return Err(Refusal::Damaged(6));
         }
-        Err(Refusal::Damaged(6))
+        let pairs = ChunkedPairs::of_sorted(alloc, pairs.into_entries())?;
+        Ok(RoleOrder {
+            edges,
+            pairs,
+            numbered,
+        })
     }
 }
 

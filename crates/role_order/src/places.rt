@@ -6,7 +6,7 @@ ghost use Rattle.role_order.specs.Order.{geq};
 ghost use Rattle.role_order.specs.private.Numbered.{AreEdgesOf};
 
 use crate::numbered::Numbered;
-use rbac_sets::{Name, PairSet, Refusal, is_same};
+use rbac_sets::{Name, PairSet, Refusal};
 use std::alloc::Global;
 use std::marker::Model;
 
@@ -52,11 +52,7 @@ impl<'a> OrderOfNames<'a> {
         ensures names { IfOk result (λ order. order.names ≡ names.now) }
         ensures cause { IfErr result (λ refusal. refusal ≡ Refusal.Memory) }
     {
-        let mut numbers = Vec::new(alloc);
-        numbers.reserve(names.len())?;
-        for name in names {
-            numbers.push(numbered.number(name))?;
-        }
+        let numbers = numbered.numbers_of(alloc, names)?;
         Ok(OrderOfNames {
             edges,
             numbered,
@@ -80,12 +76,11 @@ impl<'a> OrderOfNames<'a> {
         requires b { b < length self.now.names }
         ensures { result ≡ geq self.now.edges (get_or self.now.names a []) (get_or self.now.names b []) }
     {
-        let Some(from) = self.numbers[a] else {
-            return is_same(&self.names[a], &self.names[b]);
-        };
-        let Some(to) = self.numbers[b] else {
-            return false;
-        };
-        self.numbered.is_geq(from, to)
+        self.numbered.is_geq(
+            &self.names[a],
+            self.numbers[a],
+            &self.names[b],
+            self.numbers[b],
+        )
     }
 }

@@ -10,7 +10,7 @@ ghost use Rattle.role_tables.specs.Durability.{ForgetsNoFault, HoldsAsBefore, Le
 ghost use Rattle.role_tables.specs.private.Transactions.{TransactsTo};
 
 use crate::office::Office;
-use crate::opening::Unopened;
+use crate::opening::{Unopened, give_up};
 use crate::schema::may_create;
 use crate::statements::{create_table, insert_version, is_settled};
 use crate::stored_table::StoredTable;
@@ -64,14 +64,14 @@ fn create_with<S: Alter>(conn: Connection<S>, first: State) -> Result<Office<S>,
     let version = first.version();
     if !conn.is_autocommit() || !may_create(conn.schema(), version) {
         return Err(Unopened {
-            refusal: Refusal::Store,
+            refusal: give_up(first, Refusal::Store),
             conn,
         });
     }
     match create_office(&mut conn, version) {
         Ok(()) => Ok(Office::new(conn, first)),
         Err(_) => Err(Unopened {
-            refusal: Refusal::Store,
+            refusal: give_up(first, Refusal::Store),
             conn,
         }),
     }

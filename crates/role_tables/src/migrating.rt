@@ -12,7 +12,7 @@ ghost use Rattle.role_tables.specs.Durability.{ForgetsNoFault, HoldsAsBefore, St
 
 use crate::content_checks::{read_state, refuse_v2};
 use crate::office::Office;
-use crate::opening::Unopened;
+use crate::opening::{Unopened, give_up};
 use crate::schema::may_lock;
 use crate::statements::{create_table, delete_version, insert_version, is_settled};
 use crate::stored_table::StoredTable;
@@ -54,14 +54,14 @@ fn migrate_v1<S: Alter>(alloc: Global, conn: &mut Connection<S>) -> Result<State
 {
     let first = read_state(alloc, conn)?;
     if first.version() != 1 {
-        return Err(Refusal::Version(2));
+        return Err(give_up(first, Refusal::Version(2)));
     }
     if !may_lock(conn.schema()) {
-        return Err(Refusal::Store);
+        return Err(give_up(first, Refusal::Store));
     }
     match migrate_tables(conn) {
         Ok(()) => Ok(first.migrated()),
-        Err(_) => Err(Refusal::Store),
+        Err(_) => Err(give_up(first, Refusal::Store)),
     }
 }
 

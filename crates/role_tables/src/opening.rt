@@ -9,6 +9,7 @@ ghost use Rattle.role_tables.specs.Durability.{HoldsAsBefore, LeavesOnly, IsDura
 
 use crate::content_checks::read_state;
 use crate::office::Office;
+use admin_mgr::State;
 use rbac_sets::Refusal;
 use sqlite::{Alter, Connection};
 use std::alloc::Global;
@@ -20,6 +21,13 @@ pub struct Unopened<S: Alter> {
     pub refusal: Refusal,
     /// The connection, as the refused call left it.
     pub conn: Connection<S>,
+}
+
+// The refusal for which a state that was made is given up.
+pub(crate) fn give_up(_state: State, refusal: Refusal) -> Refusal
+    ensures { result ≡ refusal }
+{
+    refusal
 }
 
 /// Opens the office that the tables of a connection outside a transaction hold, however these tables

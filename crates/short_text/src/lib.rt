@@ -3,7 +3,7 @@
 #![tactic(auto)]
 
 pub use front::front_of;
-pub use short_text::ShortText;
+pub use short_text::{ShortText, Spare};
 
 pub mod front;
 pub mod short_text;

@@ -83,6 +83,24 @@ impl Model for ShortText {
     ghost invariant = { λ text. IsText text.storage };
 }
 
+/// Memory for a text of any length, with which a text can be copied without an allocation.
+#[derive(Drop)]
+pub struct Spare {
+    bytes: Box<[u8; LONGEST]>,
+}
+
+impl Spare {
+    /// Memory for one text.
+    ///
+    /// # Errors
+    ///
+    /// `AllocError` if allocation failed.
+    pub fn new(alloc: Global) -> Result<Spare, AllocError> {
+        let bytes = Box::new(alloc, [0; LONGEST])?;
+        Ok(Spare { bytes })
+    }
+}
+
 impl ShortText {
     /// The text with these bytes, of which there are at most 64.
     ///
@@ -184,6 +202,34 @@ impl ShortText {
                     },
                 })
             }
+        }
+    }
+}
+
+impl ShortText {
+    /// A copy of the text. That of a longer text is in the memory of `spare`.
+    ///
+    /// It doesn't allocate and can't fail.
+    pub fn copy_into(&self, spare: Spare) -> ShortText
+        ensures { result ≡ self.now }
+    {
+        if let Storage::Inside { len, bytes: inside } = &self.storage {
+            return ShortText {
+                storage: Storage::Inside {
+                    len: *len,
+                    bytes: *inside,
+                },
+            };
+        }
+        let text = self.as_str();
+        let mut bytes = spare.bytes;
+        *bytes = padded(text);
+        ShortText {
+            storage: Storage::Long {
+                len: text.len() as u8,
+                front: self.front(),
+                bytes,
+            },
         }
     }
 }

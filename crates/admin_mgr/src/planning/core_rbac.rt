@@ -1,8 +1,10 @@
 //! The plans of the commands of core RBAC, except those on sessions, and of the commands on locks. Commands that only
 //! put or take one row have no plan of their own here.
-ghost use Rattle.std.specs.Prelude.{◌≡◌, ◌++◌, None, IfOk, IfErr, OnOk};
+ghost use Rattle.std.specs.Prelude.{◌≡◌, ◌++◌, filter, None, IfOk, IfErr, OnOk};
+ghost use Rattle.rbac_sets.specs.RowKinds.{assignment_kind};
+ghost use Rattle.rbac_sets.specs.Sets.{Pair, Triple, members, same_name};
 ghost use Rattle.rbac_sets.specs.declared.command.Command.TheVariants.{DeleteUser, DeleteRole, DeletePermission, DeassignUser, LockUserAccount, UnlockUserAccount};
-ghost use Rattle.admin_mgr.specs.private.PlanChanges.{lock_rows, new_lock_rows};
+ghost use Rattle.admin_mgr.specs.private.PlanChanges.{grant_row, lock_rows, new_lock_rows, pair_row, take_all};
 ghost use Rattle.admin_mgr.specs.Verdict.{verdict};
 ghost use Rattle.admin_mgr.specs.PlanEffect.{IsPlanOf};
 
@@ -10,7 +12,7 @@ use crate::plan::Plan;
 use crate::planning::ending::{Loss, take_ended};
 use crate::planning::making::plain;
 use crate::planning::rows::{
-    put, take, take_grants, take_grants_of_role, take_pairs, take_pairs_with_second,
+    put, take, take_grants, take_pairs, take_turned_grants, take_turned_pairs,
 };
 use crate::state::State;
 use rbac_sets::{Change, Name, Refusal, Row};
@@ -45,16 +47,43 @@ pub(crate) fn plan_delete_role(alloc: Global, state: &State, role: &Name) -> Res
     state.recall_good();
     let mut changes = Vec::new(alloc);
     take(&mut changes, Row::role(role.copy(alloc)?))?;
-    take_pairs_with_second(
-        alloc,
-        &mut changes,
-        Row::ASSIGNMENT,
-        &state.assignments().as_run(),
-        role,
-    )?;
-    take_grants_of_role(alloc, &mut changes, &state.grants().as_run(), role)?;
+    take_assignments_of_role(alloc, &mut changes, state, role)?;
+    take_grants_of_role(alloc, &mut changes, state, role)?;
     take_ended(alloc, &mut changes, state, Loss::Role(role))?;
     Ok(plain(alloc, changes))
+}
+
+// Adds the changes that take the assignments to the role.
+fn take_assignments_of_role(
+    alloc: Global,
+    changes: &mut Vec<Change>,
+    state: &State,
+    role: &Name,
+) -> Result<(), Refusal>
+    ensures ok { OnOk result (changes.new.items ≡ changes.old.items
+        ++ take_all (pair_row assignment_kind) (filter (λ (pair : Pair). same_name pair.1 role.now) (members state.now.facts.assignments))) }
+    ensures cause { IfErr result (λ refusal. refusal ≡ Refusal.Memory) }
+{
+    take_turned_pairs(
+        alloc,
+        changes,
+        Row::ASSIGNMENT,
+        &state.assignments_by_role().with_first(role),
+    )
+}
+
+// Adds the changes that take the grants to the role.
+fn take_grants_of_role(
+    alloc: Global,
+    changes: &mut Vec<Change>,
+    state: &State,
+    role: &Name,
+) -> Result<(), Refusal>
+    ensures ok { OnOk result (changes.new.items ≡ changes.old.items
+        ++ take_all grant_row (filter (λ (grant : Triple). same_name grant.2 role.now) (members state.now.facts.grants))) }
+    ensures cause { IfErr result (λ refusal. refusal ≡ Refusal.Memory) }
+{
+    take_turned_grants(alloc, changes, &state.grants_by_role().with_first(role))
 }
 
 // The plan of DeletePermission: it removes the permission and its grants.

@@ -1,5 +1,5 @@
 //! The sessions that end by a command.
-ghost use Rattle.std.specs.Prelude.{◌≡◌, ◌++◌, ◌||◌, ◌&&◌, not, IfErr, OnOk};
+ghost use Rattle.std.specs.Prelude.{◌≡◌, ◌++◌, ◌||◌, ◌&&◌, not, true, false, IfErr, OnOk};
 ghost use Rattle.std.specs.List.{list_any, list_all};
 ghost use Rattle.rbac_sets.specs.Sets.{Bytes, Pair, pair_cmp, contains, same_name};
 ghost use Rattle.rbac_sets.specs.SortedSet.{set_of};
@@ -61,9 +61,46 @@ pub(crate) fn take_ended(
     ensures ok { OnOk result (changes.new.items ≡ changes.old.items ++ ended_rows state.now.facts (stays state.now.facts loss.entry)) }
     ensures cause { IfErr result (λ refusal. refusal ≡ Refusal.Memory) }
 {
+    match loss {
+        Loss::User(user) => take_ended_of_user(alloc, changes, state, user, loss),
+        Loss::Assignment(user, _) => take_ended_of_user(alloc, changes, state, user, loss),
+        _ => take_ended_of_all(alloc, changes, state, loss),
+    }
+}
+
+// The same, if the sessions of any user may end.
+fn take_ended_of_all(
+    alloc: Global,
+    changes: &mut Vec<Change>,
+    state: &State,
+    loss: Loss<'_>,
+) -> Result<(), Refusal>
+    ensures ok { OnOk result (changes.new.items ≡ changes.old.items ++ ended_rows state.now.facts (stays state.now.facts loss.entry)) }
+    ensures cause { IfErr result (λ refusal. refusal ≡ Refusal.Memory) }
+{
     for session in state.sessions().iter() {
         if !goes_on(state, loss, &session.0, &session.1) {
             take_session(alloc, changes, state, &session.0, &session.1)?;
+        }
+    }
+    Ok(())
+}
+
+// The same, if only sessions of this user may end.
+fn take_ended_of_user(
+    alloc: Global,
+    changes: &mut Vec<Change>,
+    state: &State,
+    user: &Name,
+    loss: Loss<'_>,
+) -> Result<(), Refusal>
+    requires others { (session : Pair) → same_name session.1 user.now ≡ false → stays state.now.facts loss session ≡ true }
+    ensures ok { OnOk result (changes.new.items ≡ changes.old.items ++ ended_rows state.now.facts (stays state.now.facts loss.entry)) }
+    ensures cause { IfErr result (λ refusal. refusal ≡ Refusal.Memory) }
+{
+    for pair in state.sessions_by_user().with_first(user).iter() {
+        if !goes_on(state, loss, &pair.1, &pair.0) {
+            take_session(alloc, changes, state, &pair.1, &pair.0)?;
         }
     }
     Ok(())

@@ -1,13 +1,13 @@
 //! The changes that a plan lists, one after another.
-ghost use Rattle.std.specs.Prelude.{◌≡◌, ◌++◌, ◌∷◌, [], filter, IfOk, IfErr, OnOk};
+ghost use Rattle.std.specs.Prelude.{◌≡◌, ◌++◌, ◌∷◌, [], IfOk, IfErr, OnOk};
 ghost use Rattle.std.specs.Prelude.{map as list_map};
-ghost use Rattle.rbac_sets.specs.Sets.{Bytes, Pair, Triple, same_name};
+ghost use Rattle.rbac_sets.specs.Sets.{Bytes, Pair, Triple};
 ghost use Rattle.rbac_sets.specs.declared.row.Row.TheVariants.{PairRow, GrantRow, SetRow};
 ghost use Rattle.rbac_sets.specs.declared.row.Change.TheVariants.{Put, Take};
 ghost use Rattle.admin_mgr.specs.private.PlanChanges.{pair_row, grant_row, take_all, put_all};
 
 use chunked_sets::Run;
-use rbac_sets::{Change, Name, Refusal, Row, is_same};
+use rbac_sets::{Change, Name, Refusal, Row};
 use std::alloc::Global;
 
 // The row of a pair.
@@ -93,21 +93,18 @@ pub(crate) fn put_pairs(
     Ok(())
 }
 
-// Adds the changes that take the row of each pair with this second part.
-pub(crate) fn take_pairs_with_second(
+// Adds the changes that take the row of each pair, given with its second name first.
+pub(crate) fn take_turned_pairs(
     alloc: Global,
     changes: &mut Vec<Change>,
     kind: u8,
     pairs: &Run<'_, (Name, Name)>,
-    second: &Name,
 ) -> Result<(), Refusal>
-    ensures ok { OnOk result (changes.new.items ≡ changes.old.items ++ take_all (pair_row kind) (filter (λ (pair : Pair). same_name pair.1 second.now) pairs.now)) }
+    ensures ok { OnOk result (changes.new.items ≡ changes.old.items ++ list_map (λ (pair : Pair). Take (PairRow kind pair.1 pair.0)) pairs.now) }
     ensures cause { IfErr result (λ refusal. refusal ≡ Refusal.Memory) }
 {
     for pair in pairs.iter() {
-        if is_same(&pair.1, second) {
-            take(changes, pair_row(alloc, kind, &pair.0, &pair.1)?)?;
-        }
+        take(changes, pair_row(alloc, kind, &pair.1, &pair.0)?)?;
     }
     Ok(())
 }
@@ -144,20 +141,17 @@ pub(crate) fn take_grants(
     Ok(())
 }
 
-// Adds the changes that take the row of each grant to this role.
-pub(crate) fn take_grants_of_role(
+// Adds the changes that take the row of each grant, given with its role first.
+pub(crate) fn take_turned_grants(
     alloc: Global,
     changes: &mut Vec<Change>,
     grants: &Run<'_, (Name, Name, Name)>,
-    role: &Name,
 ) -> Result<(), Refusal>
-    ensures ok { OnOk result (changes.new.items ≡ changes.old.items ++ take_all grant_row (filter (λ (grant : Triple). same_name grant.2 role.now) grants.now)) }
+    ensures ok { OnOk result (changes.new.items ≡ changes.old.items ++ list_map (λ (grant : Triple). Take (GrantRow grant.1 grant.2 grant.0)) grants.now) }
     ensures cause { IfErr result (λ refusal. refusal ≡ Refusal.Memory) }
 {
     for grant in grants.iter() {
-        if is_same(&grant.2, role) {
-            take(changes, grant_row(alloc, &grant.0, &grant.1, &grant.2)?)?;
-        }
+        take(changes, grant_row(alloc, &grant.1, &grant.2, &grant.0)?)?;
     }
     Ok(())
 }

@@ -160,7 +160,7 @@ impl Relations {
                 self.permissions.remove((a, b));
             }
             Row::PairRow(Row::ASSIGNMENT, a, b) => {
-                self.assignments.remove((a, b));
+                self.assignments.remove((a, b), (b, a));
             }
             Row::PairRow(Row::STATIC_MEMBER, a, b) => {
                 self.ssd_members.remove((a, b));
@@ -169,13 +169,13 @@ impl Relations {
                 self.dsd_members.remove((a, b));
             }
             Row::PairRow(Row::SESSION, a, b) => {
-                self.sessions.remove((a, b));
+                self.sessions.remove((a, b), (b, a));
             }
             Row::PairRow(Row::ACTIVATED_ROLE, a, b) => {
                 self.active.remove((a, b));
             }
             Row::GrantRow(a, b, c) => {
-                self.grants.remove((a, b, c));
+                self.grants.remove((a, b, c), (c, a, b));
             }
             Row::SetRow(Row::STATIC_CARDINALITY, name, n) => {
                 self.ssd_cardinalities.remove((name, *n));

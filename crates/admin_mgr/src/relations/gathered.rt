@@ -1,8 +1,8 @@
 //! The sets that stored rows make, before they are checked.
-ghost use Rattle.std.specs.Prelude.{[], ◌≡◌, ◌⊎◌, ◌&&◌, not, true, false, IfOk, IfErr, OnOk};
+ghost use Rattle.std.specs.Prelude.{[], Err, ◌≡◌, ◌⊎◌, ◌&&◌, not, true, false, IfOk, IfErr, OnOk};
 ghost use Rattle.std.specs.List.{list_all};
 ghost use Rattle.rbac_sets.specs.Named.{is_named};
-ghost use Rattle.rbac_sets.specs.Sets.{contains, insert};
+ghost use Rattle.rbac_sets.specs.Sets.{contains, insert, pair_cmp, triple_cmp};
 ghost use Rattle.rbac_sets.specs.SortedSet.{set_of};
 ghost use Rattle.role_order.specs.Order.{IsAcyclic, IsClosure};
 ghost use Rattle.admin_mgr.specs.StoredSets.{gathered, is_known};
@@ -10,7 +10,7 @@ ghost use Rattle.admin_mgr.specs.private.OneRow.{has_key, with_stored};
 ghost use Rattle.admin_mgr.specs.RowChecks.{AreReadable};
 
 use crate::judge::set_refusals::has_set;
-use crate::relations::Relations;
+use crate::relations::{LargeSets, Relations};
 use rbac_sets::{Entry, PairSet, Refusal, Row, SortedSet};
 use role_order::RoleOrder;
 use std::alloc::Global;
@@ -19,10 +19,11 @@ use std::marker::Model;
 mod checks;
 
 // The sets and relations that rows make. Their role hierarchy is empty: its edges, and the closure pairs that are stored
-// beside them, are here until they are checked.
+// beside them, are here until they are checked. The sets that are kept in two orders are here in one of them.
 #[derive(Drop)]
 pub(crate) struct StoredSets {
     relations: Relations,
+    large: LargeSets,
     edges: PairSet,
     pairs: PairSet,
 }
@@ -46,6 +47,7 @@ impl StoredSets {
     {
         StoredSets {
             relations: Relations::empty(alloc, version),
+            large: LargeSets::new(alloc),
             edges: PairSet::new(alloc),
             pairs: PairSet::new(alloc),
         }
@@ -92,13 +94,15 @@ impl StoredSets {
             ⊎ ((refusal ≡ Refusal.Damaged 6) × IsAcyclic self.facts.edges × (IsClosure self.facts.edges self.pairs → ⊥)))) }
     {
         let StoredSets {
-            mut relations,
+            relations,
+            large,
             edges,
             pairs,
         } = self;
-        let order = RoleOrder::of_rows(alloc, edges, pairs)?;
-        relations.order = order;
-        Ok(relations)
+        match RoleOrder::of_rows(alloc, edges, pairs) {
+            Ok(order) => with_order(alloc, relations, large, order),
+            Err(refusal) => give_up(relations, large, refusal),
+        }
     }
 
     // Whether the version allows the row and there is no row with its key.
@@ -118,14 +122,14 @@ impl StoredSets {
             Row::NameRow(Row::ROLE, name) => self.relations.roles.contains(name),
             Row::NameRow(Row::OBJECT, name) => self.relations.objects.contains(name),
             Row::PairRow(Row::PERMISSION, a, b) => self.relations.permissions.contains((a, b)),
-            Row::PairRow(Row::ASSIGNMENT, a, b) => self.relations.assignments.contains((a, b)),
+            Row::PairRow(Row::ASSIGNMENT, a, b) => self.large.assignments.contains((a, b)),
             Row::PairRow(Row::INHERITANCE, a, b) => self.edges.contains((a, b)),
             Row::PairRow(Row::CLOSURE_PAIR, a, b) => self.pairs.contains((a, b)),
             Row::PairRow(Row::STATIC_MEMBER, a, b) => self.relations.ssd_members.contains((a, b)),
             Row::PairRow(Row::DYNAMIC_MEMBER, a, b) => self.relations.dsd_members.contains((a, b)),
-            Row::PairRow(Row::SESSION, a, b) => self.relations.sessions.contains((a, b)),
+            Row::PairRow(Row::SESSION, a, b) => self.large.sessions.contains((a, b)),
             Row::PairRow(Row::ACTIVATED_ROLE, a, b) => self.relations.active.contains((a, b)),
-            Row::GrantRow(a, b, c) => self.relations.grants.contains((a, b, c)),
+            Row::GrantRow(a, b, c) => self.large.grants.contains((a, b, c)),
             Row::SetRow(Row::STATIC_CARDINALITY, name, _) => has_set(
                 &self.relations.ssd_cardinalities,
                 name,
@@ -151,14 +155,14 @@ impl StoredSets {
             Row::NameRow(Row::ROLE, name) => put(&mut self.relations.roles, name),
             Row::NameRow(Row::OBJECT, name) => self.relations.objects.insert(name),
             Row::PairRow(Row::PERMISSION, a, b) => self.relations.permissions.insert((a, b)),
-            Row::PairRow(Row::ASSIGNMENT, a, b) => self.relations.assignments.insert((a, b)),
+            Row::PairRow(Row::ASSIGNMENT, a, b) => self.large.assignments.insert((a, b)),
             Row::PairRow(Row::INHERITANCE, a, b) => put(&mut self.edges, (a, b)),
             Row::PairRow(Row::CLOSURE_PAIR, a, b) => put(&mut self.pairs, (a, b)),
             Row::PairRow(Row::STATIC_MEMBER, a, b) => put(&mut self.relations.ssd_members, (a, b)),
             Row::PairRow(Row::DYNAMIC_MEMBER, a, b) => put(&mut self.relations.dsd_members, (a, b)),
-            Row::PairRow(Row::SESSION, a, b) => self.relations.sessions.insert((a, b)),
+            Row::PairRow(Row::SESSION, a, b) => self.large.sessions.insert((a, b)),
             Row::PairRow(Row::ACTIVATED_ROLE, a, b) => self.relations.active.insert((a, b)),
-            Row::GrantRow(a, b, c) => self.relations.grants.insert((a, b, c)),
+            Row::GrantRow(a, b, c) => self.large.grants.insert((a, b, c)),
             Row::SetRow(Row::STATIC_CARDINALITY, name, n) => put(
                 &mut self.relations.ssd_cardinalities,
                 (name, n),
@@ -171,6 +175,36 @@ impl StoredSets {
             _ => Ok(()),
         }
     }
+}
+
+// The relations with these large sets and this order.
+fn with_order(
+    alloc: Global,
+    relations: Relations,
+    large: LargeSets,
+    order: RoleOrder,
+) -> Result<Relations, Refusal>
+    ensures facts { IfOk result (λ made. made.facts ≡ record relations.facts {
+      assignments = set_of pair_cmp large.assignments;
+      grants = set_of triple_cmp large.grants;
+      sessions = set_of pair_cmp large.sessions;
+      edges = order.edges;
+    }) }
+    ensures cause { IfErr result (λ refusal. refusal ≡ Refusal.Memory) }
+{
+    let mut made = relations;
+    made.set_order(order);
+    match made.set_large(alloc, large) {
+        Ok(()) => Ok(made),
+        Err(refusal) => give_up(made, LargeSets::new(alloc), refusal),
+    }
+}
+
+// Drops the relations and the sets, which are of no use after the refusal.
+fn give_up(_relations: Relations, _large: LargeSets, refusal: Refusal) -> Result<Relations, Refusal>
+    ensures { result ≡ Err refusal }
+{
+    Err(refusal)
 }
 
 // Whether an office of this version may have the row.

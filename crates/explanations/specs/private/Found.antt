@@ -1,13 +1,13 @@
 -- What the functions of this crate look for, in the rows of a holder, of a permission and of a set. A holder is a user or a session; its
 -- rows are the pairs (holder, role) of the roles that are assigned to it, or activated in it.
-use Rattle.std.specs.Prelude.{ℕ, Bool, true, false, cond, not, ◌&&◌, nat_lt, List, [], map, filter, find, Option, count_by}
+use Rattle.std.specs.Prelude.{ℕ, Bool, cond, not, ◌&&◌, nat_lt, List, [], map, filter, find, Option, None, count_by}
 use Rattle.std.specs.List.{filter_map, flat_map}
 use Rattle.std.specs.Option.{option_map}
 use Rattle.rbac_sets.specs.Sets.{Bytes, Pair, Pairs, Triple, Cardinality, members}
 use Rattle.role_order.specs.Order.{geq}
 use Rattle.admin_mgr.specs.RbacState.{RbacState}
 use Rattle.admin_mgr.specs.UserAccess.{stands_alone}
-use Rattle.admin_mgr.specs.private.HolderRoles.{has_all, is_reached, is_reached_from, reached_with, run_of}
+use Rattle.admin_mgr.specs.private.HolderRoles.{has_all, is_reached, is_reached_from, is_touched, reached_with, run_of}
 
 -- ---- roles to which a permission is granted, of the rows of its grants
 
@@ -39,26 +39,20 @@ abbrev pub violated_with : Pairs → List Pair → Bytes → Pairs → List Card
 violated_with edges held more pairs sets =
     map (λ (entry : Cardinality). entry.0) (filter (λ (entry : Cardinality). has_too_many_with edges held more (run_of pairs entry.0) entry.1) sets)
 
--- ---- the same if a role becomes an immediate ascendant of another one
+-- ---- the same if a role becomes an immediate ascendant of another one: those who have the ascendant get the descendant
 
--- whether the holder has the ascendant, and no fewer of the members than the cardinality with the descendant
-unfoldable pub has_too_many_below : Pairs → List Pair → Bytes → Bytes → List Pair → ℕ → Bool
-has_too_many_below edges held asc desc members cardinality = is_reached edges held asc && has_too_many_with edges held desc members cardinality
+-- the users who are authorized for a role, and the sessions that have it
+abbrev pub users_with : RbacState → Bytes → List Bytes
+users_with S role = filter (λ user. is_reached S.edges (run_of S.assignments user) role) (members S.users)
 
--- the first of the users, and the first of the sessions, pairs (session, user), for whom this holds
-abbrev pub first_user_below : Pairs → Pairs → Bytes → Bytes → List Pair → ℕ → List Bytes → Option Bytes
-first_user_below edges assignments asc desc members cardinality users =
-    find (λ user. has_too_many_below edges (run_of assignments user) asc desc members cardinality) users
+abbrev pub sessions_with : RbacState → Bytes → List Bytes
+sessions_with S role = map (λ (session : Pair). session.0) (filter (λ (session : Pair). is_reached S.edges (run_of S.active session.0) role) (members S.sessions))
 
-abbrev pub first_session_below : Pairs → Pairs → Bytes → Bytes → List Pair → ℕ → List Pair → Option Bytes
-first_session_below edges active asc desc members cardinality sessions =
-    option_map (λ (session : Pair). session.0)
-    (find (λ (session : Pair). has_too_many_below edges (run_of active session.0) asc desc members cardinality) sessions)
-
--- the first session, or the first user
-abbrev pub first_holder_below : (of_sessions : Bool) → RbacState → Bytes → Bytes → List Pair → ℕ → Option Bytes
-first_holder_below true S asc desc roles cardinality = first_session_below S.edges S.active asc desc roles cardinality (members S.sessions)
-first_holder_below false S asc desc roles cardinality = first_user_below S.edges S.assignments asc desc roles cardinality (members S.users)
+-- the first of the holders that has no fewer of the members than the cardinality with one more role, if this role or a junior of it
+-- is one of the members
+abbrev pub first_with : Pairs → Pairs → Bytes → List Bytes → List Pair → ℕ → Option Bytes
+first_with edges pairs more holders members cardinality =
+    cond (is_touched edges more members) (find (λ holder. has_too_many_with edges (run_of pairs holder) more members cardinality) holders) None
 
 -- the sets with the first holder of each, if it has one
 abbrev pub conflicts_with : (List Pair → ℕ → Option Bytes) → Pairs → List Cardinality → List Pair

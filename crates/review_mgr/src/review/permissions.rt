@@ -31,7 +31,7 @@ pub fn role_permissions(
     if !state.roles().contains(role) {
         return Err(Refusal::NoRole);
     }
-    permissions_below(alloc, state.order(), state.grants(), role)
+    permissions_below(alloc, state.order(), state.grants_by_role(), role)
 }
 
 /// UserPermissions: the permissions of the roles that are assigned to the user, as pairs (object,
@@ -56,7 +56,7 @@ pub fn user_permissions(
     permissions_reached(
         alloc,
         state.order(),
-        state.grants(),
+        state.grants_by_role(),
         &assigned_to(state, user),
     )
 }

@@ -6,7 +6,7 @@ ghost use Rattle.review_mgr.specs.Questions.{refused};
 ghost use Rattle.admin_mgr.specs.Authorization.{authorized_users, authorized_roles};
 ghost use Rattle.review_mgr.specs.Review.{assigned_users, assigned_roles};
 
-use crate::gather::{firsts_of, roles_reached, seconds_of, users_above};
+use crate::gather::{roles_reached, seconds_of, users_above};
 use crate::lookup::assigned_to;
 use admin_mgr::State;
 use rbac_sets::{Name, Refusal};
@@ -26,7 +26,7 @@ pub fn assigned_users(alloc: Global, state: &State, role: &Name) -> Result<Vec<N
     if !state.roles().contains(role) {
         return Err(Refusal::NoRole);
     }
-    firsts_of(alloc, state.assignments(), role)
+    seconds_of(alloc, state.assignments_by_role(), role)
 }
 
 /// AssignedRoles: the roles that are assigned to the user.
@@ -60,7 +60,7 @@ pub fn authorized_users(alloc: Global, state: &State, role: &Name) -> Result<Vec
     if !state.roles().contains(role) {
         return Err(Refusal::NoRole);
     }
-    users_above(alloc, state.order(), state.assignments(), role)
+    users_above(alloc, state.order(), state.assignments_by_role(), role)
 }
 
 /// AuthorizedRoles: the roles for which the user is authorized: those that it is assigned, and their

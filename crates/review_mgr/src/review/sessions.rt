@@ -55,7 +55,7 @@ pub fn session_permissions(
     permissions_reached(
         alloc,
         state.order(),
-        state.grants(),
+        state.grants_by_role(),
         &activated_in(state, &name),
     )
 }

@@ -21,8 +21,8 @@ pub record IsNumbering (numbers : Cardinalities) : Type 0 where
   pub below : (a : Bytes) (i : ℕ) → HasNumber numbers a i → i < len numbers
 
 -- each edge is one between numbers of names
-abbrev pub AreNamed : Cardinalities → Graph → Type 0
-AreNamed numbers graph = (i j : ℕ) → HasEdge graph i j → (a b : Bytes) × HasNumber numbers a i × HasNumber numbers b j
+abbrev pub AreNumbered : Cardinalities → Graph → Type 0
+AreNumbered numbers graph = (i j : ℕ) → HasEdge graph i j → (a b : Bytes) × HasNumber numbers a i × HasNumber numbers b j
 
 -- an edge leads from the number of a to the number of b
 abbrev pub HasNamedEdge : NumberedEdges → Bytes → Bytes → Type 0

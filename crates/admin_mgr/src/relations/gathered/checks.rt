@@ -66,8 +66,8 @@ impl StoredSets {
             Kind::Role => self.relations.roles.len() > limit,
             Kind::Object => self.relations.objects.len() > limit,
             Kind::Permission => self.relations.permissions.len() > limit,
-            Kind::Grant => self.relations.grants.len() > limit,
-            Kind::Assignment => self.relations.assignments.len() > limit,
+            Kind::Grant => self.large.grants.len() > limit,
+            Kind::Assignment => self.large.assignments.len() > limit,
             Kind::Edge => self.edges.len() > limit,
             Kind::SsdSet => self.relations.ssd_cardinalities.len() > limit,
             Kind::DsdSet => self.relations.dsd_cardinalities.len() > limit,
@@ -75,7 +75,7 @@ impl StoredSets {
                 has_more_with_first(&self.relations.ssd_members, limit)
                     || has_more_with_first(&self.relations.dsd_members, limit)
             }
-            Kind::Session => self.relations.sessions.len() > limit,
+            Kind::Session => self.large.sessions.len() > limit,
             Kind::ActiveRole => has_more_with_first(&self.relations.active, limit),
             Kind::Record | Kind::Byte => false,
         }
@@ -96,10 +96,10 @@ impl StoredSets {
         ensures { result ≡ is_core_complete self.now.facts }
     {
         are_firsts_in(&self.relations.objects, &self.relations.permissions)
-            && have_permissions(&self.relations.permissions, &self.relations.grants)
-            && have_roles(&self.relations.roles, &self.relations.grants)
-            && are_firsts_in(&self.relations.users, &self.relations.assignments)
-            && are_seconds_in(&self.relations.roles, &self.relations.assignments)
+            && have_permissions(&self.relations.permissions, &self.large.grants)
+            && have_roles(&self.relations.roles, &self.large.grants)
+            && are_firsts_in(&self.relations.users, &self.large.assignments)
+            && are_seconds_in(&self.relations.roles, &self.large.assignments)
             && are_among(&self.relations.locked, &self.relations.users)
     }
 
@@ -132,8 +132,8 @@ impl StoredSets {
     fn are_sessions_complete(&self) -> bool
         ensures { result ≡ are_sessions_complete self.now.facts }
     {
-        are_seconds_in(&self.relations.users, &self.relations.sessions)
-            && have_sessions(&self.relations.active, &self.relations.sessions)
+        are_seconds_in(&self.relations.users, &self.large.sessions)
+            && have_sessions(&self.relations.active, &self.large.sessions)
             && are_seconds_in(&self.relations.roles, &self.relations.active)
     }
 
@@ -142,7 +142,7 @@ impl StoredSets {
     fn have_one_user(&self) -> bool
         ensures { result ≡ have_one_user self.now.facts }
     {
-        let sessions = &self.relations.sessions;
+        let sessions = &self.large.sessions;
         sessions
             .iter()
             .all(|session| member_count(sessions, &session.0) <= 1)

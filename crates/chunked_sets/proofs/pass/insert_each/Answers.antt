@@ -1,7 +1,8 @@
-use Rattle.std.proofs.Common.{◌≡◌, [], sym, subst, arith}
+use Rattle.std.proofs.Common.{◌≡◌, ◌+◌, [], sym, subst, arith, vec_len, vec_capacity, deque_len}
 use Rattle.std.proofs.lemmas.List.{nil_from_length}
 use Rattle.chunked_sets.specs.Chunks.{entries_of}
 use Rattle.chunked_sets.proofs.Merges.{Remains, remains_first, remains_absent, remains_more, remains_none}
+use Rattle.chunked_sets.proofs.Rooms.{room_less}
 use Rattle.chunked_sets.proofs.pass.insert_each.Goals as goal
 
 pub loop-entry-init : goal.loop-entry-init
@@ -12,12 +13,9 @@ loop-entry-init g c =
       sorted = c.requires.sorted;
       remains = subst (Remains g.K.Ord.cmp first c.args.others.items first) (sym c.from_vec-rest.ensures.items)
           (remains_first g.met.K.Ord.total g.met.K.Entry.exact first c.args.others.items c.requires.others_sorted c.requires.disjoint);
-      room = omega arith;
-      len = omega arith;
-      capacity = omega arith;
+      few = c.requires.few;
       spare = c.requires.spare;
-      enough = omega arith;
-      spare_len = omega arith;
+      room = λ k room. room_less (k + deque_len c.from_vec-rest.result) (k + vec_len c.args.others) c.args.chunks.items (vec_capacity c.args.chunks) c.args.spare.now (omega arith) room;
     }
 
 pub insert_into-requires-clause-absent : goal.insert_into-requires-clause-absent
@@ -25,6 +23,13 @@ insert_into-requires-clause-absent g c =
     let now = entries_of c.loop-entry.all.items in
     remains_absent g.met.K.Ord.total g.met.K.Entry.exact (entries_of c.args.chunks.items) c.args.others.items now c.pop_front.new.self.items c.in-Some.entry
     (subst (Remains g.K.Ord.cmp (entries_of c.args.chunks.items) c.args.others.items now) c.in-Some.ensures.items c.loop-entry.invariant.remains)
+
+pub insert_into-requires-clause-room : goal.insert_into-requires-clause-room
+insert_into-requires-clause-room g c =
+    let all = c.args.others in
+    let now = c.loop-entry in
+    let left = now.invariant.room 0 (room_less (0 + vec_len all) (vec_len all) c.args.chunks.items (vec_capacity c.args.chunks) c.args.spare.now (omega arith) c.requires.room) in
+    room_less 1 (0 + deque_len now.rest) now.all.items (vec_capacity now.all) now.spare (omega (arith, c.in-Some.ensures.cases)) left
 
 pub loop-entry-preserved : goal.loop-entry-preserved
 loop-entry-preserved g c =
@@ -38,13 +43,16 @@ loop-entry-preserved g c =
       sorted = added.sorted;
       remains = remains_more g.met.K.Ord.total g.met.K.Entry.exact first c.args.others.items now (entries_of c.insert_into.new.chunks.items) c.pop_front.new.self.items c.in-Some.entry
           (subst (Remains g.K.Ord.cmp first c.args.others.items now) c.in-Some.ensures.items kept.remains) added.inserted added.entry_count;
-      room = omega (arith, shorter, kept.room, added.len, added.capacity);
-      len = omega (arith, shorter, kept.len, added.len);
-      capacity = omega (arith, kept.capacity, added.capacity);
+      few = added.few;
       spare = added.spare;
-      enough = omega (arith, shorter, kept.enough, added.spare_len);
-      spare_len = omega (arith, shorter, kept.spare_len, added.spare_len);
+      room = λ k room. added.room (k + deque_len c.pop_front.new.self) (room_less (k + deque_len c.pop_front.new.self + 1) (k + deque_len c.loop-entry.rest) c.loop-entry.all.items
+          (vec_capacity c.loop-entry.all) c.loop-entry.spare (omega (arith, shorter)) (kept.room k room));
     }
+
+pub returns-clause-room : goal.returns-clause-room
+returns-clause-room g c = λ k room.
+    let now = c.loop-entry in
+    room_less k (k + deque_len now.rest) now.all.items (vec_capacity now.all) now.spare (omega arith) (now.invariant.room k room)
 
 pub returns-clause-both : goal.returns-clause-both
 returns-clause-both g c =

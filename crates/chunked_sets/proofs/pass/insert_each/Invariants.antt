@@ -1,8 +1,9 @@
-use Rattle.std.proofs.Common.{◌+◌, ◌≤◌, vec_len, vec_capacity}
+use Rattle.std.proofs.Common.{ℕ, ◌+◌, ◌≤◌, ◌^◌, vec_len, vec_capacity}
 use Rattle.std.specs.VecDeque.{deque_len}
 use Rattle.std.specs.List.Sorted.{IsStrictlySortedBy}
 use Rattle.chunked_sets.specs.Chunks.{entries_of}
 use Rattle.chunked_sets.specs.private.Chunks.{AreChunks, AreSpare}
+use Rattle.chunked_sets.specs.private.Rooms.{HasRoom}
 use Rattle.chunked_sets.proofs.Merges.{Remains}
 use Rattle.chunked_sets.proofs.pass.insert_each.Given as goal
 
@@ -11,12 +12,9 @@ invariant-loop-entry g l = record {
   chunks : AreChunks l.all.items;
   sorted : IsStrictlySortedBy g.K.Ord.cmp (entries_of l.all.items);
   remains : Remains g.K.Ord.cmp (entries_of l.initial.all.items) l.fn.others.items (entries_of l.all.items) l.rest.items;
-  room : vec_len l.all + deque_len l.rest ≤ vec_capacity l.all;
-  len : vec_len l.all + deque_len l.rest ≤ vec_len l.initial.all + vec_len l.fn.others;
-  capacity : vec_capacity l.initial.all ≤ vec_capacity l.all;
+  few : vec_len l.all ≤ 2 ^ 56;
   spare : AreSpare l.spare.items;
-  enough : deque_len l.rest ≤ vec_len l.spare;
-  spare_len : vec_len l.initial.spare + deque_len l.rest ≤ vec_len l.spare + vec_len l.fn.others;
+  room : (k : ℕ) → HasRoom (k + vec_len l.fn.others) l.initial.all.items (vec_capacity l.initial.all) l.initial.spare → HasRoom (k + deque_len l.rest) l.all.items (vec_capacity l.all) l.spare;
 }
 
 abbrev pub decreases-loop-entry : goal.decreases-loop-entry

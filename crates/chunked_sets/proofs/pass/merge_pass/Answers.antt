@@ -1,12 +1,14 @@
-use Rattle.std.proofs.Common.{◌≡◌, [], drop, ap, sym, subst, ◌∙◌, arith}
+use Rattle.std.proofs.Common.{◌≡◌, ◌+◌, [], drop, ap, sym, subst, subst₂, ◌∙◌, arith, vec_len, vec_capacity, deque_len, deque_capacity}
 use Rattle.std.specs.List.Sorted.{IsStrictlySortedBy}
 use Rattle.std.proofs.lemmas.List.{nil_from_length}
 use Rattle.rbac_sets.specs.Sets.{from_list}
 use Rattle.chunked_sets.specs.Chunks.{entries_of}
 use Rattle.chunked_sets.specs.private.Chunks.{AreChunks}
+use Rattle.chunked_sets.specs.private.Rooms.{HasRoom}
 use Rattle.chunked_sets.specs.private.Passes.{in_order}
 use Rattle.chunked_sets.proofs.ChunkLists.{sorted_first}
 use Rattle.chunked_sets.proofs.Merges.{Remains, remains_first, remains_absent, remains_more, remains_none, passed_rest, each_trivial}
+use Rattle.chunked_sets.proofs.Rooms.{room_less}
 use Rattle.chunked_sets.proofs.pass.merge_pass.Goals as goal
 
 pub loop-entry-init : goal.loop-entry-init
@@ -23,12 +25,12 @@ loop-entry-init g c =
           (remains_first g.met.K.Ord.total g.met.K.Entry.exact first others c.requires.others_sorted c.requires.disjoint));
       passed = each_trivial g.K.Ord.cmp (entries_of (drop pass.ahead pass.ring.items)) c.from_vec-rest.result.items (ap entries_of c.start-pass.ensures.first);
       ahead = c.start-pass.ensures.ahead;
-      room = omega arith;
-      len = omega arith;
-      capacity = c.start-pass.ensures.capacity;
+      listed = omega (arith, c.args.chunks.ok);
+      few = omega arith;
       spare = c.requires.spare;
-      enough = omega arith;
-      spare_len = omega arith;
+      room = λ k room.
+          let less = room_less (k + deque_len c.from_vec-rest.result) (k + vec_len c.args.others) c.args.chunks.items (vec_capacity c.args.chunks) c.args.spare.now (omega arith) room in
+          subst₂ (λ l capacity. HasRoom (k + deque_len c.from_vec-rest.result) l capacity c.args.spare.now) (sym same) (sym c.start-pass.ensures.capacity) less;
     }
 
 pub put-requires-clause-absent : goal.put-requires-clause-absent
@@ -37,6 +39,14 @@ put-requires-clause-absent g c =
     let now = entries_of (in_order pass.ahead pass.ring.items pass.current) in
     remains_absent g.met.K.Ord.total g.met.K.Entry.exact (entries_of c.args.chunks.items) c.args.others.items now c.pop_front.new.self.items c.in-Some.entry
     (subst (Remains g.K.Ord.cmp (entries_of c.args.chunks.items) c.args.others.items now) c.in-Some.ensures.items c.loop-entry.invariant.remains)
+
+pub put-requires-clause-room : goal.put-requires-clause-room
+put-requires-clause-room g c =
+    let all = c.args.others in
+    let now = c.loop-entry in
+    let pass = now.pass in
+    let left = now.invariant.room 0 (room_less (0 + vec_len all) (vec_len all) c.args.chunks.items (vec_capacity c.args.chunks) c.args.spare.now (omega arith) c.requires.room) in
+    room_less 1 (0 + deque_len now.rest) (in_order pass.ahead pass.ring.items pass.current) (deque_capacity pass.ring) now.spare (omega (arith, c.in-Some.ensures.cases)) left
 
 pub loop-entry-preserved : goal.loop-entry-preserved
 loop-entry-preserved g c =
@@ -56,13 +66,19 @@ loop-entry-preserved g c =
           (entries_of (in_order new.ahead new.ring.items new.current)) rest c.in-Some.entry remains added.inserted added.entry_count;
       passed = passed_rest g.met.K.Ord.total (entries_of (drop new.ahead new.ring.items)) rest c.in-Some.entry added.passed (sorted_first g.K.Ord.cmp c.in-Some.entry rest remains.sorted);
       ahead = added.ahead;
-      room = omega (arith, shorter, kept.room, added.len, added.capacity);
-      len = omega (arith, shorter, kept.len, added.len);
-      capacity = added.capacity ∙ kept.capacity;
+      listed = added.listed;
+      few = added.few;
       spare = added.spare;
-      enough = omega (arith, shorter, kept.enough, added.spare_len);
-      spare_len = omega (arith, shorter, kept.spare_len, added.spare_len);
+      room = λ k room. added.room (k + deque_len c.pop_front.new.self) (room_less (k + deque_len c.pop_front.new.self + 1) (k + deque_len c.loop-entry.rest)
+          (in_order pass.ahead pass.ring.items pass.current) (deque_capacity pass.ring) c.loop-entry.spare (omega (arith, shorter)) (kept.room k room));
     }
+
+pub returns-clause-room : goal.returns-clause-room
+returns-clause-room g c = λ k room.
+    let now = c.loop-entry in
+    let pass = now.pass in
+    let left = room_less k (k + deque_len now.rest) (in_order pass.ahead pass.ring.items pass.current) (deque_capacity pass.ring) now.spare (omega arith) (now.invariant.room k room) in
+    subst₂ (λ l capacity. HasRoom k l capacity now.spare) (sym c.finish.ensures.same) (sym c.finish.ensures.capacity) left
 
 pub returns-clause-both : goal.returns-clause-both
 returns-clause-both g c =

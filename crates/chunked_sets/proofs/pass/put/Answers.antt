@@ -1,4 +1,4 @@
-use Rattle.std.proofs.Common.{◌≡◌, ◌<◌, ◌≤◌, ◌-◌, false, length, set, ap, sym, subst, ◌∙◌, arith, Global}
+use Rattle.std.proofs.Common.{◌≡◌, ◌<◌, ◌≤◌, ◌-◌, deque_capacity, false, length, set, ap, sym, subst, ◌∙◌, arith, Global}
 use Rattle.std.specs.Vec.{vec_len, vec_capacity}
 use Rattle.std.specs.declared.vec.Vec.{Vec}
 use Rattle.std.specs.List.Sorted.{IsStrictlySortedBy}
@@ -9,7 +9,9 @@ use Rattle.chunked_sets.specs.private.Chunks.{AreChunks}
 use Rattle.chunked_sets.specs.private.Passes.{in_order}
 use Rattle.chunked_sets.proofs.ChunkLists.{each_of, all_of, each_set}
 use Rattle.chunked_sets.proofs.Inserting.{inserts_sorted, inserts_set, inserts_put, sorted_chunk, absent_chunk}
-use Rattle.chunked_sets.proofs.Passing.{order_get, order_set, order_within}
+use Rattle.chunked_sets.specs.private.Growth.{GrowsBy}
+use Rattle.chunked_sets.proofs.Rooms.{Leaves, grows_on, grows_set, room_after}
+use Rattle.chunked_sets.proofs.Passing.{order_get, order_set, order_within, order_length}
 use Rattle.chunked_sets.proofs.pass.put.Goals as goal
 
 pub place-requires : goal.place-requires
@@ -101,3 +103,33 @@ returns-clause-inserted g c =
     let inserts = inserts_put order at v within there g.K.Ord.cmp c.args.entry w _ c.make_space.ensures.home gap.0 gap.1 (rw c.unwrap.ensures at c.insert.ensures.items) in
     ap (λ l. from_list {R = g.K.Ord.cmp} (entries_of l)) (sym (order_set ring pass.ahead v le w)) ∙ inserts_set g.met.K.Ord.total g.met.K.Entry.exact c.args.entry _ _ inserts
     ∙ ap (λ l. insert (from_list {R = g.K.Ord.cmp} l) c.args.entry) c.make_space.ensures.same
+
+pub returns-clause-room : goal.returns-clause-room
+returns-clause-room g c =
+    let first = c.args.pass.now in
+    let old = in_order first.ahead first.ring.items first.current in
+    let made = c.make_space.ensures in
+    let pass = c.make_space.new.pass in
+    let ring = pass.ring.items in
+    let order = in_order pass.ahead ring pass.current in
+    let at = length ring - pass.ahead in
+    let v = pass.current in
+    let le : pass.ahead ≤ length ring = omega (arith, made.ahead, pass.ring.ok.0) in
+    let le_first : first.ahead ≤ length first.ring.items = omega (arith, c.requires.ahead, first.ring.ok.0) in
+    let there = sym (order_get ring pass.ahead v le v) in
+    let within = order_within ring pass.ahead v le in
+    let w = c.insert.new.self in
+    let new = in_order pass.ahead ring w in
+    let longer = rw c.unwrap.ensures at c.insert.ensures.len in
+    let more = subst (GrowsBy 1 order) (order_set ring pass.ahead v le w) (grows_set 1 order at v w within there (omega (arith, longer))) in
+    let before = order_length first.ring.items first.ahead first.current le_first in
+    let after = order_length ring pass.ahead w le in
+    let step : Leaves 1 old new (deque_capacity first.ring) (deque_capacity pass.ring) c.args.spare.now c.make_space.new.spare = record {
+      grows = grows_on 1 old order new made.weight more;
+      len = omega (arith, before, after, made.len, first.ring.ok.0, pass.ring.ok.0);
+      listed = omega (arith, made.capacity);
+      spare_len = omega (arith, made.total, made.len);
+      total = omega (arith, before, after, made.total, first.ring.ok.0, pass.ring.ok.0);
+      kept = omega (arith, made.spare_capacity);
+    } in
+    room_after step

@@ -1,26 +1,32 @@
-use Rattle.std.proofs.Common.{◌≡◌, Bool, not, ap, sym, ◌∙◌, ◌++◌, ◌∷◌, []}
-use Rattle.std.specs.Prelude.{nat_lt}
-use Rattle.rbac_sets.specs.Sets.{Bytes, Cardinality, pair_cmp}
+use Rattle.std.proofs.Common.{◌≡◌, ◌++◌, ◌∷◌, [], sym, subst, ◌∙◌, ap}
+use Rattle.std.specs.Prelude.{IfOk}
+use Rattle.std.specs.List.Sorted.{IsStrictlySortedBy}
+use Rattle.rbac_sets.specs.Sets.{members, name_cmp, pair_cmp}
 use Rattle.rbac_sets.specs.SortedSet.{set_of}
-use Rattle.admin_mgr.specs.private.HolderRoles.{reached_with, run_of}
-use Rattle.explanations.proofs.KeptNames.{kept_all, kept_more, kept_same}
+use Rattle.rbac_sets.proofs.Members.{members-rise}
+use Rattle.order_matrix.specs.Table.{number_in, numbers_of, table_of}
+use Rattle.explanations.specs.private.Numbered.{numbered_violated}
+use Rattle.explanations.proofs.NumberedHolders.{violated_is}
 use Rattle.explanations.proofs.conflicts.violated_with.Goals as goal
-use Rattle.explanations.proofs.conflicts.violated_with.Goals.{then-has_too_many_with+in_ok-copy+in_ok-push, else-has_too_many_with}
 
-pub loop-set-preserved : goal.loop-set-preserved
-loop-set-preserved c =
-    let test : Cardinality → Bool = λ entry. not (nat_lt (reached_with c.args.order.now.edges c.args.held.now c.args.more.now (run_of (set_of pair_cmp c.args.members.now) entry.0)) entry.1) in
-    let tested : c.has_too_many_with.result ≡ test c.set-item.result =
-    c.has_too_many_with.ensures ∙ ap (λ members. not (nat_lt (reached_with c.args.order.now.edges c.args.held.now c.args.more.now members) c.set-item.result.1)) c.with_first.ensures in
-    elim c.if-has_too_many_with.branch [
-      | then-has_too_many_with+in_ok-copy+in_ok-push w ↦ rw w.names-is (
-          kept_more (λ (entry : Cardinality). entry.0) test c.args.sets.now c.loop-set.set-index c.set-item.result c.loop-set-test.true c.set-item.is c.loop-set.names.items c.loop-set.invariant
-          (sym tested ∙ w.if-has_too_many_with.true) w.push.new.self.items
-          (w.in_ok-push.ensures.items ∙ ap (λ (name : Bytes). c.loop-set.names.items ++ name ∷ []) w.in_ok-copy.ensures.ok))
-      | else-has_too_many_with w ↦ rw w.names-is (
-          kept_same (λ (entry : Cardinality). entry.0) test c.args.sets.now c.loop-set.set-index c.set-item.result c.loop-set-test.true c.set-item.is c.loop-set.names.items c.loop-set.invariant
-          (sym tested ∙ w.if-has_too_many_with.false))
-    ]
+pub number-requires : goal.number-requires
+number-requires c = subst (IsStrictlySortedBy name_cmp) (sym c.as_slice-roles.ensures) (members-rise name_cmp _)
+
+pub numbers_with-requires : goal.numbers_with-requires
+numbers_with-requires c = subst (IsStrictlySortedBy name_cmp) (sym c.as_slice-roles.ensures) (members-rise name_cmp _)
+
+pub numbered_violated-requires : goal.numbered_violated-requires
+numbered_violated-requires c = subst (IsStrictlySortedBy name_cmp) (sym c.as_slice-roles.ensures) (members-rise name_cmp _)
 
 pub returns-clause-ok : goal.returns-clause-ok
-returns-clause-ok c = kept_all (λ (entry : Cardinality). entry.0) _ c.args.sets.now c.loop-set.set-index c.loop-set.names.items c.loop-set.invariant c.loop-set-test.false
+returns-clause-ok c =
+    let S = c.args.state.now.facts in
+    let pairs = set_of pair_cmp c.args.members.now in
+    let roles = c.as_slice-roles.ensures ∙ ap members c.roles.ensures in
+    let more = c.number.ensures.number ∙ ap (λ names. number_in names c.args.more.now) roles in
+    let table = c.in_ok-table.ensures.ok ∙ (λ i. table_of (c.order.ensures i) (roles i)) in
+    let numbers = c.deref.ensures.value ∙ c.in_ok-numbers.ensures.ok ∙ (λ i. numbers_of (roles i) c.args.held.now ++ more i ∷ []) in
+    subst (λ names. IfOk c.numbered_violated.result (λ found. found.items ≡ names))
+    ((λ i. numbered_violated c.in_ok-table.table (roles i) (numbers i) pairs c.args.sets.now)
+    ∙ violated_is S.roles S.edges c.in_ok-table.table table c.args.more.now c.requires.more c.args.held.now c.requires.held pairs c.requires.members c.args.sets.now)
+    c.numbered_violated.ensures.ok

@@ -7,5 +7,5 @@ use Rattle.review_mgr.specs.private.Intersection.{meets}
 use Rattle.review_mgr.proofs.intersection.is_granted_to_junior.Given as goal
 
 abbrev pub invariant-loop-pair : goal.invariant-loop-pair
-invariant-loop-pair l =
-    list_any (λ (pair : Pair). meets (run_of (set_of pair_cmp l.pairs) pair.1) l.grants) l.held ≡ list_any (λ (pair : Pair). meets (run_of (set_of pair_cmp l.pairs) pair.1) l.grants) (drop l.pair-index l.held)
+invariant-loop-pair g l =
+    list_any (λ (pair : Pair). meets (run_of (set_of pair_cmp (g.P.EntrySet.stored l.pairs)) pair.1) l.grants) l.held ≡ list_any (λ (pair : Pair). meets (run_of (set_of pair_cmp (g.P.EntrySet.stored l.pairs)) pair.1) l.grants) (drop l.pair-index l.held)

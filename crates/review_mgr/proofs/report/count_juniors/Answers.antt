@@ -7,5 +7,5 @@ use Rattle.review_mgr.proofs.report.count_juniors.Goals as goal
 
 pub returns : goal.returns
 returns c =
-    ap length c.with_first.ensures ∙ length-juniors c.order.result.now.edges (set_of pair_cmp c.pairs.result.now) c.pairs.ensures c.args.role.now
+    c.len.ensures ∙ ap length c.entries_with_first.ensures ∙ length-juniors c.order.result.now.edges (set_of pair_cmp c.pairs.result.now) c.pairs.ensures c.args.role.now
     ∙ ap (λ (edges : Pairs). len (juniors edges c.args.role.now)) c.order.ensures

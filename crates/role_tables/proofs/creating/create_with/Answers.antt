@@ -51,3 +51,9 @@ returns-in-Err-clause-crash g c clean =
     first_stage c.version-version.result (state g.S.Store c.args.conn).now c.version-version.ensures.known (rw (← version) at may) (c.schema.ensures.live is_open).0 in
     let empty : empty_state c.version-version.result ≡ c.args.first.facts = ap empty_state version ∙ sym c.requires.empty in
     subst (LeavesBeforeOr (state g.S.Store c.args.conn) (state g.S.Store c.create_office.new.conn)) empty (c.in-Err.ensures.made clean stage).left
+
+pub returns-in-Err-clause-untouched : goal.returns-in-Err-clause-untouched
+returns-in-Err-clause-untouched g c refuses =
+    let autocommit : (state g.S.Store c.args.conn).in_transaction ≡ false = is_outside _ _ c.is_autocommit.ensures.value c.if-not-is_autocommit.false in
+    let may : may_create c.args.first.facts.version (state g.S.Store c.args.conn).now.schema ≡ true = search rules in
+    absurd (refuses (autocommit, may))

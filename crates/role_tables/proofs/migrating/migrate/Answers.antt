@@ -8,7 +8,7 @@ use Rattle.admin_mgr.specs.OfficeRun.{migrated_to_version_2}
 use Rattle.role_tables.specs.Migration.{IsMigratedFrom}
 use Rattle.role_tables.specs.Durability.{IsDurable}
 use Rattle.admin_mgr.proofs.StateAfter.MigratedLaws.{migrated_named}
-use Rattle.role_tables.proofs.Runs.{begins}
+use Rattle.role_tables.proofs.Runs.{begins, is_outside}
 use Rattle.role_tables.proofs.migrating.migrate.Goals as goal
 
 pub returns-in-Ok-clause-ok : goal.returns-in-Ok-clause-ok
@@ -17,7 +17,7 @@ returns-in-Ok-clause-ok g c =
     let same : c.migrate_state.new.conn ≡ c.new.result.conn = search rules in
     let old = state g.S.Store c.args.conn in (
       c.new.ensures.2,
-      search rules,
+      is_outside _ _ c.is_autocommit.ensures.value c.if-not-is_autocommit.false,
       subst (λ h. HasCleanDisk (state g.S.Store h) → IsMigratedFrom old.now c.new.result.facts) same
           (λ clean. let got = c.in-Ok.ensures.found clean in (got.0, got.1, got.2, got.3, facts ∙ got.4)),
     )

@@ -1,4 +1,4 @@
-use Rattle.std.proofs.Common.{rules, ◌≡◌, inl, inr, true, Err, IfErr, refl, sym, ap, subst, ◌∙◌}
+use Rattle.std.proofs.Common.{rules, ◌≡◌, inl, inr, true, Err, IfErr, sym, ap, subst, ◌∙◌}
 use Rattle.sqlite.specs.Effect.{Database}
 use Rattle.sqlite.specs.Held.{state}
 use Rattle.admin_mgr.specs.RbacState.{RbacState}
@@ -67,7 +67,7 @@ returns-in-Err-clause-unmoved g c clean before good named stands =
     let may : may_lock mid.now.schema ≡ true = search rules in
     let here = stays_durable old mid before was c.read_state.ensures.survives got.1 stands in
     let undone = (c.in-Err.ensures.written clean before one good may here).undone in
-    ((λ is_open. undone is_open ∙ got.1.0.now_is), (λ other. absurd (other refl)))
+    ((λ is_open. undone is_open ∙ got.1.0.now_is), (λ other. absurd (other c.give_up-in-Err.ensures)))
 
 pub returns-in_err-first-clause-err : goal.returns-in_err-first-clause-err
 returns-in_err-first-clause-err g c clean none =

@@ -13,13 +13,13 @@ use Rattle.access_index.proofs.LevelLaws.{set_bars, set_counts}
 use Rattle.access_index.proofs.index.AccessIndex.barred_by.Goals as goal
 
 pub returns-in-Some-clause-ok : goal.returns-in-Some-clause-ok
-returns-in-Some-clause-ok c =
+returns-in-Some-clause-ok c n =
     let index = c.args.self.now in
     let S = c.args.state.now.facts in
     let set = c.args.set.now in
     let at = ap (get_by_text index.by_set) (sym c.as_str.ensures.text) ∙ sym c.in-Some.ensures.value in
-    set_counts index S c.requires.indexes c.requires.good set c.requires.set c.in-Some.row.now
-    (subst (λ o. IfSome o (λ row. Follow (Unit {0}) (number_of index) (is_used index) (λ _. has row) (λ _. is_barred_by S set.0))) at (c.requires.indexes.barred_by set.0))
+    c.in_ok-copy.ensures n ∙ set_counts index S c.requires.indexes c.requires.good set c.requires.set c.in-Some.row.now
+    (subst (λ o. IfSome o (λ row. Follow (Unit {0}) (number_of index) (is_used index) (λ _. has row) (λ _. is_barred_by S set.0))) at (c.requires.indexes.barred_by set.0)) n
 
 pub with_members-requires-clause-some : goal.with_members-requires-clause-some
 with_members-requires-clause-some c =

@@ -1,4 +1,7 @@
 use Rattle.std.proofs.Common.{inl, inr, refl, sym, ◌∙◌}
+use Rattle.std.specs.Prelude.{None}
+use Rattle.bit_tables.specs.Tables.{holds, holds_without}
+use Rattle.access_index.proofs.RowLaws.{and_true}
 use Rattle.access_index.proofs.FindLaws.{decision, not_active, not_granted}
 use Rattle.access_index.proofs.index.AccessIndex.find.Goals as goal
 
@@ -20,7 +23,8 @@ returns-then-is_empty-2-clause-none c S keeps =
 
 pub returns-clause-found : goal.returns-clause-found
 returns-clause-found c S good keeps =
+    let granted = c.in-Some-row.granted.now in
     let some_active = c.if-is_empty.ensures.some refl in
     let some_granted = c.if-is_empty-2.ensures.some refl in
-    decision c.args.self.now S keeps c.args.session.now c.args.operation.now c.args.object.now c.in-Some.active c.in-Some-row.granted
-    c.in-Some.ensures.some c.in-Some-row.ensures.some good some_active.0 some_granted.0 some_active.1 some_granted.1 c.reaches.result c.reaches.ensures.0 c.reaches.ensures.1
+    decision c.args.self.now S keeps c.args.session.now c.args.operation.now c.args.object.now (holds c.in-Some.active.now) (holds_without granted None)
+    c.in-Some.ensures.some (λ n. and_true (holds granted n) ∙ c.in-Some-row.ensures.some n) good some_active.0 some_granted.0 some_active.1 (and_true (holds granted some_granted.0) ∙ some_granted.1) c.reaches.result c.reaches.ensures.0 c.reaches.ensures.1

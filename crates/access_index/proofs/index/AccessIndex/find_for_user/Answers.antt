@@ -1,6 +1,7 @@
 use Rattle.std.proofs.Common.{not, inl, inr, refl, sym, ◌∙◌, subst}
 use Rattle.std.specs.Prelude.{IfSome}
 use Rattle.bit_rows.specs.Rows.{has}
+use Rattle.bit_tables.specs.Tables.{holds}
 use Rattle.admin_mgr.specs.UserAccess.{stands_alone}
 use Rattle.access_index.specs.Following.{Follow}
 use Rattle.access_index.specs.Index.{is_used, number_of, rows_of}
@@ -28,6 +29,6 @@ pub returns-clause-found : goal.returns-clause-found
 returns-clause-found c S good keeps =
     let some_assigned = c.if-is_empty.ensures.some refl in
     let some_granted = c.if-is_empty-2.ensures.some refl in
-    user_decision c.args.self.now S keeps c.args.user.now c.args.operation.now c.args.object.now c.in-Some-row.assigned c.in-Some-row-2.roles c.in-Some.barred c.difference-usable.result
-    c.in-Some-row.ensures.some c.in-Some-row-2.ensures.some (subst (λ row. IfSome row (λ r. Follow (Unit {0}) (number_of c.args.self.now) (is_used c.args.self.now) (λ _. has r) (λ _ role. not (stands_alone S role)))) c.in-Some.is keeps.barred) c.difference-usable.ensures
+    user_decision c.args.self.now S keeps c.args.user.now c.args.operation.now c.args.object.now (holds c.in-Some-row.assigned.now) (holds c.in-Some-row-2.roles.now) (has c.in-Some.barred)
+    c.in-Some-row.ensures.some c.in-Some-row-2.ensures.some (subst (λ row. IfSome row (λ r. Follow (Unit {0}) (number_of c.args.self.now) (is_used c.args.self.now) (λ _. has r) (λ _ role. not (stands_alone S role)))) c.in-Some.is keeps.barred)
     good some_assigned.0 some_granted.0 some_assigned.1 some_granted.1 c.user_reaches.result (c.user_reaches.ensures (rows_of S) keeps).0 (c.user_reaches.ensures (rows_of S) keeps).1

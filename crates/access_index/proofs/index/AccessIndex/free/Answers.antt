@@ -6,9 +6,6 @@ use Rattle.access_index.proofs.FollowLaws.{numbers_less}
 use Rattle.access_index.proofs.IndexLaws.{keeps_freed}
 use Rattle.access_index.proofs.index.AccessIndex.free.Goals as goal
 
-pub take-requires-in-Some : goal.take-requires-in-Some
-take-requires-in-Some c = c.requires.within c.args.role.now c.in-Some.number (sym c.number.ensures ∙ c.in-Some.is)
-
 pub returns-in-Some-clause-numbers : goal.returns-in-Some-clause-numbers
 returns-in-Some-clause-numbers c =
     let role = c.args.role.now in

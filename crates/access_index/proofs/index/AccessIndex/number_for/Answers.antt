@@ -14,7 +14,7 @@ returns-clause-keeps c rows keeps =
     let found = c.in-Some-first_absent.ensures.some in
     let changed = c.in_ok-put.ensures.put in
     keeps_numbered c.args.self.now _ rows keeps role c.in-Some-first_absent.number (sym c.number.ensures ∙ c.in_default.is) found.1 found.0 (updated_here old new role w changed) (updated_other old new role w changed)
-    c.put-2.ensures.there c.put-2.ensures.others refl refl refl refl refl refl refl refl
+    c.in_ok-put-2.ensures.there c.put-2.ensures.others refl refl refl refl refl refl refl refl
 
 pub returns-clause-others : goal.returns-clause-others
 returns-clause-others c other n is =

@@ -1,14 +1,11 @@
 use Rattle.std.proofs.Common.{◌∷◌, [], ◌∙◌, ap, refl}
-use Rattle.std.specs.Prelude.{filter}
-use Rattle.rbac_sets.specs.Sets.{Pair, Triple, members, same_name}
 use Rattle.rbac_sets.specs.declared.command.Command.TheVariants.{DeleteRole}
 use Rattle.rbac_sets.specs.declared.row.Row.TheVariants.{NameRow}
-use Rattle.rbac_sets.specs.declared.row.TheConstants.Row.{ROLE, ASSIGNMENT}
+use Rattle.rbac_sets.specs.declared.row.TheConstants.Row.{ROLE}
 use Rattle.rbac_sets.specs.declared.row.Change.TheVariants.{Take}
 use Rattle.admin_mgr.specs.Assignment.{end_sessions}
 use Rattle.admin_mgr.specs.Run.{tally}
 use Rattle.admin_mgr.specs.After.{changed, after}
-use Rattle.admin_mgr.specs.private.PlanChanges.{pair_row, grant_row, take_all}
 use Rattle.admin_mgr.proofs.PlanRows.ListLaws.{listed_then}
 use Rattle.admin_mgr.proofs.PlanRows.PlanLaws.{plan_of}
 use Rattle.admin_mgr.proofs.StateAfter.RemovalLaws.{good_after_delete_role}
@@ -20,10 +17,8 @@ unfolding after changed end_sessions tally
 returns-clause-planned c =
     let S = c.args.state.now.facts in
     let taken = listed_then c.in_ok-take.ensures.ok c.new-changes.ensures.items (λ i. Take ((c.role.ensures ∙ ap (NameRow ROLE) c.in_ok-copy.ensures.ok) i) ∷ []) in
-    let deassigned = listed_then c.in_ok-take_pairs_with_second.ensures.ok taken
-    (λ i. take_all (pair_row ASSIGNMENT) (filter (λ (pair : Pair). same_name pair.1 c.args.role.now) ((c.as_run.ensures ∙ ap members c.assignments.ensures) i))) in
-    let revoked = listed_then c.in_ok-take_grants_of_role.ensures.ok deassigned
-    (λ i. take_all grant_row (filter (λ (grant : Triple). same_name grant.2 c.args.role.now) ((c.as_run-2.ensures ∙ ap members c.grants.ensures) i))) in
+    let deassigned = listed_then c.in_ok-take_assignments_of_role.ensures.ok taken refl in
+    let revoked = listed_then c.in_ok-take_grants_of_role.ensures.ok deassigned refl in
     plan_of S (DeleteRole c.args.role.now) c.plain.result _ refl
     (c.plain.ensures.changes ∙ listed_then c.in_ok-take_ended.ensures.ok revoked refl)
     c.plain.ensures.report

@@ -1,9 +1,6 @@
 use Rattle.std.proofs.Common.{arith}
-use Rattle.bit_rows.proofs.RowLaws.{absent_here, has_other}
+use Rattle.bit_rows.proofs.RowLaws.{absent_past}
 use Rattle.bit_rows.proofs.row.BitRow.take.Goals as goal
 
-pub returns-clause-gone : goal.returns-clause-gone
-returns-clause-gone c = absent_here c.args.self.now.words c.args.number c.without.result (omega arith) c.without.ensures.gone
-
-pub returns-clause-others : goal.returns-clause-others
-returns-clause-others c = has_other c.args.self.now.words c.args.number c.without.result (omega arith) (λ i low differ. c.without.ensures.others i low differ)
+pub returns-else-number-len-clause-gone : goal.returns-else-number-len-clause-gone
+returns-else-number-len-clause-gone c = absent_past c.args.self.now.words.items c.args.number (omega (arith, c.len.ensures))

@@ -4,6 +4,7 @@ use Rattle.std.specs.declared.vec.Vec.{Vec}
 use Rattle.rbac_sets.specs.Sets.{from_list}
 use Rattle.chunked_sets.specs.Chunks.{entries_of}
 use Rattle.chunked_sets.proofs.ChunkLists.{sorted_nil}
+use Rattle.chunked_sets.proofs.Rooms.{room_none}
 use Rattle.chunked_sets.proofs.Sets.{none_in}
 use Rattle.chunked_sets.proofs.chunked_set.ChunkedSet.new.Goals as goal
 
@@ -14,6 +15,7 @@ invariant_of-result g c = (
   rw c.new.ensures.items (sorted_nil g.K.Ord.cmp),
   sym (ap (λ chunks. length (entries_of chunks)) c.new.ensures.items),
   omega (arith, c.new.ensures.len),
+  room_none c.new.result.items (vec_capacity c.new.result) c.new-2.result (omega (arith, ap length c.new.ensures.items)) (omega (arith, ap length c.new.ensures.items)),
 )
 
 pub returns : goal.returns

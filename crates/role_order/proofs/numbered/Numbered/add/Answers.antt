@@ -4,7 +4,7 @@ use Rattle.rbac_sets.specs.SortedSet.{set_of}
 use Rattle.reach_bits.specs.Graph.{HasEdge}
 use Rattle.reach_bits.specs.Graph.{Leads as NumbersLead}
 use Rattle.role_order.specs.NumberedEdges.{NumberedEdges}
-use Rattle.role_order.specs.private.Numbered.{HasNumber, HasNamedEdge, IsNumbering, AreNamed}
+use Rattle.role_order.specs.private.Numbered.{HasNumber, HasNamedEdge, IsNumbering, AreNumbered}
 use Rattle.role_order.proofs.Leading.{Leads-mono}
 use Rattle.role_order.proofs.Numbering.{names_lead, named_added}
 use Rattle.role_order.proofs.numbered.Numbered.add.Goals as goal
@@ -13,7 +13,7 @@ pub add-requires-clause-acyclic : goal.add-requires-clause-acyclic
 add-requires-clause-acyclic c =
     let edges : NumberedEdges = c.give_number-to.new.self in
     let good : IsNumbering edges.numbers = subst (λ (e : NumberedEdges). IsNumbering e.numbers) c.self.view_is c.self.invariant.0 in
-    let named : AreNamed edges.numbers edges.graph = subst (λ (e : NumberedEdges). AreNamed e.numbers e.graph) c.self.view_is c.self.invariant.1 in
+    let named : AreNumbered edges.numbers edges.graph = subst (λ (e : NumberedEdges). AreNumbered e.numbers e.graph) c.self.view_is c.self.invariant.1 in
     let from = c.give_number-to.ensures.others c.args.asc c.give_number-from.result c.give_number-from.ensures.number in
     let none = λ (way : NumbersLead (HasEdge edges.graph) c.give_number-to.result c.give_number-from.result).
     c.requires.acyclic (Leads-mono (HasNamedEdge edges) (HasNamedEdge c.args.self.now) (λ a b e. (c.give_number-from.ensures.same a b).0 ((c.give_number-to.ensures.same a b).0 e))

@@ -1,10 +1,11 @@
-use Rattle.std.proofs.Common.{◌≡◌, ◌∙◌, refl, sym, ap, subst}
-use Rattle.rbac_sets.specs.Sets.{Pair, Pairs, pair_cmp, insert, union, difference, IsDisjoint}
+use Rattle.std.proofs.Common.{◌≡◌, ◌∙◌, ◌≤◌, length, refl, sym, ap, subst, arith}
+use Rattle.rbac_sets.specs.Sets.{Pair, Pairs, pair_cmp, insert, IsDisjoint, len, members}
 use Rattle.rbac_sets.specs.SortedSet.{set_of}
+use Rattle.rbac_sets.proofs.Members.{len-members}
 use Rattle.role_order.specs.Order.{IsClosure}
 use Rattle.role_order.specs.Planned.{Order, Plan, Fits, changed}
 use Rattle.role_order.proofs.Members.{disjoint-from}
-use Rattle.role_order.proofs.Planning.{gained_apart, good_after, changed-adds, changed-takes}
+use Rattle.role_order.proofs.Planning.{entries_are, stored_after, gained_apart, good_after, changed-adds, changed-takes}
 use Rattle.role_order.proofs.Numbering.{added_apart, AreEdgesOf-added, AreEdgesOf-removed}
 use Rattle.role_order.proofs.order.RoleOrder.commit.Goals as goal
 
@@ -13,8 +14,16 @@ merge_reserved-requires-clause-disjoint c =
     let old : Pairs = c.args.self.now.edges in
     let pairs : Pairs = set_of pair_cmp c.self.inside.pairs in
     let closed : IsClosure old pairs = subst (λ (o : Order). IsClosure o.edges pairs) c.self.view_is c.self.invariant.1 in
-    subst (λ (p : Plan). IsDisjoint pairs p.puts) (sym c.plan.view_is)
-    (disjoint-from pairs c.args.plan.puts (gained_apart old (changed old c.args.plan) pairs c.args.plan.puts closed c.requires.fits.puts))
+    subst (IsDisjoint pairs) (sym (entries_are (set_of pair_cmp c.plan.inside.puts) c.into_entries.result.items c.into_entries.ensures.entries))
+    (subst (λ (p : Plan). IsDisjoint pairs p.puts) (sym c.plan.view_is)
+    (disjoint-from pairs c.args.plan.puts (gained_apart old (changed old c.args.plan) pairs c.args.plan.puts closed c.requires.fits.puts)))
+
+pub merge_reserved-requires-clause-room : goal.merge_reserved-requires-clause-room
+merge_reserved-requires-clause-room c =
+    let room : len c.args.plan.puts ≤ c.self.inside.pairs.room = subst (λ (o : Order). len c.args.plan.puts ≤ o.pair_room) (sym c.self.view_is) c.requires.room.pairs in
+    let count : len (set_of pair_cmp c.plan.inside.puts) ≤ c.self.inside.pairs.room = subst (λ (p : Plan). len p.puts ≤ c.self.inside.pairs.room) (sym c.plan.view_is) room in
+    let items : length c.into_entries.result.items ≡ length (members (set_of pair_cmp c.plan.inside.puts)) = ap length c.into_entries.ensures.entries in
+    omega (arith, count, items, len-members (set_of pair_cmp c.plan.inside.puts))
 
 pub add-requires-clause-apart : goal.add-requires-clause-apart
 add-requires-clause-apart c =
@@ -59,10 +68,11 @@ invariant_of-self c =
       takes = set_of pair_cmp c.plan.inside.takes;
       judged = c.plan.inside.judged;
     } in
-    let good = good_after old pairs c.args.plan (set_of pair_cmp c.insert_reserved.new.self) (set_of pair_cmp c.take_all.new.self) c.requires.fits closed
+    let good = good_after old pairs c.args.plan (set_of pair_cmp c.insert_reserved.new.self) (set_of pair_cmp c.release.new.self) c.requires.fits closed
     (c.insert_reserved.ensures.inserted ∙ sym (changed-adds (set_of pair_cmp c.self.inside.edges) shown c.plan.inside.asc c.plan.inside.desc c.if-adds.true refl refl)
     ∙ (λ i. changed ((c.self.view_is i).edges) (c.plan.view_is i)))
-    (c.take_all.ensures.taken ∙ (λ i. difference (c.merge_reserved.ensures.merged i) ((c.plan.view_is i).takes)) ∙ (λ i. difference (union pairs ((c.plan.view_is i).puts)) c.args.plan.takes)) in
+    (stored_after pairs _ _ _ _ _ _ _ c.args.plan c.into_entries.ensures.entries c.as_slice.ensures (λ i. (c.plan.view_is i).puts) (λ i. (c.plan.view_is i).takes)
+    c.merge_reserved.ensures.merged c.take_all.ensures.taken c.release.ensures.keeps) in
     let ends : c.plan.inside.ends ≡ (c.plan.inside.asc, c.plan.inside.desc) = c.plan.invariant in (
       good.0,
       good.1,
@@ -83,10 +93,11 @@ invariant_of-self-else-adds c =
       takes = set_of pair_cmp c.plan.inside.takes;
       judged = c.plan.inside.judged;
     } in
-    let good = good_after old pairs c.args.plan (set_of pair_cmp c.remove-else-adds.new.self) (set_of pair_cmp c.take_all.new.self) c.requires.fits closed
+    let good = good_after old pairs c.args.plan (set_of pair_cmp c.remove-else-adds.new.self) (set_of pair_cmp c.release.new.self) c.requires.fits closed
     (c.remove-else-adds.ensures.removed ∙ sym (changed-takes (set_of pair_cmp c.self.inside.edges) shown c.plan.inside.asc c.plan.inside.desc c.if-adds.false refl refl)
     ∙ (λ i. changed ((c.self.view_is i).edges) (c.plan.view_is i)))
-    (c.take_all.ensures.taken ∙ (λ i. difference (c.merge_reserved.ensures.merged i) ((c.plan.view_is i).takes)) ∙ (λ i. difference (union pairs ((c.plan.view_is i).puts)) c.args.plan.takes)) in (
+    (stored_after pairs _ _ _ _ _ _ _ c.args.plan c.into_entries.ensures.entries c.as_slice.ensures (λ i. (c.plan.view_is i).puts) (λ i. (c.plan.view_is i).takes)
+    c.merge_reserved.ensures.merged c.take_all.ensures.taken c.release.ensures.keeps) in (
       good.0,
       good.1,
       AreEdgesOf-removed c.self.inside.numbered c.remove.new.self (set_of pair_cmp c.self.inside.edges) (set_of pair_cmp c.remove-else-adds.new.self) c.plan.inside.asc c.plan.inside.desc c.self.invariant.2

@@ -1,65 +1,42 @@
-use Rattle.std.proofs.Common.{◌≡◌, ◌∙◌, false, List, refl, sym, ap, subst}
-use Rattle.std.specs.Prelude.{Contains}
-use Rattle.std.specs.List.{IsDistinct}
-use Rattle.rbac_sets.specs.Sets.{Bytes, Pairs, pair_cmp, remove, same_name}
+use Rattle.std.proofs.Common.{◌∙◌, false, refl, sym, subst}
+use Rattle.rbac_sets.specs.Sets.{Bytes, Names, Pairs, name_cmp, pair_cmp, remove}
 use Rattle.rbac_sets.specs.SortedSet.{set_of}
-use Rattle.role_order.specs.Order.{IsAcyclic, IsClosure, IsGained}
+use Rattle.role_order.specs.Order.{HasPair, IsAcyclic, IsGained}
 use Rattle.role_order.specs.Planned.{IsOrderPlanOf, Order, Plan}
-use Rattle.role_order.specs.private.Removal.{AreJuniorsFirst}
+use Rattle.role_order.specs.private.Numbered.{AreEdgesOf}
 use Rattle.role_order.proofs.Planning.{Fits-taken, judged_are}
-use Rattle.role_order.proofs.Removing.{IsGained-lost}
-use Rattle.role_order.proofs.Ranking.{AreJuniorsFirst-from_counts}
+use Rattle.role_order.proofs.Removing.{IsGained-missing}
+use Rattle.role_order.proofs.Numbering.{AreEdgesOf-copied, AreEdgesOf-removed, missing_are}
 use Rattle.role_order.proofs.order.RoleOrder.plan_remove.Goals as goal
-
-pub lost_pairs-requires : goal.lost_pairs-requires
-lost_pairs-requires c =
-    let edges : Pairs = c.args.self.now.edges in
-    let pairs : Pairs = set_of pair_cmp c.self.inside.pairs in
-    let good : IsAcyclic edges = subst (λ (o : Order). IsAcyclic o.edges) c.self.view_is c.self.invariant.0 in
-    let closed : IsClosure edges pairs = subst (λ (o : Order). IsClosure o.edges pairs) c.self.view_is c.self.invariant.1 in
-    let rows : c.deref.result.now ≡ c.in_ok-rows.rows.items = c.deref.ensures.value in
-    let first : AreJuniorsFirst pairs c.in_ok-rows.rows.items = AreJuniorsFirst-from_counts edges pairs c.in_ok-rows.rows.items good closed c.in_ok-rows.ensures.rising in
-    record {
-      edges = edges;
-      asc = c.args.asc.now;
-      desc = c.args.desc.now;
-      left_are = c.remove.ensures.removed ∙ ap (λ (s : Pairs). remove s (c.args.asc.now, c.args.desc.now)) (c.in_ok-left.ensures.ok ∙ ap (λ (o : Order). o.edges) c.self.view_is);
-      acyclic = good;
-      closed = closed;
-      edge = sym c.has_edge.ensures ∙ c.if-not-has_edge.false;
-      at_or_above = λ p.
-          let same = c.in_ok-rows.ensures.same p in
-          let are = c.in_ok-above.ensures.members p in (
-            λ h. are.0 (same.0 (subst (λ (xs : List Bytes). Contains xs p) rows h)),
-            λ l. subst (λ (xs : List Bytes). Contains xs p) (sym rows) (same.1 (are.1 l)),
-          );
-      at_or_below = c.in_ok-below.ensures.members;
-      juniors_first = subst (λ (xs : List Bytes). AreJuniorsFirst pairs xs) (sym rows) first;
-      distinct = subst (λ (xs : List Bytes). IsDistinct same_name xs) (sym rows) c.in_ok-rows.ensures.distinct;
-    }
 
 pub returns-clause-planned : goal.returns-clause-planned
 returns-clause-planned c =
     let edges : Pairs = c.args.self.now.edges in
-    let pairs : Pairs = set_of pair_cmp c.self.inside.pairs in
+    let asc : Bytes = c.args.asc.now in
+    let desc : Bytes = c.args.desc.now in
+    let left : Pairs = remove edges (asc, desc) in
+    let above : Names = set_of name_cmp c.in_ok-above.above in
+    let below : Names = set_of name_cmp c.in_ok-below.below in
     let takes : Pairs = set_of pair_cmp c.in_ok-takes.takes in
     let good : IsAcyclic edges = subst (λ (o : Order). IsAcyclic o.edges) c.self.view_is c.self.invariant.0 in
-    let closed : IsClosure edges pairs = subst (λ (o : Order). IsClosure o.edges pairs) c.self.view_is c.self.invariant.1 in
-    let left_are : set_of pair_cmp c.remove.new.self ≡ remove edges (c.args.asc.now, c.args.desc.now) =
-    c.remove.ensures.removed ∙ ap (λ (s : Pairs). remove s (c.args.asc.now, c.args.desc.now)) (c.in_ok-left.ensures.ok ∙ ap (λ (o : Order). o.edges) c.self.view_is) in
-    let lost : IsGained (set_of pair_cmp c.remove.new.self) edges takes = IsGained-lost (set_of pair_cmp c.remove.new.self) edges pairs takes closed c.in_ok-takes.ensures.lost in
+    let are : AreEdgesOf c.self.inside.numbered edges = subst (λ (o : Order). AreEdgesOf c.self.inside.numbered o.edges) c.self.view_is c.self.invariant.2 in
+    let copied : AreEdgesOf c.in_ok-left.left edges = AreEdgesOf-copied c.self.inside.numbered c.in_ok-left.left edges are c.in_ok-left.ensures.edges in
+    let remaining : AreEdgesOf c.remove.new.self left = AreEdgesOf-removed c.in_ok-left.left c.remove.new.self edges left asc desc copied c.remove.ensures.edges refl in
+    let edge : HasPair edges asc desc = sym c.has_edge.ensures ∙ c.if-not-has_edge.false in
+    let lost : IsGained left edges takes = IsGained-missing edges asc desc above below takes edge c.in_ok-above.ensures.members c.in_ok-below.ensures.members
+    (missing_are c.remove.new.self left above below takes remaining c.in_ok-takes.ensures.pairs) in
     let plan : Plan = record {
       adds = false;
-      asc = c.args.asc.now;
-      desc = c.args.desc.now;
+      asc = asc;
+      desc = desc;
       puts = set_of pair_cmp c.new-puts.result;
-      takes = set_of pair_cmp c.in_ok-takes.takes;
+      takes = takes;
       judged = c.in_ok-judged.judged;
     } in
-    subst (IsOrderPlanOf c.args.self.now.edges false c.args.asc.now c.args.desc.now) (sym c.in_ok-plan.ensures.ok) (record {
+    subst (IsOrderPlanOf edges false asc desc) (sym c.in_ok-plan.ensures.ok) (record {
       same_kind = refl;
       same_asc = refl;
       same_desc = refl;
-      fits = Fits-taken edges c.args.asc.now c.args.desc.now plan refl refl refl c.new-puts.ensures good (subst (λ (s : Pairs). IsGained s edges takes) left_are lost);
-      judged = c.in_ok-judged.ensures.ok ∙ judged_are edges c.args.asc.now c.args.desc.now _ _ c.in_ok-above.ensures.ok c.in_ok-below.ensures.ok;
+      fits = Fits-taken edges asc desc plan refl refl refl c.new-puts.ensures good lost;
+      judged = c.in_ok-judged.ensures.ok ∙ judged_are edges asc desc above below c.in_ok-above.ensures.ok c.in_ok-below.ensures.ok;
     })

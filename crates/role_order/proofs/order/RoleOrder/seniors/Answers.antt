@@ -1,20 +1,16 @@
 use Rattle.std.proofs.Common.{subst}
-use Rattle.rbac_sets.specs.Sets.{pair_cmp}
-use Rattle.rbac_sets.specs.SortedSet.{set_of}
-use Rattle.role_order.specs.Order.{IsClosure}
 use Rattle.role_order.specs.Planned.{Order}
+use Rattle.role_order.specs.private.Numbered.{AreEdgesOf}
 use Rattle.role_order.proofs.Deciding.{seniors-same}
+use Rattle.role_order.proofs.Numbering.{apart_are}
 use Rattle.role_order.proofs.order.RoleOrder.seniors.Goals as goal
 
 pub returns-clause-members : goal.returns-clause-members
-returns-clause-members c = λ p.
-    let closed = subst (λ (o : Order). IsClosure o.edges (set_of pair_cmp c.self.inside.pairs)) c.self.view_is c.self.invariant.1 in
-    let names = c.in_ok-names.ensures.names p in
-    (λ h. (closed p c.args.r.now).0 (names.0 h), λ h. names.1 ((closed p c.args.r.now).1 h))
+returns-clause-members c =
+    let are = subst (λ (o : Order). AreEdgesOf c.self.inside.numbered o.edges) c.self.view_is c.self.invariant.2 in
+    λ p. apart_are c.self.inside.numbered c.args.self.now.edges are p c.args.r.now _ (c.in_ok-names.ensures.names p)
 
 pub returns-clause-ok : goal.returns-clause-ok
 returns-clause-ok c =
-    let closed = subst (λ (o : Order). IsClosure o.edges (set_of pair_cmp c.self.inside.pairs)) c.self.view_is c.self.invariant.1 in
-    seniors-same c.args.self.now.edges c.args.r.now _ (λ p.
-    let names = c.in_ok-names.ensures.names p in
-    (λ h. (closed p c.args.r.now).0 (names.0 h), λ h. names.1 ((closed p c.args.r.now).1 h)))
+    let are = subst (λ (o : Order). AreEdgesOf c.self.inside.numbered o.edges) c.self.view_is c.self.invariant.2 in
+    seniors-same c.args.self.now.edges c.args.r.now _ (λ p. apart_are c.self.inside.numbered c.args.self.now.edges are p c.args.r.now _ (c.in_ok-names.ensures.names p))

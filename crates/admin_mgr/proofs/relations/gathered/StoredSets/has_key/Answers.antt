@@ -12,3 +12,18 @@ pub returns-in-PairRow-eq4-default-default : goal.returns-in-PairRow-eq4-default
 unfolding has_key
 returns-in-PairRow-eq4-default-default c =
     subst (λ (g : StoredSets). c.contains-in-PairRow-eq4-default-default.result ≡ has_key g c.args.row.now) c.self.view_is (search rules)
+
+pub returns-in-PairRow-eq2-default-default : goal.returns-in-PairRow-eq2-default-default
+unfolding has_key
+returns-in-PairRow-eq2-default-default c =
+    subst (λ (g : StoredSets). c.contains-in-PairRow-eq2-default-default.result ≡ has_key g c.args.row.now) c.self.view_is (search rules)
+
+pub returns-in-PairRow-eq7-default-default : goal.returns-in-PairRow-eq7-default-default
+unfolding has_key
+returns-in-PairRow-eq7-default-default c =
+    subst (λ (g : StoredSets). c.contains-in-PairRow-eq7-default-default.result ≡ has_key g c.args.row.now) c.self.view_is (search rules)
+
+pub returns-in-GrantRow : goal.returns-in-GrantRow
+unfolding has_key
+returns-in-GrantRow c =
+    subst (λ (g : StoredSets). c.contains-in-GrantRow.result ≡ has_key g c.args.row.now) c.self.view_is (search rules)

@@ -31,3 +31,15 @@ returns-in-PairRow-eq3-default-default-clause-ok c = rw (sym c.self.view_is) (se
 pub returns-in-PairRow-eq4-default-default-clause-ok : goal.returns-in-PairRow-eq4-default-default-clause-ok
 unfolding with_row
 returns-in-PairRow-eq4-default-default-clause-ok c = rw (sym c.self.view_is) (search rules)
+
+pub returns-in-PairRow-eq2-default-default-clause-ok : goal.returns-in-PairRow-eq2-default-default-clause-ok
+unfolding with_row
+returns-in-PairRow-eq2-default-default-clause-ok c = rw (sym c.self.view_is) (search rules)
+
+pub returns-in-PairRow-eq7-default-default-clause-ok : goal.returns-in-PairRow-eq7-default-default-clause-ok
+unfolding with_row
+returns-in-PairRow-eq7-default-default-clause-ok c = rw (sym c.self.view_is) (search rules)
+
+pub returns-in-GrantRow-clause-ok : goal.returns-in-GrantRow-clause-ok
+unfolding with_row
+returns-in-GrantRow-clause-ok c = rw (sym c.self.view_is) (search rules)

@@ -1,5 +1,0 @@
-use Rattle.bit_rows.proofs.RowLaws.{IsFullTo}
-use Rattle.bit_rows.proofs.row.BitRow.first_absent.Given as goal
-
-abbrev pub invariant-loop-i : goal.invariant-loop-i
-invariant-loop-i l = IsFullTo l.self.words l.i

@@ -1,5 +1,0 @@
-use Rattle.bit_rows.proofs.RowLaws.{IsEmptyFrom}
-use Rattle.bit_rows.proofs.row.BitRow.next.Given as goal
-
-abbrev pub invariant-loop-i : goal.invariant-loop-i
-invariant-loop-i l = IsEmptyFrom l.self.words l.from l.i
