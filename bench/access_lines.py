@@ -11,6 +11,10 @@
 
 import random
 import sys
+from pathlib import Path
+
+sys.path.insert(0, str(Path(__file__).resolve().parent.parent / "tests"))
+from machine.state import MOST  # noqa: E402
 
 USERS, ROLES, OBJECTS, OPERATIONS, QUESTIONS = 1_000, 100, 200, 5, 20_000
 
@@ -81,26 +85,31 @@ def table_rows(grants):
     yield from (f"active,s{user},r{user % ROLES}" for user in range(USERS))
 
 
+def named(permission):
+    """The object and the operation of the permission with this number."""
+    return f"object{permission % MOST['object']:04} operation{permission // MOST['object']}"
+
+
 def limit_lines(roles, edges, asked, sessions):
-    """An office of these roles and inheritances, with 2,000 objects, 5,000 permissions, 20,000 grants and 1,000
-    sessions. The first permissions are granted to the lists of roles of `asked`, and in the sessions the lists of
+    """An office of these roles and inheritances, with as many objects, permissions, grants and sessions as there may
+    be. The first permissions are granted to the lists of roles of `asked`, and in the sessions the lists of
     roles of `sessions` are activated in turn. The other grants are spread."""
     yield from (f"- addRole {role}" for role in roles)
     yield from (f"- addInheritance {asc} {desc}" for asc, desc in edges)
-    yield from (f"- addPermObj object{number:04}" for number in range(2_000))
-    permissions = [f"object{it % 2_000:04} operation{it // 2_000}" for it in range(5_000)]
+    yield from (f"- addPermObj object{number:04}" for number in range(MOST["object"]))
+    permissions = [named(it) for it in range(MOST["permission"])]
     yield from (f"- addPermission {permission}" for permission in permissions)
     for permission, granted in zip(permissions, asked):
         yield from (f"- grantPermission {permission} {role}" for role in granted)
     others = permissions[len(asked) :]
-    for number in range(20_000 - sum(map(len, asked))):
+    for number in range(MOST["grant"] - sum(map(len, asked))):
         role = roles[(7 * number + number // len(others)) % len(roles)]
         yield f"- grantPermission {others[number % len(others)]} {role}"
     assigned = highest(sessions[0], edges)
-    for number in range(500):
+    for number in range(MOST["session"] // 2):
         yield f"- addUser user{number:04}"
         yield from (f"- assignUser user{number:04} {role}" for role in assigned)
-    for number in range(1_000):
+    for number in range(MOST["session"]):
         active = " ".join(sessions[number % len(sessions)])
         yield f"- createSession user{number // 2:04} session{number:04} {active}"
 
@@ -113,7 +122,8 @@ def highest(active, edges):
 
 def question(session, permission, wanted, label, rounds):
     """A question of a session for the permission with this number, asked a number of times."""
-    yield f"? session{session:04} operation{permission // 2_000} object{permission % 2_000:04} {wanted}"
+    thing, operation = named(permission).split()
+    yield f"? session{session:04} {operation} {thing} {wanted}"
     yield f"! {label} {rounds}"
 
 
@@ -124,7 +134,7 @@ def chain(roles):
 
 def one_chain():
     """A chain of all roles. One permission is granted to all but the lowest 32, which the sessions have."""
-    roles = [f"role{number:04}" for number in range(1_024)]
+    roles = [f"role{number:04}" for number in range(MOST["role"])]
     yield from limit_lines(roles, chain(roles), [roles[:-32]], [roles[-32:]])
     yield from question(500, 0, 0, "refused-after-all", 20)
     yield from question(500, 1, 0, "refused-of-few", 1_000)
@@ -144,7 +154,7 @@ def chains_apart():
 
 def chains_by_turns():
     """Two chains, whose names alternate in byte order."""
-    roles = [f"role{number:04}" for number in range(1_024)]
+    roles = [f"role{number:04}" for number in range(MOST["role"])]
     yield from two_chains(roles[0::2], roles[1::2])
     yield from question(500, 0, 0, "two-chains-by-turns", 100)
     yield from question(501, 0, 0, "few-roles-many-grants", 100)

@@ -13,6 +13,10 @@ A line of work that is not a command is a label and `of_rows` or `report`.
 """
 
 import sys
+from pathlib import Path
+
+sys.path.insert(0, str(Path(__file__).resolve().parent.parent / "tests"))
+from machine.state import MOST  # noqa: E402
 
 ROUNDS = 3
 
@@ -41,18 +45,18 @@ class Sizes:
     """How many there are of each thing: `less` than the limits of version 2, or than a part of them."""
 
     def __init__(self, part, less=1):
-        self.users = 20_000 // part - less
-        self.roles = 1_024 // part - less
-        self.edges = 4_096 // part - less
-        self.objects = 2_000 // part - less
-        self.permissions = 5_000 // part - less
-        self.grants = 20_000 // part - less
-        self.sessions = 1_000 // part - less
-        self.active = 32 // part - less
-        self.sets = 64 // part - less
-        self.members = 32 // part - less
+        self.users = MOST["user"] // part - less
+        self.roles = MOST["role"] // part - less
+        self.edges = MOST["edge"] // part - less
+        self.objects = MOST["object"] // part - less
+        self.permissions = MOST["permission"] // part - less
+        self.grants = MOST["grant"] // part - less
+        self.sessions = MOST["session"] // part - less
+        self.active = MOST["activeRole"] // part - less
+        self.sets = MOST["ssdSet"] // part - less
+        self.members = MOST["member"] // part - less
         # the first of the roles of the lower chain
-        self.lower = 512 // part
+        self.lower = MOST["role"] // 2 // part
 
     def assigned(self, number):
         """The role of a user: one in twenty has one in the upper chain, but none of its first 32."""

@@ -10,11 +10,17 @@
 """
 
 import sys
+from pathlib import Path
+
+sys.path.insert(0, str(Path(__file__).resolve().parent.parent / "tests"))
+from machine.state import MOST  # noqa: E402
 
 COMMITS = 1_000
-SESSIONS, ACTIVE, ASSIGNED = 300, 32, 1_000
-USERS, ROLES, OBJECTS, PERMISSIONS, GRANTS, EDGES = 20_000, 1_024, 2_000, 5_000, 20_000, 4_096
-SETS, MEMBERS, RECORDS = 64, 32, 10_000
+SESSIONS, ACTIVE, ASSIGNED = 300, MOST["activeRole"], 1_000
+USERS, ROLES, OBJECTS, PERMISSIONS, GRANTS, EDGES = (
+    MOST[it] for it in ("user", "role", "object", "permission", "grant", "edge")
+)
+SETS, MEMBERS = MOST["ssdSet"], MOST["member"]
 
 
 def say(*words):

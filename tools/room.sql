@@ -14,5 +14,4 @@
 .headers off
 .print version,kind,count,limit,left
 
-SELECT number, kind, count, most, most - count
-FROM (SELECT number, kind, count, iif(number = 1, most_1, most_2) AS most FROM room, version);
+SELECT number, kind, count, most, most - count FROM version, room;

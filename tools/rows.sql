@@ -70,22 +70,44 @@ SELECT kind, duty_set.name, cardinality, 'session', session.name, (
 )
 FROM duty_set, session WHERE kind = 'dynamic';
 
--- How many there are of each kind, and how many there may be in version 1 and in version 2. Members are counted in the set
--- that has the most, activated roles in the session that has the most.
-CREATE TEMP VIEW room(kind, count, most_1, most_2) AS
-SELECT 'user', (SELECT count(*) FROM user), 5000, 20000
-UNION ALL SELECT 'role', (SELECT count(*) FROM role), 256, 1024
-UNION ALL SELECT 'object', (SELECT count(*) FROM object), 2000, 2000
-UNION ALL SELECT 'permission', (SELECT count(*) FROM permission), 5000, 5000
-UNION ALL SELECT 'grant', (SELECT count(*) FROM permission_assignment), 20000, 20000
-UNION ALL SELECT 'assignment', (SELECT count(*) FROM assignment), 20000, 20000
-UNION ALL SELECT 'edge', (SELECT count(*) FROM inheritance), 1024, 4096
-UNION ALL SELECT 'ssdSet', (SELECT count(*) FROM duty_set WHERE kind = 'static'), 64, 64
-UNION ALL SELECT 'dsdSet', (SELECT count(*) FROM duty_set WHERE kind = 'dynamic'), 64, 64
-UNION ALL SELECT 'member', (SELECT coalesce(max(n), 0) FROM (SELECT count(*) AS n FROM member GROUP BY kind, duty_set)), 32, 32
-UNION ALL SELECT 'session', (SELECT count(*) FROM session), 1000, 1000
-UNION ALL SELECT 'activeRole', (SELECT coalesce(max(n), 0) FROM (SELECT count(*) AS n FROM activation GROUP BY session)), 32, 32
-;
+-- How many there may be of each kind in each version.
+-- bin/limits writes this table from server/internal/limits/limits.csv.
+CREATE TEMP TABLE most (kind, version, number, PRIMARY KEY (kind, version)) WITHOUT ROWID;
+INSERT INTO most VALUES
+('user', 1, 5000), ('user', 2, 20000),
+('role', 1, 256), ('role', 2, 1024),
+('object', 1, 2000), ('object', 2, 2000),
+('permission', 1, 5000), ('permission', 2, 5000),
+('grant', 1, 20000), ('grant', 2, 20000),
+('assignment', 1, 20000), ('assignment', 2, 20000),
+('edge', 1, 1024), ('edge', 2, 4096),
+('ssdSet', 1, 64), ('ssdSet', 2, 64),
+('dsdSet', 1, 64), ('dsdSet', 2, 64),
+('member', 1, 32), ('member', 2, 32),
+('session', 1, 1000), ('session', 2, 1000),
+('activeRole', 1, 32), ('activeRole', 2, 32),
+('record', 1, 10000), ('record', 2, 10000),
+('byte', 1, 2097152), ('byte', 2, 2097152);
+-- The end of the table.
+
+-- How many there are of each kind, and how many there may be in this office. Members are counted in the set that has the most, activated
+-- roles in the session that has the most.
+CREATE TEMP VIEW room(kind, count, most) AS
+SELECT kind, count, (SELECT most.number FROM most WHERE most.kind = counts.kind AND most.version = version.number)
+FROM (
+    SELECT 'user' AS kind, (SELECT count(*) FROM user) AS count
+    UNION ALL SELECT 'role', (SELECT count(*) FROM role)
+    UNION ALL SELECT 'object', (SELECT count(*) FROM object)
+    UNION ALL SELECT 'permission', (SELECT count(*) FROM permission)
+    UNION ALL SELECT 'grant', (SELECT count(*) FROM permission_assignment)
+    UNION ALL SELECT 'assignment', (SELECT count(*) FROM assignment)
+    UNION ALL SELECT 'edge', (SELECT count(*) FROM inheritance)
+    UNION ALL SELECT 'ssdSet', (SELECT count(*) FROM duty_set WHERE kind = 'static')
+    UNION ALL SELECT 'dsdSet', (SELECT count(*) FROM duty_set WHERE kind = 'dynamic')
+    UNION ALL SELECT 'member', (SELECT coalesce(max(n), 0) FROM (SELECT count(*) AS n FROM member GROUP BY kind, duty_set))
+    UNION ALL SELECT 'session', (SELECT count(*) FROM session)
+    UNION ALL SELECT 'activeRole', (SELECT coalesce(max(n), 0) FROM (SELECT count(*) AS n FROM activation GROUP BY session))
+) AS counts, version;
 
 -- From here on: what is at fault if the file is not a good office. First the closure, from the inheritances alone:
 
@@ -138,8 +160,7 @@ UNION ALL SELECT 1, 'a lock that occurs more than once', user, count(*), NULL FR
 UNION ALL SELECT 2, 'an invalid name', part, quote(value), NULL FROM text
 WHERE length(CAST(value AS BLOB)) NOT BETWEEN 1 AND 64 OR instr(CAST(value AS BLOB), x'00')
 OR value GLOB '*[' || char(1) || '-' || char(31) || char(127) || ']*'
-UNION ALL SELECT 32, 'too many of a kind', kind, count, iif(number = 1, most_1, most_2) FROM room, version
-WHERE count > iif(number = 1, most_1, most_2)
+UNION ALL SELECT 32, 'too many of a kind', kind, count, most FROM room WHERE count > most
 UNION ALL SELECT 3, 'a permission on no object', object, operation, NULL FROM permission
 WHERE object NOT IN (SELECT name FROM object)
 UNION ALL SELECT 3, 'an assignment of no user, or to no role', user, role, NULL FROM assignment

@@ -13,6 +13,7 @@ import termios
 import threading
 import time
 
+from machine.state import MOST
 from program.bench import PROGRAM, SECONDS
 from program.offices import Office, small_office
 from program.web import Server, connect, free_port, has_unread
@@ -209,7 +210,7 @@ def check_refusals(bench):
     """Refusals with a further key, and names of unusual characters, are those of the plain model."""
     office = small_office(bench)
     names = ['a"b\\c', "é\u2028\ufeff\x85", "\U0001f600 x", " ", "/", "\x7f", "a\nb", "n" * 64, "n" * 65, "é" * 33]
-    many = [f"r{number}" for number in range(33)]
+    many = [f"r{number}" for number in range(MOST["activeRole"] + 1)]
     requests = [("addUser", {"user": name}) for name in names]
     requests += [("addRole", {"role": name}) for name in [*names, *many]]
     requests += [("assignUser", {"user": "bob", "role": name}) for name in [*names, *many]]

@@ -6,6 +6,7 @@ import shutil
 from pathlib import Path
 
 from front.identities import secured
+from machine import state
 from machine.commands import COMMANDS
 from machine.drawing import TAKING, Draws
 import pytest
@@ -80,7 +81,8 @@ def drawn():
 
 def limits():
     """Requests that reach the limits of a session and of a set."""
-    roles = [f"role {number}" for number in range(33)]
+    count = max(state.MOST["activeRole"], state.MOST["member"]) + 1
+    roles = [f"role {number}" for number in range(count)]
     yield "addUser", {"user": "many"}
     for role in roles:
         yield "addRole", {"role": role}
@@ -88,7 +90,7 @@ def limits():
     yield "createSession", {"user": "many", "roles": roles, "session": "many"}
     yield "createSession", {"user": "many", "roles": roles[1:], "session": "many"}
     yield "addActiveRole", {"user": "many", "session": "many", "role": roles[0]}
-    yield "createSsdSet", {"set": "many", "roles": roles, "cardinality": 33}
+    yield "createSsdSet", {"set": "many", "roles": roles, "cardinality": count}
 
 
 def asks(bench, driver, model):

@@ -1,4 +1,4 @@
-"""An office at the limits: 20,000 users, 1,024 roles, 20,000 assignments. The seconds are reported, and not tested."""
+"""An office with as many users, roles and assignments as there may be. The seconds are reported, and not tested."""
 
 import json
 import statistics
@@ -7,12 +7,14 @@ import time
 import urllib.request
 
 from front.program import HOST, Front
+from machine.state import MOST
 from program.bench import PROGRAM as RBAC
 
 from .browser import SETTLED, Browser
 from .downloads import memory_of, ticket_for
 
-USERS, ROLES, OBJECTS, SETS, MEMBERS, SESSIONS, SEED = 20_000, 1_024, 1_000, 64, 32, 1_000, 7
+USERS, ROLES, SETS, MEMBERS, SESSIONS = (MOST[kind] for kind in ("user", "role", "dsdSet", "member", "session"))
+OBJECTS, SEED = 1_000, 7
 # How many bytes of memory the front may have while it makes a report.
 MOST_MEMORY = 500_000_000
 OPERATIONS = ["read", "write", "print", "sign", "burn"]
@@ -129,12 +131,12 @@ def check_limits(bench):
         page.open("nothing")
         for what, segments, query, wanted in [
             ("a page that shows nothing", ("nothing",), "", "There is no such page"),
-            ("the overview", ("",), "", "20,000"),
+            ("the overview", ("",), "", f"{USERS:,}"),
             ("the users", ("users",), "", "user 00099"),
             ("a search", ("users",), "?contains=9999", "user 19999"),
             ("one user", ("users", "user 00000"), "", "role 0000"),
             ("another user", ("users", "user 00003"), "", "role 0021"),
-            ("the roles", ("roles",), "", "1,024 roles"),
+            ("the roles", ("roles",), "", f"{ROLES:,} roles"),
             ("one role", ("roles", "role 0000"), "", "role 0001"),
             ("a role with many users", ("roles", f"role {CROWDED:04}"), "", "Granted to this role itself: 1 to 100 of 1,2"),
             ("one object", ("objects", "object 0000"), "", "Operation read"),

@@ -8,6 +8,7 @@ from front.batches import batch
 from front.lists import listed
 from front.recorded import digest
 from front.running import PROGRAM
+from machine.state import MOST
 
 from .browser import Browser, bank
 
@@ -377,9 +378,9 @@ def check_overview(bench):
     """The overview: whether the office answers, its room, the last changes, and the picture."""
     with bank(bench) as front, Browser(bench, front) as page:
         page.open("")
-        text = page.text()
+        text, users, roles = page.text(), MOST["user"], MOST["role"]
         bench.judge("the overview", [f"{wanted} isn't in {text}" for wanted in (
-            "The office answers.", "The front is open: everybody", "Users\t7\t20,000\t19,993", "Roles\t5\t1,024\t1,019", "The record adopts the office as it is, by tests.")
+            "The office answers.", "The front is open: everybody", f"Users\t7\t{users:,}\t{users - 7:,}", f"Roles\t5\t{roles:,}\t{roles - 5:,}", "The record adopts the office as it is, by tests.")
             if wanted not in text])  # fmt: skip
         bench.same("the picture", page.run("return document.querySelector('.picture img')?.naturalWidth > 0"), True)
         bench.same("complaints", page.complaints(), [])

@@ -6,6 +6,7 @@ import os
 from front.batches import batch
 from front.identities import bearer
 from front.program import Front
+from machine.state import MOST
 
 from .browser import Browser, bank, text_of_pdf
 from .downloads import escaped, report, rows_of
@@ -60,7 +61,7 @@ def check_pages(bench):
             )
             bench.same("what is said", page.notice(), f"A file of {len(wanted)} lines is being downloaded.")
         page.go("reports", "room")
-        bench.same("room", page.run(ROWS)[0], ["Users", "7", "20000", "19993"])
+        bench.same("room", page.run(ROWS)[0], ["Users", "7", str(MOST["user"]), str(MOST["user"] - 7)])
         page.go("reports", "dump")
         wanted = report(front, "dump")[0]
         bench.same("the lines", [row[0] for row in page.run(ROWS)], wanted.splitlines())

@@ -14,6 +14,7 @@ from front.identities import bearer, secured
 from front.program import HOST, Front
 from front.recorded import digest
 from front.running import PROGRAM
+from machine.state import MOST
 
 from .sources import SITE
 
@@ -130,7 +131,7 @@ def check_room(bench):
         status, value = value_of(front, "/room", **bearer("secret"))
         bench.same("the status", status, 200)
         counted = {one["kind"]: (one["count"], one["limit"]) for one in value["room"]}
-        bench.same("users and roles", (counted["user"], counted["role"]), ((1, 20_000), (0, 1_024)))
+        bench.same("users and roles", (counted["user"], counted["role"]), ((1, MOST["user"]), (0, MOST["role"])))
         bench.same("without the right", get(front, "/room", **bearer("another"))[0], 403)
 
 

@@ -14,6 +14,7 @@ from typing import NamedTuple
 
 import pytest
 
+from machine.state import MOST
 from program.bench import PROGRAM, SECONDS
 from program.web import free_port
 
@@ -233,7 +234,7 @@ until test -e "$said.holds"; do sleep 0.05; done""",
     ),
     Case(
         "too many rows",
-        SQL % "WITH n(i) AS (SELECT 1 UNION SELECT i + 1 FROM n LIMIT 1025) INSERT INTO name_row SELECT 2, 'r' || i FROM n",
+        SQL % f"WITH n(i) AS (SELECT 1 UNION SELECT i + 1 FROM n LIMIT {MOST['role'] + 1}) INSERT INTO name_row SELECT 2, 'r' || i FROM n",
         '{"code":32,"error":"TooMany","kind":"role"}',
         r"office: it has more of a kind than the limit allows \(32 TooMany\)",
         "sqlite3",

@@ -13,7 +13,7 @@ import pytest
 
 from machine.commands import COMMANDS
 from machine.replaying import Replay
-from machine.state import granted_permissions, session_roles
+from machine.state import MOST, granted_permissions, session_roles
 from program.bench import PROGRAM as RBAC
 from tools.offices import Building
 from tools.wanted import permissions
@@ -255,7 +255,7 @@ def check_crowded(bench):
         number = 0
         while front.ask("createSession", {"user": "ann", "roles": [], "session": f"s{number}"}, connection)[0] == 200:
             number += 1
-        bench.same("sessions", number, 1000)
+        bench.same("sessions", number, MOST["session"])
         bench.same("the end", front.end(), 0)
     status, given, _, _ = asked(office, "--at", "2999", *SAFE)
     bench.same("who has access", (status, given), (0, [BY_ROLE]))

@@ -3,14 +3,16 @@
 import json
 import re
 
+from machine import state
+
 from .batches import batch
 from .program import Front, until
+from .recorded import tool
 
-# What an office may have of each kind (docs/reference/api.md, section 1).
-LIMITS = {
-    "user": 20_000, "role": 1_024, "object": 2_000, "permission": 5_000, "grant": 20_000, "assignment": 20_000, "edge": 4_096,
-    "ssdSet": 64, "dsdSet": 64, "member": 32, "session": 1_000, "activeRole": 32,
-}  # fmt: skip
+# What an office may have of each kind, and how many sessions there are when the log says that they are nearly full.
+LIMITS = {kind: most for kind, most in state.MOST.items() if kind not in ("record", "byte")}
+SESSIONS = LIMITS["session"]
+MANY = SESSIONS * 4 // 5
 OK = '{"ok":true}'
 # Commands that make something of each kind, and how many there are afterwards.
 ONE_OF_EACH = [
@@ -74,13 +76,13 @@ def check_sessions_fill(bench):
     does, and the head of the answer says what ends sessions."""
     with Front(bench, "--no-record") as front:
         in_batches(front, [{"fn": "addUser", "user": "ann"}])
-        bench.same("the first 799", in_batches(front, sessions(range(799))), {OK})
-        bench.same("the room and the limit", [one.get("session") for one in gauges(front)], [201, 1_000])
-        bench.same("a login", login(front, "/v1/createSession", sessions([799])[0]), (200, {"ok": True}, ""))
+        bench.same("the first ones", in_batches(front, sessions(range(MANY - 1))), {OK})
+        bench.same("the room and the limit", [one.get("session") for one in gauges(front)], [SESSIONS - MANY + 1, SESSIONS])
+        bench.same("a login", login(front, "/v1/createSession", sessions([MANY - 1])[0]), (200, {"ok": True}, ""))
         until(lambda: lines_of(front, NEARLY), "the log says that sessions are nearly full", front.said)
-        bench.same("the rest", in_batches(front, sessions(range(800, 1_000))), {OK})
+        bench.same("the rest", in_batches(front, sessions(range(MANY, SESSIONS))), {OK})
         until(lambda: lines_of(front, NONE_LEFT), "the log says that there is no room", front.said)
-        for path, body in (("/v1/createSession", sessions([1_000])[0]), ("/sessions", {"user": "ann"})):
+        for path, body in (("/v1/createSession", sessions([SESSIONS])[0]), ("/sessions", {"user": "ann"})):
             status, said, why = login(front, path, body)
             bench.same(f"{path}: the answer", (status, said), (409, FULL))
             bench.same(f"{path}: what to do", [word in why for word in ("--session-idle", "--session-age", "logout")], [True] * 3)
@@ -88,7 +90,7 @@ def check_sessions_fill(bench):
         bench.same("the room that is left", gauges(front)[0].get("session"), 0)
         bench.same("the end", front.end(), 0)
         lines = lines_of(front, NEARLY), lines_of(front, NONE_LEFT)
-        bench.same("the lines", lines, ([("warn", "session", 800)], [("error", "session", 1_000)]))
+        bench.same("the lines", lines, ([("warn", "session", MANY)], [("error", "session", SESSIONS)]))
 
 
 def check_gauges(bench):
@@ -103,6 +105,25 @@ def check_gauges(bench):
         bench.same("used of each kind", {kind: limits[kind] - left for kind, left in room.items()}, USED)
         bench.same("the limits", limits, LIMITS)
         bench.same("the end", front.end(), 0)
+
+
+def check_printed(bench):
+    """The program prints the limits of each version, as a table and as JSON, and refuses a version that there isn't."""
+    versions = range(1, len(state.LIMITS["user"]) + 1)
+    for words, some in [([], versions), *((["--version", str(one)], [one]) for one in versions)]:
+        status, out, said = tool("limits", *words, program=False)
+        rows = [re.split(r"  +", line, maxsplit=len(some) + 1) for line in out.splitlines()]
+        wanted = [["kind", *(f"version {one}" for one in some), "counted"]]
+        wanted += [[kind, *(str(most[one - 1]) for one in some), state.COUNTED[kind]] for kind, most in state.LIMITS.items()]
+        bench.same(f"limits {words}", (status, said, rows), (0, "", wanted))
+        status, out, said = tool("limits", "--json", *words, program=False)
+        wanted = [
+            {"counted": state.COUNTED[kind], "kind": kind, "limits": {str(one): most[one - 1] for one in some}}
+            for kind, most in state.LIMITS.items()
+        ]
+        bench.same(f"limits --json {words}", (status, said, json.loads(out)), (0, "", wanted))
+    status, out, said = tool("limits", "--version", str(max(versions) + 1), program=False)
+    bench.same("another version", (status, out, said.count("\n"), f"the versions are 1 to {max(versions)}" in said), (1, "", 1, True))
 
 
 def check_said_at_start(bench):

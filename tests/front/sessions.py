@@ -10,7 +10,7 @@ from contextlib import closing
 
 from machine.commands import add_active_role, create_session
 from machine.drawing import POOLS, Draws
-from machine.state import ERRORS, Refused, assigned_roles
+from machine.state import ERRORS, MOST, Refused, assigned_roles
 from program.bench import SECONDS
 
 from .batches import batch
@@ -221,18 +221,19 @@ def check_order(bench):
 
 
 def check_limits(bench):
-    """A session gets 32 of 33 roles, and the last is left out by the limit. 1,000 sessions end by themselves."""
+    """A session gets as many roles as it may have, and the limit leaves out the last. As many sessions as there may be end by themselves."""
+    active, sessions = MOST["activeRole"], MOST["session"]
     with Front(bench, "--session-idle", "1s") as front:
         lines = [{"fn": "addUser", "user": "ann"}]
-        for number in range(33):
+        for number in range(active + 1):
             lines += [{"fn": "addRole", "role": f"r{number:02}"}, {"fn": "assignUser", "user": "ann", "role": f"r{number:02}"}]
         bench.same("the office", {*batch(front, lines)[1]}, {'{"ok":true}'})
         _, answer = made(front, {"user": "ann"})
-        left = [{"code": 32, "error": "TooMany", "kind": "activeRole", "role": "r32"}]
-        bench.same("33 roles", (len(answer["value"]["roles"]), answer["value"]["left"]), (32, left))
+        left = [{"code": 32, "error": "TooMany", "kind": "activeRole", "role": f"r{active:02}"}]
+        bench.same("one more", (len(answer["value"]["roles"]), answer["value"]["left"]), (active, left))
         kept = front.connection()
-        refused = [1 for _ in range(1_100) if made(front, {"user": "ann", "roles": ["r01"]}, kept)[0] != 200]
-        bench.judge("more than 1,000 sessions, one after the other", [] if len(refused) < 1_100 else ["all were refused"])
+        refused = [1 for _ in range(sessions + 100) if made(front, {"user": "ann", "roles": ["r01"]}, kept)[0] != 200]
+        bench.judge("more than there may be, one after the other", [] if len(refused) < sessions + 100 else ["all were refused"])
         until(lambda: made(front, {"user": "ann", "roles": ["r01"]}, kept)[0] == 200, "there is room again")
         kept.close()
         bench.same("the end", front.end(), 0)

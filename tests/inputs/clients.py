@@ -9,6 +9,7 @@ import time
 
 import pytest
 
+from machine import state
 from machine.assignments import MOST_BYTES
 from machine.requests import LONGEST_LINE
 from program.bench import SECONDS
@@ -37,7 +38,7 @@ SENT = [0, 1, 8_192]
 PIECE = 8_192
 
 # How many users have one role: the reply that names them has 2.5 MB, the longest possible.
-USERS = 20_000
+USERS = state.MOST["user"]
 
 
 def waited_for(bench, what, start, least, most):

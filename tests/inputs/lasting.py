@@ -5,6 +5,7 @@ import json
 import pytest
 
 from machine.replaying import Replay
+from machine.state import MOST
 from program.bench import Done
 from program.offices import Office, change
 from program.web import Server, post, reply
@@ -98,19 +99,19 @@ def check_serve_many(bench):
 def check_open_largest(bench):
     """An office with as many users, roles, assignments and grants as are allowed is opened, in bounded memory."""
     office = Office(bench)
-    users = [f"user {number}".ljust(64, "u") for number in range(20_000)]
-    roles = [f"role {number}".ljust(64, "r") for number in range(1_024)]
-    ones = [f"operation {number}".ljust(64, "o") for number in range(5_000)]
+    users = [f"user {number}".ljust(64, "u") for number in range(MOST["user"])]
+    roles = [f"role {number}".ljust(64, "r") for number in range(MOST["role"])]
+    ones = [f"operation {number}".ljust(64, "o") for number in range(MOST["permission"])]
     rows = [f"(1, '{user}')" for user in users] + [f"(2, '{role}')" for role in roles] + ["(3, 'safe')"]
     pairs = [f"(1, 'safe', '{one}')" for one in ones]
-    pairs += [f"(2, '{user}', '{roles[number % 1_024]}')" for number, user in enumerate(users)]
-    grants = [f"('safe', '{one}', '{roles[number]}')" for number in range(4) for one in ones]
+    pairs += [f"(2, '{user}', '{roles[number % len(roles)]}')" for number, user in enumerate(users)]
+    grants = [f"('safe', '{one}', '{roles[number]}')" for number in range(MOST["grant"] // len(ones)) for one in ones]
     statements = [("name_row", rows), ("pair_row", pairs), ("grant_row", grants)]
     change(office.path, [f"INSERT INTO {table} VALUES {', '.join(some)}" for table, some in statements])
     lines = lines_of([{"fn": "assignedUsers", "role": roles[7]}, {"fn": "addUser", "user": "one more"}])
     found = Meter(bench).run(["replay", office.path], [lines])
     answer = json.loads(found.done.out.splitlines()[0])
-    bench.same("the users of a role", answer["value"], sorted(users[7::1_024]))
+    bench.same("the users of a role", answer["value"], sorted(users[7 :: len(roles)]))
     line = b'{"code":32,"error":"TooMany","kind":"user"}'
     bench.same("one more", (found.done.out.splitlines()[1:], found.done.status), ([line], 0))
     is_within(bench, f"an office at its limits: {found.text()}", found.kilobytes, LARGE)

@@ -142,31 +142,33 @@ static long try_check(int32_t wanted, int32_t wanted_of_user)
     return 1;
 }
 
-/* Asks which sets an inheritance and a new session would violate with each allocation failing in turn: nothing is returned then. */
+/* Asks which sets an inheritance and a new session would violate with each allocation failing in turn: either nothing is returned, or
+ * the answer did without the block. */
 static long try_conflicts(void)
 {
     static const size_t lengths[] = {2, 2};
-    uint32_t codes[2];
-    size_t counts[2], totals[2];
+    static const size_t wanted[] = {1, 0};
+    uint32_t code;
+    size_t count, total;
     rbac_row sets[2];
+    bool failed = true;
     long tries;
 
-    for (tries = 0;; tries++) {
+    for (tries = 0; failed; tries++) {
+        failed = false;
         for (int of_session = 0; of_session < 2; of_session++) {
             left = tries;
-            codes[of_session] = of_session ? rbac_creation_conflicts(&office, "ann", 3, "r0r1", lengths, 2, 0, out, sizeof out, sets, 2,
-                                                 &counts[1], &totals[1])
-                                           : rbac_inheritance_conflicts(&office, 0, "r1", 2, "r2", 2, 0, out, sizeof out, sets, 2,
-                                                 &counts[0], &totals[0]);
-            if (left < 0)
-                CHECK(codes[of_session] == RBAC_MEMORY && counts[of_session] == 0 && totals[of_session] == 0);
+            code = of_session ? rbac_creation_conflicts(&office, "ann", 3, "r0r1", lengths, 2, 0, out, sizeof out, sets, 2, &count, &total)
+                              : rbac_inheritance_conflicts(&office, 0, "r1", 2, "r2", 2, 0, out, sizeof out, sets, 2, &count, &total);
+            if (code == RBAC_MEMORY)
+                CHECK(left < 0 && count == 0 && total == 0);
+            else
+                CHECK(code == RBAC_DONE && count == wanted[of_session] && total == wanted[of_session]);
+            failed |= left < 0;
         }
-        if (codes[0] == RBAC_DONE && codes[1] == RBAC_DONE)
-            break;
     }
     left = -1;
-    CHECK(counts[0] == 1 && totals[0] == 1 && counts[1] == 0 && totals[1] == 0);
-    return 2 * tries;
+    return 2 * (tries - 1);
 }
 
 /* Does all lines in a new office with one of all their allocations failing, each in turn. A line that wasn't done is repeated. The

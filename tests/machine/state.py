@@ -4,26 +4,21 @@ A state is a value: what changes it returns another one. Names are texts, whose 
 that of their bytes in UTF-8. A set of pairs or triples is ordered by the first part first.
 """
 
+import csv
 from collections import Counter
 from dataclasses import dataclass, field, replace
+from pathlib import Path
 
-# How many of each kind there may be, in version 1 and in version 2.
-LIMITS = {
-    "user": (5_000, 20_000),
-    "role": (256, 1_024),
-    "object": (2_000, 2_000),
-    "permission": (5_000, 5_000),
-    "grant": (20_000, 20_000),
-    "assignment": (20_000, 20_000),
-    "edge": (1_024, 4_096),
-    "ssdSet": (64, 64),
-    "dsdSet": (64, 64),
-    "member": (32, 32),
-    "session": (1_000, 1_000),
-    "activeRole": (32, 32),
-    "record": (10_000, 10_000),
-    "byte": (2_097_152, 2_097_152),
-}
+# The rows of the table of limits, which tests/pages/limits.py compares with the definition itself.
+TABLE = Path(__file__).resolve().parents[2] / "server/internal/limits/limits.csv"
+ROWS = list(csv.reader(TABLE.read_text(encoding="utf-8").splitlines()))[1:]
+
+# How many of each kind there may be, in version 1 and in version 2, and what is counted.
+LIMITS = {kind: tuple(map(int, limits)) for kind, _, *limits in ROWS}
+COUNTED = {kind: counted for kind, counted, *_ in ROWS}
+
+# How many of each kind there may be in the offices that the program makes, which are of version 2.
+MOST = {kind: limits[1] for kind, limits in LIMITS.items()}
 
 # The names of the refusals.
 ERRORS = {

@@ -215,12 +215,10 @@ def check_refusals(bench):
         bench.same(f"the key {key}", f"`{key}`" in REFUSALS.partition("|")[0], True)
 
 
-def check_limits(bench):
-    """The tables of sizes and limits have the numbers of the sources."""
-    sizes, limits = markdown.tables(markdown.section(PAGE, "### Sizes and limits"))
+def check_sizes(bench):
+    """The table of sizes has the numbers of the sources."""
+    sizes, _ = markdown.tables(markdown.section(PAGE, "### Sizes and limits"))
     bench.same("the sizes", {row[0]: number(row[1]) for row in sizes}, sources.sizes())
-    stated = {row[0].strip("`"): (number(row[1]), number(row[2])) for row in limits}
-    bench.same("the limits", list(stated.items()), list(sources.limits().items()))
     bench.same("the seconds of a wait", f"at most {sources.patience()} seconds" in PAGE, True)
 
 

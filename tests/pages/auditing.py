@@ -4,6 +4,8 @@ import re
 
 import pytest
 
+from machine.state import MOST
+
 from . import markdown, sources
 from .shell import Shell, runs
 
@@ -40,11 +42,10 @@ def check_length(bench):
 
 def check_lengths(bench):
     """The longest reports that the page names follow from the limits: a line for each assignment and each of what it can give."""
-    most = {kind: number for kind, (number, _) in sources.limits().items()}
     text = markdown.in_one_line(PAGE)
-    given = f"each of {most['assignment']:,} assignments can give {most['grant']:,} grants"
-    permissions = f"up to {most['assignment'] * most['grant'] // 1_000_000} million lines, since {given}"
-    near = most["assignment"] * (most["ssdSet"] + most["dsdSet"]) * most["member"]
+    given = f"each of {MOST['assignment']:,} assignments can give {MOST['grant']:,} grants"
+    permissions = f"up to {MOST['assignment'] * MOST['grant'] // 1_000_000} million lines, since {given}"
+    near = MOST["assignment"] * (MOST["ssdSet"] + MOST["dsdSet"]) * MOST["member"]
     for words in (permissions, f"near.csv up to {near // 10_000_000 * 10} million"):
         bench.same(f"the page states: {words}", words in text, True)
 

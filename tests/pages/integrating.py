@@ -112,9 +112,6 @@ def check_decisions(bench):
 
 
 def check_numbers(bench):
-    """The limits that the page names are those of the sources."""
-    limits = {kind: number for kind, (number, _) in sources.limits().items()}
-    most = f"at most {limits['session']:,} sessions, and a session {limits['activeRole']} activated roles"
-    bench.same("the limits of sessions", most in markdown.in_one_line(PAGE), True)
+    """The numbers that the page names are those of the sources."""
     bench.same("the seconds of a wait", f"can hold it for {sources.patience()} seconds" in markdown.in_one_line(PAGE), True)
     bench.same("the number of functions", f"the {len(sources.functions())} functions" in PAGE, True)

@@ -1,4 +1,4 @@
-"""The page of the model: its limits and refusals are those of the sources.
+"""The page of the model: its refusals are those of the sources.
 
 Each rule of docs/explanation/rules.md leads to a definition, a function and tests that exist.
 """
@@ -167,20 +167,6 @@ def check_closed(bench):
     (code,) = [code for code, (name, _) in sources.refusals().items() if name == "Closed"]
     rows = [text for text in rows_of("The office in its tables") if text.startswith(f"a closed office answers {code} ")]
     bench.same("the rows of the closed office", len(rows), 1)
-
-
-def check_versions(bench):
-    """The page has each limit in which the versions differ."""
-    text = markdown.in_one_line(markdown.section(PAGE, "## Limits"))
-    for which, words in (1, "version 1 has at most {user:,} users, {role:,} roles and {edge:,} edges"), (
-        0,
-        "version 2 {user:,}, {role:,} and {edge:,}",
-    ):
-        bench.same(
-            f"version {2 - which}", words.format(**{kind: both[which] for kind, both in sources.limits().items()}) in text, True
-        )
-    differing = {kind for kind, (new, old) in sources.limits().items() if new != old}
-    bench.same("the kinds in which the versions differ", differing, {"user", "role", "edge"})
 
 
 def check_names(bench):

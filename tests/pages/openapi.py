@@ -10,6 +10,7 @@ import sys
 
 import pytest
 
+from machine.state import MOST
 from program.web import PHRASES, Server, head, post
 
 from . import markdown, sources, validators, verdicts
@@ -332,7 +333,7 @@ def check_refusals(bench):
     further = list(dict.fromkeys(key for _, (_, key) in known if key))
     bench.same("the keys of a refusal", list(properties), ["code", "error", *further])
     bench.same("the keys that each refusal has", refusal["required"], ["code", "error"])
-    bench.same("the kinds", properties["kind"]["enum"], list(sources.limits()))
+    bench.same("the kinds", properties["kind"]["enum"], list(MOST))
 
 
 def check_refusals_of_front(bench):
@@ -370,7 +371,7 @@ def check_sizes(bench):
         bench.same(f"{words} in {name}", sizes[words] in re.findall(r"[\d,]*\d", descriptions[name]), True)
     said = re.findall(r"[\d,]*\d", COMPONENTS["schemas"]["Assignments"]["description"])
     for kind in ("byte", "record"):
-        bench.same(f"the most of {kind}", f"{sources.limits()[kind][0]:,}" in said, True)
+        bench.same(f"the most of {kind}", f"{MOST[kind]:,}" in said, True)
 
 
 def check_forms(bench):

@@ -1,4 +1,4 @@
-"""The first page: its commands print what it shows, its limits and figures are those of the sources and the benchmarks.
+"""The first page: its commands print what it shows, and its figures are those of the benchmarks.
 
 With it the table of docs/explanation/architecture.md that has the contracts of each crate to read first.
 """
@@ -100,17 +100,6 @@ def check_first_minutes(bench):
         reader.shows(refused, refusal)
         reader.shows(f"{ending}; wait $! 2> /dev/null", "")
         reader.shows(checking, f"{good}\n")
-
-
-def check_limits(bench):
-    """The limits that the page begins with are those of the sources."""
-    most = {kind: f"{number:,}" for kind, (number, _) in sources.limits().items()}
-    said = [f"at most {most['user']} users and {most['assignment']} assignments", f"{most['role']} roles", f"{most['object']} objects"]
-    said += [f"{most['permission']} permissions", f"{most['grant']} grants", f"{most['session']} sessions"]
-    (size,) = re.findall(r"^- \*\*Size\.\*\* (.*?)^- ", PAGE, re.M | re.S)
-    for words in said:
-        bench.same(f"the page states: {words}", words in markdown.in_one_line(size), True)
-    bench.same("one role for each user", most["assignment"], most["user"])
 
 
 def cell(section, row, column, page=OTHERS):

@@ -2,6 +2,7 @@
 
 import re
 
+from machine.state import MOST
 from program.bench import TESTS
 from program.web import PHRASES
 
@@ -131,21 +132,9 @@ def kind_words():
     return dict(found(r'Kind::(\w+) => "(\w+)",', "rbac_sets/src/kind.rt"))
 
 
-def limits():
-    """How many of each kind there may be, in version 2 and in version 1."""
-    words, found_limits = kind_words(), {}
-    pattern = r"((?:Kind::\w+(?: \| )?)+)( if version == 1)? => ([\d_]+),"
-    for kinds, old, number in found(pattern, "rbac_sets/src/kind.rt"):
-        for kind in re.findall(r"Kind::(\w+)", kinds):
-            found_limits[words[kind], 1 if old else 2] = int(number)
-    return {
-        word: (found_limits[word, 2], found_limits.get((word, 1), found_limits[word, 2])) for word in words.values()
-    }
-
-
 def sizes():
     """The greatest sizes of a request, by what they are of."""
-    found_sizes = {"bytes of a body of CSV": limits()["byte"][0]}
+    found_sizes = {"bytes of a body of CSV": MOST["byte"]}
     for words, (path, name) in SIZES.items():
         (number,) = found(rf"const {name}: \w+ = ([\d_]+);", path)
         found_sizes[words] = int(number)

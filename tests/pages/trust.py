@@ -46,7 +46,7 @@ def check_definitions(bench):
         found = specs.definitions(specs.plain(ROOT / "crates" / path, "--"))
         bench.same(f"the lines of {name}", len(found.get(name.strip("`"), "").splitlines()), int(lines))
     edits = len(list((ROOT / "tests/edits").rglob("*.edit")))
-    bench.same("how many wrong bodies there are", re.findall(r"tests/edits has (\d+) wrong bodies", PAGE), [str(edits)])
+    bench.same("how many wrong bodies there are", re.findall(r"tests/edits has ([\d,]+) wrong bodies", PAGE), [f"{edits:,}"])
 
 
 def planted(**settings):

@@ -3,6 +3,7 @@
 import json
 
 from machine.commands import apply
+from machine.state import MOST as LIMITS
 from machine.state import Refused, State
 
 # How many names of each kind a state may have.
@@ -61,13 +62,13 @@ def draw_state(random, count, start=None, sets=6):
 
 
 def fill_sets(random, state, sort):
-    """The state with 64 sets of a sort, as far as its users and sessions keep them."""
+    """The state with as many sets of a sort as there may be, as far as its users and sessions keep them."""
     roles = sorted(state.roles)
     if len(roles) < 3:
         return state
     for _ in range(2000):
         sets = state.static_sets if sort == "Ssd" else state.dynamic_sets
-        if len(sets) == 64:
+        if len(sets) == LIMITS[f"{sort.lower()}Set"]:
             break
         some = frozenset(random.sample(roles, random.randint(2, min(4, len(roles)))))
         try:

@@ -4,6 +4,7 @@ import subprocess
 
 import pytest
 
+from machine.state import MOST
 from program.bench import SECONDS
 from program.web import free_port
 
@@ -165,20 +166,25 @@ def check_all_at_once(bench):
 
 def check_limits(bench):
     """More than a limit allows is one mistake for each kind, with the limit, whatever uses what is beyond it."""
-    roles = "".join(f"[roles.r{number}]\n" for number in range(1024)) + '[roles.r1024]\ngrants = { o2000 = ["open"] }\n'
-    objects = "".join(f"o{number} = []\n" for number in range(2000)) + 'o2000 = ["open"]\n'
-    sets = "".join(f'[dynamic.s{number}]\nroles = ["r1", "r2"]\ncardinality = 2\n' for number in range(65))
-    some = ", ".join(f'"r{number}"' for number in range(33))
+    most, last, members, of_sets = MOST["role"], MOST["object"], MOST["member"], MOST["dsdSet"]
+    roles = "".join(f"[roles.r{number}]\n" for number in range(most)) + f'[roles.r{most}]\ngrants = {{ o{last} = ["open"] }}\n'
+    objects = "".join(f"o{number} = []\n" for number in range(last)) + f'o{last} = ["open"]\n'
+    sets = "".join(f'[dynamic.s{number}]\nroles = ["r1", "r2"]\ncardinality = 2\n' for number in range(of_sets + 1))
+    some = ", ".join(f'"r{number}"' for number in range(members + 1))
     bench.write("p.toml", f"[objects]\n{objects}{roles}{sets}[static.all]\nroles = [{some}]\ncardinality = 2\n".encode())
     with open(bench.path("p.toml"), "a", encoding="ascii") as file:
-        file.write('[users]\nann = ["r1024", "nobody"]\n')
+        file.write(f'[users]\nann = ["r{most}", "nobody"]\n')
     done = policy(bench, "validate", "p.toml")
+    # The lines: a head and the objects, the roles and a line with grants, three for each set, and those after them.
+    of_roles = last + 3
+    dynamic = of_roles + most + 2
+    static = dynamic + 3 * (of_sets + 1) + 1
     wanted = {
-        "p.toml:2003: roles: an office has at most 1,024 roles, and these are 1,025",
-        "p.toml:1: objects: an office has at most 2,000 objects, and these are 2,001",
-        "p.toml:3029: dynamic: an office has at most 64 dynamic sets, and these are 65",
-        "p.toml:3228: users.ann[1]: there is no role nobody",
-        "p.toml:3225: static.all.roles: a set has at most 32 roles, and this one has 33",
+        f"p.toml:{of_roles}: roles: an office has at most {most:,} roles, and these are {most + 1:,}",
+        f"p.toml:1: objects: an office has at most {last:,} objects, and these are {last + 1:,}",
+        f"p.toml:{dynamic}: dynamic: an office has at most {of_sets} dynamic sets, and these are {of_sets + 1}",
+        f"p.toml:{static + 3}: users.ann[1]: there is no role nobody",
+        f"p.toml:{static}: static.all.roles: a set has at most {members} roles, and this one has {members + 1}",
     }
     said = {line for line in done.err.decode().splitlines() if not line.startswith("answers of the program: ")}
     bench.same("what is printed", (done.status, said), (1, wanted))

@@ -7,6 +7,7 @@ from io import StringIO
 
 import pytest
 
+from machine.state import MOST
 from program.offices import read_rows
 
 from . import drawing, judging_plans
@@ -21,7 +22,7 @@ KNOWN = 1
 MET = [
     "plans with a gap",
     "sets made under a free name",
-    "pairs with 64 sets",
+    "pairs with as many sets as there may be",
     "sessions that end",
     "sessions that are ended",
     "permissions that are away",
@@ -59,7 +60,7 @@ def watched(path, start, judge):
 
 
 def draw_pair(random, number):
-    """Two states: the second one is another one, or the first one after some changes. One in six has 64 sets of a sort."""
+    """Two states: the second one is another one, or the first one after some changes. One in six has as many sets of a sort as there may be."""
     has_many = number % 6 == 0
     first = drawing.draw_state(random, 250)
     if has_many:
@@ -136,7 +137,7 @@ def turn(bench, what, first, second, met):
     met["plans with a gap"] += has_gap
     met["permissions that are away"] += sum(map(len, effects.away.values()))
     met["sets made under a free name"] += sum(is_free(command) for command in plan.commands)
-    met["pairs with 64 sets"] += max(len(first.static_sets), len(first.dynamic_sets)) == 64
+    met["pairs with as many sets as there may be"] += max(len(first.static_sets), len(first.dynamic_sets)) == MOST["ssdSet"]
     met["sessions that end"] += len(effects.ended)
     met["sessions that are ended"] += sum(command["fn"] == "deleteSession" for command in plan.commands)
 

@@ -9,6 +9,7 @@ from pathlib import Path
 
 import pytest
 
+from machine.state import MOST
 from program.bench import SECONDS
 from program.offices import read_rows
 
@@ -17,8 +18,8 @@ from .commands import BIN, BUFFERED, PYTHON, ends, people, policy
 from .pairs import make_office
 from .plans import good_office
 
-# How many assignments an office may have, and the kind of their rows.
-LIMITS, ASSIGNMENT = {"assignment": 20_000}, 2
+# How many users and assignments an office may have, and the kind of the rows of assignments.
+USERS, ASSIGNMENTS, ASSIGNMENT = MOST["user"], MOST["assignment"], 2
 
 # Files that say the same.
 SAME = {
@@ -176,15 +177,17 @@ def full_office(bench):
     """An office with as many assignments as it may have, of people with three or four roles each, and the lines of a file that says so."""
     roles = ["employee", *(f"dept {number:02}" for number in range(16)), "badge", "lead"]
     lines, rows, count = [{"fn": "addRole", "role": role} for role in roles], [], 0
-    for number in range(1, 6_071):
-        own = ["employee", f"dept {number % 16:02}", "badge", *["lead"] * (number > 6_070 - 1_790)]
+    # Some have four roles, and the others three.
+    people_of, leads = 6_070, ASSIGNMENTS - 3 * 6_070
+    for number in range(1, people_of + 1):
+        own = ["employee", f"dept {number % 16:02}", "badge", *["lead"] * (number > people_of - leads)]
         count += len(own)
         lines += [
             {"fn": "addUser", "user": f"u{number:06}"},
             *({"fn": "assignUser", "user": f"u{number:06}", "role": role} for role in own),
         ]
         rows.append((f"u{number:06}", own))
-    bench.same("the assignments", count, LIMITS["assignment"])
+    bench.same("the assignments", count, ASSIGNMENTS)
     bench.ends(["init", "full"], makes=["full"])
     answers = bench.run(["replay", "full"], "".join(json.dumps(line) + "\n" for line in lines).encode()).out
     bench.same("answers other than ok", set(answers.split()) - {b'{"ok":true}'}, set())
@@ -209,7 +212,7 @@ def check_at_the_limit(bench):
     first = [("u006071", ["employee"]), ("u006072", ["employee", "badge"])]
     bench.write("two.csv", csv_of([*first, *people_of.items()]))
     words = ["two.csv", "--file", "full"]
-    said = "two.csv: an office has room for 20,000 assignments: 4 people of the file have none (lines 2, 3, 9, 10), and stay as they are\n"
+    said = f"two.csv: an office has room for {ASSIGNMENTS:,} assignments: 4 people of the file have none (lines 2, 3, 9, 10), and stay as they are\n"
     for name, done in (("plan", people(bench, "plan", *words)), ("apply", people(bench, "apply", *words, "--yes"))):
         bench.same(f"{name}: what can't be done", (done.status, said_by(done)), (1, said))
     bench.same("what is done", done.out.decode().splitlines()[-1], "Done: 2 changes. Refused: 9.")
@@ -221,7 +224,7 @@ def check_at_the_limit(bench):
         "u006071": [],
         "u006072": [],
     }
-    bench.same("the roles", roles_of(bench, *wanted), (LIMITS["assignment"], wanted))
+    bench.same("the roles", roles_of(bench, *wanted), (ASSIGNMENTS, wanted))
     people_of |= {"u000009": ["employee", "badge"], "u000010": ["badge"]}
     bench.write("two.csv", csv_of([*first, *people_of.items()]))
     done = people(bench, "apply", *words, "--yes")
@@ -232,7 +235,7 @@ def check_at_the_limit(bench):
         "u006071": ["employee"],
         "u006072": ["badge", "employee"],
     }
-    bench.same("with room for three", roles_of(bench, *wanted), (LIMITS["assignment"], wanted))
+    bench.same("with room for three", roles_of(bench, *wanted), (ASSIGNMENTS, wanted))
     bench.same("what is left", (done.status, "2 people of the file have none (lines 9, 10)" in done.err.decode()), (1, True))
 
 
@@ -252,19 +255,20 @@ def check_too_many(bench):
     """A list that fits in no office is refused in one line, and nothing is done; one that fits but for a few isn't."""
     good_office(bench)
     before = Path(bench.path("office")).read_bytes()
-    one = [(f"user {number}", ["employee"]) for number in range(30_000)]
+    many, fewer = USERS * 3 // 2, ASSIGNMENTS * 2 // 5
+    one = [(f"user {number}", ["employee"]) for number in range(many)]
     for what, rows, said in (
-        ("users", one, "30,000 people with 30,000 assignments are in the file"),
+        ("users", one, f"{many:,} people with {many:,} assignments are in the file"),
         (
             "assignments",
-            [(user, ["employee", "teller", "auditor"]) for user, _ in one[:8_000]],
-            "8,000 people with 24,000 assignments are in the file",
+            [(user, ["employee", "teller", "auditor"]) for user, _ in one[:fewer]],
+            f"{fewer:,} people with {3 * fewer:,} assignments are in the file",
         ),
     ):
         bench.write("people.csv", csv_of(rows))
         for name in ("plan", "apply"):
             done = people(bench, name, "people.csv", "--file", "office", *["--yes"] * (name == "apply"))
-            line = f"rbac-people: people.csv: {said}, and an office has room for 20,000 users and 20,000 assignments: nothing was done\n"
+            line = f"rbac-people: people.csv: {said}, and an office has room for {USERS:,} users and {ASSIGNMENTS:,} assignments: nothing was done\n"
             bench.same(f"{what}: {name}", (done.status, done.out.decode(), said_by(done)), (2, "", line))
     bench.same("the office", Path(bench.path("office")).read_bytes() == before, True)
 

@@ -1,5 +1,7 @@
 """Offices whose rows were changed: the check that fails is named, and the file stays as it is."""
 
+from machine.state import LIMITS
+
 from .no_offices import refused_by_all
 from .offices import changed, damaged, small_office, compare_with_state, version_refused
 
@@ -96,26 +98,29 @@ def check_too_many(bench):
     """A limit that is exceeded is reported before what is damaged; names and versions are judged before that."""
     office = small_office(bench)
     missing, no_name = DAMAGES["an assignment of a role that is not there"], DAMAGES["an empty name"]
-    with changed(office, roles(1_022)) as path:
-        refused_by_all(bench, path, TOO_MANY_ROLES, "1,025 roles", migrate=version_refused(2))
+    own, (most_1, most_2) = len(office.model.state.roles), LIMITS["role"]
+    with changed(office, roles(most_2 + 1 - own)) as path:
+        refused_by_all(bench, path, TOO_MANY_ROLES, "a role too many", migrate=version_refused(2))
     office.become_version_1()
-    with changed(office, roles(254)) as path:
-        refused_by_all(bench, path, TOO_MANY_ROLES, "257 roles in version 1")
-    with changed(office, [*roles(254), *missing[1]]) as path:
-        refused_by_all(bench, path, TOO_MANY_ROLES, "257 roles and a role that is not there")
-    with changed(office, [*roles(254), *no_name[1]]) as path:
-        refused_by_all(bench, path, damaged(2), "257 roles and no name")
+    more = roles(most_1 + 1 - own)
+    with changed(office, more) as path:
+        refused_by_all(bench, path, TOO_MANY_ROLES, "a role too many in version 1")
+    with changed(office, [*more, *missing[1]]) as path:
+        refused_by_all(bench, path, TOO_MANY_ROLES, "a role too many and one that is not there")
+    with changed(office, [*more, *no_name[1]]) as path:
+        refused_by_all(bench, path, damaged(2), "a role too many and no name")
     with changed(office, ["UPDATE meta_row SET version = 7", *no_name[1]]) as path:
         refused_by_all(bench, path, version_refused(7), "version 7 and no name")
 
 
 def check_most_roles(bench):
-    """As many roles as there may be are opened: 256 in version 1, and more once it is migrated."""
+    """As many roles as there may be in version 1 are opened, and there may be more once it is migrated."""
     office = small_office(bench)
     office.become_version_1()
-    office.change(roles(253))
     state = office.model.state
-    state = state.but(roles=state.roles | {f"r{number}" for number in range(253)})
+    more = LIMITS["role"][0] - len(state.roles)
+    office.change(roles(more))
+    state = state.but(roles=state.roles | {f"r{number}" for number in range(more)})
     compare_with_state(bench, office.path, state)
     line = b'{"fn":"addRole","role":"more"}\n'
     bench.ends(["replay", office.path], TOO_MANY_ROLES + b"\n", given=line)

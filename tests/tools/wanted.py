@@ -3,9 +3,8 @@
 import hashlib
 import json
 
-from machine.state import assigned_roles, authorized_users, below
+from machine.state import LIMITS, assigned_roles, authorized_users, below
 from machine.texts import json_text, rows
-from pages import sources
 
 # How a difference names the rows of each table and kind. The pairs of the closure are in no dump.
 SENTENCES = {
@@ -106,7 +105,7 @@ def room(state):
         "session": len(state.sessions),
         "activeRole": max((len(active) for _, active in state.sessions.values()), default=0),
     }
-    most = {kind: limits[0 if state.version == 2 else 1] for kind, limits in sources.limits().items()}
+    most = {kind: LIMITS[kind][state.version - 1] for kind in counts}
     found = [(state.version, kind, count, most[kind], most[kind] - count) for kind, count in counts.items()]
     return [tuple(map(str, row)) for row in found]
 

@@ -6,24 +6,15 @@ from collections.abc import Iterable, Iterator
 from dataclasses import dataclass, field, replace
 from typing import Any
 
+from .limits import limits_of
+
 # A command to the office: its function at `fn`, and its arguments.
 Command = dict[str, Any]
 
 # How many there may be of each kind, in an office of version 2.
-LIMITS = {
-    "user": 20_000,
-    "role": 1_024,
-    "object": 2_000,
-    "permission": 5_000,
-    "grant": 20_000,
-    "assignment": 20_000,
-    "edge": 4_096,
-    "ssdSet": 64,
-    "dsdSet": 64,
-    "member": 32,
-}
+LIMITS = limits_of(2)
 
-# The words for these kinds.
+# The words for the kinds of which a policy has some.
 KINDS = {
     "user": "users",
     "role": "roles",
@@ -119,7 +110,7 @@ class State:
     def counts(self) -> dict[str, int]:
         """How many there are of each kind of which an office has a limited number."""
         parts = (self.users, self.roles, self.objects, self.permissions, self.grants, self.assignments, self.edges)
-        return dict(zip(LIMITS, map(len, (*parts, self.static, self.dynamic))))
+        return dict(zip(KINDS, map(len, (*parts, self.static, self.dynamic))))
 
 
 def line_of(command: Command) -> bytes:

@@ -11,7 +11,7 @@ if sys.version_info < (3, 11):
 
 from rbac_policy.meter import Meter
 from rbac_policy.mistakes import Lines, path_text
-from rbac_policy.model import DutySet, State, shown
+from rbac_policy.model import LIMITS, DutySet, State, shown
 from rbac_policy.reading import read_policy
 from rbac_policy.sets import Sets
 from rbac_policy.writing import write_policy
@@ -98,7 +98,7 @@ def test_shown(name, text):
 
 
 AB, CD, ABC = DutySet(frozenset("ab"), 2), DutySet(frozenset("cd"), 2), DutySet(frozenset("abc"), 2)
-FULL = {f"s{number}": DutySet(frozenset([f"r{number}", "r"]), 2) for number in range(62)}
+FULL = {f"s{number}": DutySet(frozenset([f"r{number}", "r"]), 2) for number in range(LIMITS["ssdSet"] - 2)}
 ROLES = {role for duty in [AB, CD, ABC, *FULL.values()] for role in duty.roles}
 
 
@@ -135,7 +135,7 @@ def test_renamed_set():
 
 
 def test_full():
-    """With 64 sets a set that can't be changed step by step is away for a moment, and so are two of exchanged names."""
+    """With as many sets as there may be a set that can't be changed step by step is away for a moment, and so are two of exchanged names."""
     steps = (["deleteSsdSet x", "createSsdSet x"], 1)
     assert planned({**FULL, "x": AB, "z": ABC}, {**FULL, "x": CD, "z": ABC}, lambda duty: len(duty.roles) < 3) == steps
     assert planned({**FULL, "x": AB, "y": CD}, {**FULL, "x": CD, "y": AB})[1] == 1

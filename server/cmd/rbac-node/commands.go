@@ -34,6 +34,7 @@ func commands() []command {
 		{"adopt", "--etcd URL,.. FILE", "makes an office the beginning of one of several machines", prepareAdopt},
 		{"callers", "FILE | --check", "prints who may do what by a file of callers, or checks the files that the options of serve name", prepareCallers},
 		{"health", "SOCKET", "asks whether the front at a socket is ready", prepareHealth},
+		{"limits", "[--version N] [--json]", "prints how many of each kind an office may have", prepareLimits},
 	}
 	return append(all, recordCommands()...)
 }
@@ -214,7 +215,7 @@ var subjects = []subject{
 		"at", "entry", "user", "role", "object", "operation", "set", "session", "record show reason", "function", "caller", "since", "until",
 		"record show refused",
 	}},
-	{"What is printed or sent", []string{"format", "syslog", "place", "follow"}},
+	{"What is printed or sent", []string{"format", "syslog", "place", "follow", "version", "json"}},
 	{"Who does this, why, and how", []string{"by", "reason", "replace", "unit"}},
 	{"Several machines, over etcd", []string{
 		"etcd", "etcd-user", "etcd-password-file", "etcd-cert", "etcd-key", "etcd-ca", "etcd-open", "name", "scratch", "prefix",

@@ -104,7 +104,7 @@ func (s *settings) check() error {
 	return s.checkURLs()
 }
 
-// saySessions says in the log if no session ends by itself. An office has room for 1,000, and people close browsers without a logout.
+// saySessions says in the log if no session ends by itself. An office has room for few, and people close browsers without a logout.
 func (s *settings) saySessions(log *logs.Logger) {
 	if s.sessionAge+s.sessionIdle == 0 {
 		log.Warn("sessions never end by themselves: there is no --session-age and no --session-idle")

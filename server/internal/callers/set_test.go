@@ -15,6 +15,7 @@ import (
 	"rbac/clients/go/rbacoffice"
 
 	"rbac-node/internal/api"
+	"rbac-node/internal/limits"
 	"rbac-node/internal/logs"
 	"rbac-node/internal/programtest"
 )
@@ -165,7 +166,7 @@ func TestLoad(t *testing.T) {
 		many = append(many, fmt.Sprintf(`{"fn":"addUser","user":"token:%d"}`, i))
 	}
 	roles := []string{user}
-	for i := 0; i <= 32; i++ {
+	for i := 0; i <= limits.Of("activeRole", limits.Current); i++ {
 		roles = append(roles, fmt.Sprintf(`{"fn":"addRole","role":"r%d"}`, i), fmt.Sprintf(`{"fn":"assignUser","user":"token:a","role":"r%d"}`, i))
 	}
 	for _, test := range []struct {

@@ -7,6 +7,7 @@ import (
 	"rbac/clients/go/rbacoffice"
 
 	"rbac-node/internal/api"
+	"rbac-node/internal/limits"
 )
 
 // smallerLimits are those of an office of version 1 that are smaller than librbac's, in the order in which the program compares them.
@@ -14,7 +15,10 @@ var smallerLimits = []struct {
 	kind  string
 	table rbacoffice.Table
 	most  int
-}{{"user", rbacoffice.Users, 5000}, {"role", rbacoffice.Roles, 256}, {"edge", rbacoffice.Inheritances, 1024}}
+}{
+	{"user", rbacoffice.Users, limits.Of("user", 1)}, {"role", rbacoffice.Roles, limits.Of("role", 1)},
+	{"edge", rbacoffice.Inheritances, limits.Of("edge", 1)},
+}
 
 // answerInVersion1 does a command as the program does over an office of version 1, which has smaller limits than librbac, and no locks.
 // What librbac does and the program doesn't is taken back.

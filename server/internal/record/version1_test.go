@@ -2,14 +2,33 @@ package record
 
 import (
 	"context"
+	"fmt"
 	"io"
 	"os/exec"
 	"path/filepath"
 	"strings"
 	"testing"
 
+	"rbac-node/internal/limits"
 	"rbac-node/internal/programtest"
 )
+
+// TestSmallerLimits has each kind of which version 1 allows fewer than librbac, in their order.
+func TestSmallerLimits(t *testing.T) {
+	var smaller []string
+	for _, kind := range limits.Kinds() {
+		if kind.In(1) < limits.Of(kind.Name, limits.Current) {
+			smaller = append(smaller, kind.Name)
+		}
+	}
+	var known []string
+	for _, one := range smallerLimits {
+		known = append(known, one.kind)
+	}
+	if strings.Join(known, " ") != strings.Join(smaller, " ") {
+		t.Errorf("%v and not %v", known, smaller)
+	}
+}
 
 // TestVersion1 has an office of version 1 that is at its limits. A rerun gives the answers of the program, and the same rows.
 func TestVersion1(t *testing.T) {
@@ -17,11 +36,15 @@ func TestVersion1(t *testing.T) {
 	if said, err := exec.Command(programtest.Path(t), "init", file).CombinedOutput(); err != nil {
 		t.Fatalf("%s", said)
 	}
-	const count = "WITH RECURSIVE count(i) AS (SELECT 0 UNION ALL SELECT i + 1 FROM count WHERE i < "
-	const edges = count + "1022) INSERT INTO pair_row SELECT %, 'r' || (i / 32), 'r' || (32 + i % 32) FROM count"
+	// allButOne counts from 0 to one less than a limit allows.
+	allButOne := func(kind string) string {
+		const count = "WITH RECURSIVE count(i) AS (SELECT 0 UNION ALL SELECT i + 1 FROM count WHERE i < %d)"
+		return fmt.Sprintf(count, limits.Of(kind, 1)-2)
+	}
+	edges := allButOne("edge") + "INSERT INTO pair_row SELECT %d, 'r' || (i / 32), 'r' || (32 + i %% 32) FROM count"
 	change(t, file, "UPDATE meta_row SET version = 1", "DROP TABLE locked_row",
-		count+"4998) INSERT INTO name_row SELECT 1, 'u' || i FROM count", count+"254) INSERT INTO name_row SELECT 2, 'r' || i FROM count",
-		strings.Replace(edges, "%", "3", 1), strings.Replace(edges, "%", "4", 1))
+		allButOne("user")+"INSERT INTO name_row SELECT 1, 'u' || i FROM count",
+		allButOne("role")+"INSERT INTO name_row SELECT 2, 'r' || i FROM count", fmt.Sprintf(edges, 3), fmt.Sprintf(edges, 4))
 	tool := &Tool{Office: file, Program: programtest.Path(t), Out: io.Discard, Err: io.Discard}
 	if err := tool.Adopt(context.Background(), "a test", "version 1"); err != nil {
 		t.Fatal(err)

@@ -8,7 +8,7 @@ import (
 	"rbac-node/internal/state"
 )
 
-// A dutySet is a separation of duty set, and which of its members a role is or inherits from: a bit for each of at most 32.
+// A dutySet is a separation of duty set, and which of its members a role is or inherits from: a bit for each of them.
 type dutySet struct {
 	state.NamedSet
 	kind  string

@@ -15,8 +15,18 @@ import (
 	"testing"
 
 	"rbac-node/internal/api"
+	"rbac-node/internal/limits"
 	"rbac-node/internal/state"
 )
+
+// TestMasks has a bit for each member of the largest set.
+func TestMasks(t *testing.T) {
+	for version := 1; version <= limits.Newest(); version++ {
+		if most := limits.Of("member", version); uint32(1)<<(most-1) == 0 {
+			t.Errorf("a set of version %d may have %d members", version, most)
+		}
+	}
+}
 
 // made returns what is in an office after some lines.
 func made(t *testing.T, lines ...string) *state.Frozen {

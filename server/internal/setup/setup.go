@@ -27,7 +27,7 @@ const (
 	Administrator, Monitor = "administrator", "prometheus"
 	// root is the caller who may do everything without a token, over a socket of this machine.
 	root = "unix:0"
-	// sessionIdle and sessionAge end the sessions of people who close a browser without a logout: an office has room for 1,000.
+	// sessionIdle and sessionAge end the sessions of people who close a browser without a logout: an office has room for few.
 	sessionIdle, sessionAge = "8h", "24h"
 )
 

@@ -7,6 +7,7 @@ import (
 	"rbac/clients/go/rbacoffice"
 
 	"rbac-node/internal/api"
+	"rbac-node/internal/limits"
 )
 
 // long returns a name of 64 bytes.
@@ -21,15 +22,33 @@ func (m *maker) add(table rbacoffice.Table, number uint32, names ...string) {
 	*m = append(*m, row)
 }
 
-const roles, apart, permissions, objects = 1024, 2, 5000, 2000
+// mostOf returns how many of a kind an office may have.
+func mostOf(kind string) int { return limits.Of(kind, limits.Current) }
+
+// apart is how many roles are in nobody's hands.
+const apart = 2
+
+var (
+	users, roles, objects, permissions = mostOf("user"), mostOf("role"), mostOf("object"), mostOf("permission")
+	grants, assignments, members       = mostOf("grant"), mostOf("assignment"), mostOf(memberKind)
+)
+
+// TestMasks has a bit for each member of the largest set.
+func TestMasks(t *testing.T) {
+	for version := 1; version <= limits.Newest(); version++ {
+		if most := limits.Of(memberKind, version); uint64(1)<<(most-1) == 0 {
+			t.Errorf("a set of version %d may have %d members", version, most)
+		}
+	}
+}
 
 // atLimits returns an office with as much of everything as there may be: a chain of all roles but two. The first user is assigned to
 // all of the chain, the others to one of ten, and the first permission is granted to all of it.
 func atLimits(b *testing.B) *State {
 	var m maker
-	for i := 0; i < 20_000; i++ {
+	for i := 0; i < users; i++ {
 		m.add(rbacoffice.Users, 0, long("u", i))
-		if i < 20_000-roles {
+		if i < assignments-roles {
 			m.add(rbacoffice.Assignments, 0, long("u", roles+i), long("r", i%10))
 		}
 	}
@@ -49,7 +68,7 @@ func atLimits(b *testing.B) *State {
 		}
 		m.add(rbacoffice.Permissions, 0, long("o", i%objects), long("p", i/objects))
 	}
-	for i := 0; i < 20_000-roles; i++ {
+	for i := 0; i < grants-roles; i++ {
 		at := 1 + i%(permissions-1)
 		m.add(rbacoffice.Grants, 0, long("o", at%objects), long("p", at/objects), long("r", roles-apart-1-i/(permissions-1)))
 	}
@@ -63,12 +82,12 @@ func atLimits(b *testing.B) *State {
 	return s
 }
 
-// addSets adds 64 sets of each kind, which nobody violates: two of the 32 members are in nobody's hands.
+// addSets adds as many sets of each kind as there may be, which nobody violates: two of the members are in nobody's hands.
 func (m *maker) addSets() {
-	for i := 0; i < 64; i++ {
-		m.add(rbacoffice.DynamicCardinalities, 32, long("d", i))
-		m.add(rbacoffice.StaticCardinalities, 32, long("s", i))
-		for at := 0; at < 32; at++ {
+	for i := 0; i < mostOf("ssdSet"); i++ {
+		m.add(rbacoffice.DynamicCardinalities, uint32(members), long("d", i))
+		m.add(rbacoffice.StaticCardinalities, uint32(members), long("s", i))
+		for at := 0; at < members; at++ {
 			member := long("r", at*(i%8+1)*3)
 			if at < apart {
 				member = long("r", roles-1-at)
@@ -80,10 +99,10 @@ func (m *maker) addSets() {
 }
 
 func (m *maker) addSessions() {
-	for i := 0; i < 1000; i++ {
+	for i := 0; i < mostOf(sessionKind); i++ {
 		m.add(rbacoffice.Sessions, 0, long("t", i), long("u", 0))
-		for at := 0; at < 32; at++ {
-			m.add(rbacoffice.ActivatedRoles, 0, long("t", i), long("r", roles-apart-32+at))
+		for at := 0; at < MostActivated; at++ {
+			m.add(rbacoffice.ActivatedRoles, 0, long("t", i), long("r", roles-apart-MostActivated+at))
 		}
 	}
 }
@@ -99,7 +118,7 @@ func BenchmarkAtLimits(b *testing.B) {
 		})
 	}
 	for _, one := range [][]string{
-		{"assignedUsers", "role", long("r", 5)}, {"authorizedUsers", "role", long("r", 1021)}, {"rolePermissions", "role", long("r", 512)},
+		{"assignedUsers", "role", long("r", 5)}, {"authorizedUsers", "role", long("r", roles-apart-1)}, {"rolePermissions", "role", long("r", roles/2)},
 		{"roleOperationsOnObject", "role", long("r", 0), "object", long("o", 0)}, {"assignedRoles", "user", long("u", 0)},
 		{"authorizedRoles", "user", long("u", 0)}, {"userPermissions", "user", long("u", 0)}, {"userPermissions", "user", long("u", 5000)},
 		{"userOperationsOnObject", "user", long("u", 0), "object", long("o", 0)}, {"sessionPermissions", "session", long("t", 5)},
@@ -112,7 +131,7 @@ func BenchmarkAtLimits(b *testing.B) {
 		measured(one[0], func() { _, _ = s.Answer(call) })
 	}
 	for _, one := range [][]string{
-		{"assignUser", "user", long("u", 0), "role", long("r", 0)}, {"addInheritance", "asc", long("r", 0), "desc", long("r", 1021)},
+		{"assignUser", "user", long("u", 0), "role", long("r", 0)}, {"addInheritance", "asc", long("r", 0), "desc", long("r", roles-apart-1)},
 		{"addActiveRole", "user", long("u", 0), "session", long("t", 5), "role", long("r", 100)},
 	} {
 		call, err := api.NewCall(one[0], one[1:]...)

@@ -1,6 +1,10 @@
 package state
 
-import "rbac/clients/go/rbacoffice"
+import (
+	"rbac/clients/go/rbacoffice"
+
+	"rbac-node/internal/limits"
+)
 
 // A Room is how many there are of a kind, and how many there may be.
 type Room struct {
@@ -13,7 +17,7 @@ type Room struct {
 const sessionKind, memberKind, ActiveRoleKind = "session", "member", "activeRole"
 
 // MostActivated is how many roles may be activated in a session.
-const MostActivated = 32
+var MostActivated = limits.Of(ActiveRoleKind, limits.Current)
 
 // IsOfOne reports whether a room is that of a single set or session, and not of the whole office.
 func (r Room) IsOfOne() bool { return r.Kind == memberKind || r.Kind == ActiveRoleKind }
@@ -21,21 +25,27 @@ func (r Room) IsOfOne() bool { return r.Kind == memberKind || r.Kind == ActiveRo
 // IsOfSessions reports whether a room is that of sessions.
 func (r Room) IsOfSessions() bool { return r.Kind == sessionKind }
 
-// Rooms returns how many there are of each kind that an office of version 2 limits. Members are counted for the set that has most, and
-// activated roles for the session that has most. No large table is read for that.
+// Rooms returns how many there are of each kind that an office limits, and not an import. Members are counted for the set that has most,
+// and activated roles for the session that has most. No large table is read for that.
 func (v *View) Rooms() []Room {
 	statics, dynamics := firsts(v.all(rbacoffice.StaticCardinalities)), firsts(v.all(rbacoffice.DynamicCardinalities))
 	members := v.most(rbacoffice.StaticMembers, statics)
 	if most := v.most(rbacoffice.DynamicMembers, dynamics); most > members {
 		members = most
 	}
-	return []Room{
-		{v.count(rbacoffice.Users), "user", 20_000}, {v.count(rbacoffice.Roles), "role", 1_024},
-		{v.count(rbacoffice.Objects), "object", 2_000}, {v.count(rbacoffice.Permissions), "permission", 5_000},
-		{v.count(rbacoffice.Grants), "grant", 20_000}, {v.count(rbacoffice.Assignments), "assignment", 20_000},
-		{v.count(rbacoffice.Inheritances), "edge", 4_096}, {len(statics), "ssdSet", 64}, {len(dynamics), "dsdSet", 64},
-		{members, memberKind, 32}, {v.count(rbacoffice.Sessions), sessionKind, 1_000}, {v.mostActivated(), ActiveRoleKind, MostActivated},
+	counts := map[string]int{
+		"user": v.count(rbacoffice.Users), "role": v.count(rbacoffice.Roles), "object": v.count(rbacoffice.Objects),
+		"permission": v.count(rbacoffice.Permissions), "grant": v.count(rbacoffice.Grants), "assignment": v.count(rbacoffice.Assignments),
+		"edge": v.count(rbacoffice.Inheritances), "ssdSet": len(statics), "dsdSet": len(dynamics), memberKind: members,
+		sessionKind: v.count(rbacoffice.Sessions), ActiveRoleKind: v.mostActivated(),
 	}
+	rooms := make([]Room, 0, len(counts))
+	for _, kind := range limits.Kinds() {
+		if count, is := counts[kind.Name]; is {
+			rooms = append(rooms, Room{count, kind.Name, kind.In(limits.Current)})
+		}
+	}
+	return rooms
 }
 
 // most returns how many rows a table has at most with one of some first names.

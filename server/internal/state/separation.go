@@ -270,7 +270,7 @@ func (j *judgement) conflicts(kind string, sets []NamedSet, holders []holding) (
 	return found
 }
 
-// masks returns which of some members, of which there are at most 32, each role has: a bit for each.
+// masks returns which of some members each role has: a bit for each of them.
 func (j *judgement) masks(members []string) map[string]uint64 {
 	masks := map[string]uint64{}
 	for i, member := range members {

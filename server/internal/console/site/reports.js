@@ -19,7 +19,7 @@ const REPORTS = {
     },
     near: {
         title: "Who is near to a set", narrow: "Choose a user, a set, or a smaller number of roles.",
-        fields: [["User", "user", "users"], ["Set", "set", "staticSets"], ["Roles left, at most", "left", null, { type: "number", min: -32, max: 32 }]],
+        fields: [["User", "user", "users"], ["Set", "set", "staticSets"], ["Roles left, at most", "left", null, { type: "number" }]],
         about: "A line for each member of a separation of duty set that a user is authorized for, or that a session has: how many more would violate the set, and the role that gives the member. With 1 in the last field: who is one role away.",
         heads: ["Left", "Kind", "Set", "Cardinality", "Holder", "Name", "Members", "Member", "By"],
     },

@@ -60,7 +60,7 @@ export async function setPage([kind, text], { reading, anew }) {
         table("Members", ["Role", ""], roles.map((one) => [role(one), action(remove(one))])),
         maySome(`add${prefix}RoleMember`) ? form("Add a member", [field("Role", "role", { from: "roles", required: true })], "Add",
             (values) => command(`add${prefix}RoleMember`, { set: text, ...values }, anew)) : null,
-        may(`set${prefix}SetCardinality`) ? form("Change the cardinality", [field("Cardinality", "cardinality", { type: "number", min: 2, max: 32, value: cardinality, required: true })], "Change",
+        may(`set${prefix}SetCardinality`) ? form("Change the cardinality", [field("Cardinality", "cardinality", { type: "number", min: 2, value: cardinality, required: true })], "Change",
             (values) => command(`set${prefix}SetCardinality`, { set: text, cardinality: Number(values.cardinality) }, anew)) : null),
         mayAsk ? later(kind === "static" ? "Who is one role away" : "Who could violate it by activation", () => nearest(kind, found, hierarchy, reading)) : null,
     ];
