@@ -27,7 +27,7 @@ ROLES = ["r0", "r1"]
 
 
 def named(kind, letter, count):
-    """Rows of so many names."""
+    """The rows of `count` names of a kind."""
     return [(kind, f"{letter}{number}") for number in range(count)]
 
 
@@ -37,13 +37,13 @@ def each(function, key, values, **more):
 
 
 def crossed(count):
-    """So many pairs of names, and how many names are on each side."""
+    """`count` pairs of names, and how many names are on each side."""
     side = range(isqrt(count) + 1)
     return [(f"a{one}", f"b{two}") for one, two in islice(product(side, side), count)], len(side)
 
 
 def of_names(kind, number, there):
-    """What makes an office with so many of a kind of names, of which each office has some."""
+    """A function of a count: the rows of that many names of a kind, of which each office has `there`, and commands that add two more."""
     function = {"user": "addUser", "role": "addRole", "object": "addPermObj"}[kind]
     return lambda count: ({"name_row": named(number, "n", count - there)}, each(function, kind, ["one more", "too many"]))
 
@@ -83,7 +83,7 @@ def of_edges(count):
 
 
 def of_sets(kind, member, function):
-    """What makes an office with so many sets of a sort, each of the two roles."""
+    """A function of a count: the rows of that many sets of a sort, each with the two roles, and commands that add two more."""
 
     def made(count):
         names = [f"x{number}" for number in range(count)]
@@ -114,7 +114,7 @@ def of_activated(count):
     return {"name_row": roles, "pair_row": rows}, each("addActiveRole", "role", ROLES, user="ann", session="s")
 
 
-# For each kind of which an office has some: the rows with which it has so many, and commands that add one, and then another one.
+# For each kind a function of a count: the rows with which an office has that many, and commands that add two more.
 MADE = {
     "user": of_names("user", USER, 1),
     "role": of_names("role", ROLE, 2),

@@ -1,5 +1,6 @@
-// Package limits says how many of each kind an office may have. The file limits.csv repeats what limit_of of the proved program defines
-// (crates/rbac_sets/specs/Kind.antt), for all that stands beside that program. bin/limits writes the copies of it that others need.
+// Package limits says how many of each kind an office may have. The file limits.csv has the numbers that the proved program defines
+// (limit_of in crates/rbac_sets/specs/Kind.antt), for the server, the clients, the tools and the tests. bin/limits writes the copies that
+// can't read this file.
 package limits
 
 import (
